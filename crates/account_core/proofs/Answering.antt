@@ -25,10 +25,10 @@ module _ (opening : ℕ) (h : List EntryData) (sound : IsSoundPast opening h) wh
 pub reply_is_answer : (opening : ℕ) (until : Option ℕ) (h : List EntryData) → IsSoundPast opening h → AnswersFit opening until h
     → (asked : Asked) (call : CallFacts) → call ≡ known (call_of asked) h
     → (credit funds : ℕ) (last : Option ℕ) → credit ≡ available opening h → funds ≡ opening + credits h → last ≡ last_moment until h → inadmissible h asked ≡ None
-    → (told : Reply) → told ≡ reply_for credit funds last call asked → told ≡ answer opening until h asked
-reply_is_answer opening until h sound fitting asked call call_is credit funds last credit_is funds_are last_is is told told_is =
-    let C : ℕ → Type 0 = λ n. told ≡ reply_for n funds last call asked in
-    let F : ℕ → Type 0 = λ n. told ≡ reply_for (available opening h) n last call asked in
-    let L : Option ℕ → Type 0 = λ n. told ≡ reply_for (available opening h) (opening + credits h) n call asked in
-    let K : CallFacts → Type 0 = λ k. told ≡ reply_for (available opening h) (opening + credits h) (last_moment until h) k asked in
-    subst K call_is (subst L last_is (subst F funds_are (subst C credit_is told_is))) ∙ sym (answer_for opening until h sound fitting asked is)
+    → (response : Reply) → response ≡ reply_for credit funds last call asked → response ≡ answer opening until h asked
+reply_is_answer opening until h sound fitting asked call call_is credit funds last credit_is funds_are last_is is response response_is =
+    let C : ℕ → Type 0 = λ n. response ≡ reply_for n funds last call asked in
+    let F : ℕ → Type 0 = λ n. response ≡ reply_for (available opening h) n last call asked in
+    let L : Option ℕ → Type 0 = λ n. response ≡ reply_for (available opening h) (opening + credits h) n call asked in
+    let K : CallFacts → Type 0 = λ k. response ≡ reply_for (available opening h) (opening + credits h) (last_moment until h) k asked in
+    subst K call_is (subst L last_is (subst F funds_are (subst C credit_is response_is))) ∙ sym (answer_for opening until h sound fitting asked is)

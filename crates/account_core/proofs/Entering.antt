@@ -13,7 +13,7 @@ use Rattle.account_core.specs.Available.{available, credited, credits, taken_by_
 use Rattle.account_core.specs.CallStates.{Renews, call_state_of}
 use Rattle.account_core.specs.Events.{EntryData, asked_of, entry_data}
 use Rattle.account_core.specs.Expiry.{last_moment_after}
-use Rattle.account_core.specs.Kept.{TellsEach, known_of}
+use Rattle.account_core.specs.Kept.{KnowsEach, known_of}
 use Rattle.account_core.specs.Known.{EntryDeed, Ends, CallFacts, Rests, deed_of, is_open, known, known_after, known_asked, paid_of}
 use Rattle.account_core.specs.Ledger.{Ledger, answer_of, event_by, refusal_of}
 use Rattle.account_core.specs.Places.{needed, needed_by, or_else, over_limit, owed, owed_to, refusal, refusal_for}
@@ -60,10 +60,10 @@ admitted limit h asked is =
     (admissible, within_if limit (length h + owed h + needed h asked) within)
 
 -- what a teller refuses, by what is known of the call, its ledger does
-pub refusal_told : (ledger : Ledger) (teller : Teller) → IsTellerOf ledger teller → (asked : Asked) (call : CallFacts) → call ≡ known_asked asked (reverse ledger.history)
+pub refusal_response : (ledger : Ledger) (teller : Teller) → IsTellerOf ledger teller → (asked : Asked) (call : CallFacts) → call ≡ known_asked asked (reverse ledger.history)
     → refusal_for teller.limit teller.entries teller.owed call asked ≡ refusal_of ledger asked
 unfolding refusal
-refusal_told ledger teller is asked call call_is =
+refusal_response ledger teller is asked call call_is =
     rw (is.limit_is, is.counted, is.owed_are, ← length-reverse ledger.history) (refused_asked (reverse ledger.history) ledger.limit (length (reverse ledger.history)) (owed (reverse ledger.history)) asked call call_is)
 
 -- ---- an account has no gate
@@ -142,7 +142,7 @@ owed_after opening until h event answered =
 -- ---- the states
 
 tells_by : (here : Bool) (old new : CallStates) (h : List EntryData) (event : EntryData) (state : CallState) (call : ℕ) → (its_call event == call) ≡ here
-    → Renews old new (its_call event) state → TellsEach old h → known_of state ≡ known_after (known (its_call event) h) (its_deed event)
+    → Renews old new (its_call event) state → KnowsEach old h → known_of state ≡ known_after (known (its_call event) h) (its_deed event)
     → known_of (call_state_of new call) ≡ known call (event ∷ h)
 tells_by true old new h event state call is renews tells known_is =
     let P : ℕ → Type 0 = λ c. known_of state ≡ known c (event ∷ h) in
@@ -154,8 +154,8 @@ tells_by false old new h event state call is renews tells known_is =
 
 -- the states after that of an entry's call is renewed
 pub tells_renewed : (old new : CallStates) (h : List EntryData) (event : EntryData) (state : CallState)
-    → Renews old new (its_call event) state → TellsEach old h → known_of state ≡ known_after (known (its_call event) h) (its_deed event)
-    → TellsEach new (event ∷ h)
+    → Renews old new (its_call event) state → KnowsEach old h → known_of state ≡ known_after (known (its_call event) h) (its_deed event)
+    → KnowsEach new (event ∷ h)
 tells_renewed old new h event state renews tells known_is call = tells_by _ old new h event state call refl renews tells known_is
 
 rests_by : (here : Bool) (h : List EntryData) (event : EntryData) (call : ℕ) → (its_call event == call) ≡ here → its_deed event ≡ Rests → known call (event ∷ h) ≡ known call h
@@ -164,22 +164,22 @@ rests_by true h event call is rests =
     subst P (eqb-true (its_call event) call is) (known_here h event ∙ ap (known_after (known (its_call event) h)) rests)
 rests_by false h event call is rests = known_apart h event call is
 
-pub tells_resting : (m : CallStates) (h : List EntryData) (event : EntryData) → its_deed event ≡ Rests → TellsEach m h → TellsEach m (event ∷ h)
+pub tells_resting : (m : CallStates) (h : List EntryData) (event : EntryData) → its_deed event ≡ Rests → KnowsEach m h → KnowsEach m (event ∷ h)
 tells_resting m h event rests tells call = tells call ∙ sym (rests_by _ h event call refl rests)
 
 -- ---- the whole
 
 -- an operation of a call credits nothing, and leaves the last moment
 pub of_call : (call : ℕ) (asked : Asked) → IsOfCall call asked
-    → (call_of asked ≡ call) × (((told : Reply) → credited asked told ≡ 0) × ((last : Option ℕ) (told : Reply) → last_moment_after last asked told ≡ last))
+    → (call_of asked ≡ call) × (((response : Reply) → credited asked response ≡ 0) × ((last : Option ℕ) (response : Reply) → last_moment_after last asked response ≡ last))
 of_call call (Credits amount moment) is = absurd is
-of_call call (Reserves other plan wanted least at) is = (is, (λ told. refl, λ last told. refl))
-of_call call (Settles other number info) is = (is, (λ told. refl, λ last told. refl))
-of_call call (Returns other) is = (is, (λ told. refl, λ last told. refl))
+of_call call (Reserves other plan wanted least at) is = (is, (λ response. refl, λ last response. refl))
+of_call call (Settles other number info) is = (is, (λ response. refl, λ last response. refl))
+of_call call (Returns other) is = (is, (λ response. refl, λ last response. refl))
 
 -- what a teller keeps of the longer history, by what it kept
 pub record IsEntered (h : List EntryData) (event : EntryData) (old new : Teller) : Type 0 where
-  pub tells : TellsEach new.tally.calls (event ∷ h)
+  pub tells : KnowsEach new.tally.calls (event ∷ h)
   pub funds_are : new.tally.funds ≡ old.tally.funds + credited event.asked event.reply
   pub credit_is : new.tally.available ≡ shown_by event.reply
   pub last_is : new.tally.last_moment ≡ last_moment_after old.tally.last_moment event.asked event.reply
@@ -191,9 +191,9 @@ pub past_entered : (history : List EntryData) (event : EntryData) → reverse (h
 past_entered history event = reverse-append history (event ∷ [])
 
 -- an admitted operation with its answer is an entry of the history
-pub answered_by : (ledger : Ledger) (asked : Asked) (told : Reply) (seat : ℕ) → refusal_of ledger asked ≡ None → told ≡ answer_of ledger asked
-    → IsAnswered ledger.opening ledger.until (reverse ledger.history) (event_by seat asked told)
-answered_by ledger asked told seat allowed is = record { admissible = (admitted ledger.limit (reverse ledger.history) asked allowed).0; answered = is }
+pub answered_by : (ledger : Ledger) (asked : Asked) (response : Reply) (seat : ℕ) → refusal_of ledger asked ≡ None → response ≡ answer_of ledger asked
+    → IsAnswered ledger.opening ledger.until (reverse ledger.history) (event_by seat asked response)
+answered_by ledger asked response seat allowed is = record { admissible = (admitted ledger.limit (reverse ledger.history) asked allowed).0; answered = is }
 
 -- the places of the entry and of all that is owed after it are those that were owed and needed
 pub places_after : (ledger : Ledger) (event : EntryData) → IsAnswered ledger.opening ledger.until (reverse ledger.history) event
@@ -238,11 +238,11 @@ teller_entered ledger old new entry is more =
 
 -- ---- a Credit
 
-pub credit_rests : (asked : Asked) (told : Reply) → IsCredit asked → deed_of asked told ≡ Rests
-credit_rests (Credits amount moment) told is = refl
-credit_rests (Reserves call plan wanted least at) told is = absurd is
-credit_rests (Settles call number info) told is = absurd is
-credit_rests (Returns call) told is = absurd is
+pub credit_rests : (asked : Asked) (response : Reply) → IsCredit asked → deed_of asked response ≡ Rests
+credit_rests (Credits amount moment) response is = refl
+credit_rests (Reserves call plan wanted least at) response is = absurd is
+credit_rests (Settles call number info) response is = absurd is
+credit_rests (Returns call) response is = absurd is
 
 pub credit_needs : (h : List EntryData) (asked : Asked) → IsCredit asked → needed h asked ≡ 1
 credit_needs h (Credits amount moment) is = refl
@@ -255,7 +255,7 @@ owed_resting h event rests =
     let same : owed_to (known_after (known (its_call event) h) (its_deed event)) ≡ owed_to (known (its_call event) h) = ap (λ d. owed_to (known_after (known (its_call event) h) d)) rests in
     omega (arith, owed_moves h event, same)
 
-pub credit_entered : (h : List EntryData) (event : EntryData) (old : Teller) → IsCredit event.asked → TellsEach old.tally.calls h → old.owed ≡ owed h
+pub credit_entered : (h : List EntryData) (event : EntryData) (old : Teller) → IsCredit event.asked → KnowsEach old.tally.calls h → old.owed ≡ owed h
     → IsEntered h event old (record old {
       tally = tally_of old.tally.calls (old.tally.funds + credited event.asked event.reply) (shown_by event.reply) (last_moment_after old.tally.last_moment event.asked event.reply);
       entries = old.entries + 1;
@@ -305,7 +305,7 @@ module _ (opening : ℕ) (until : Option ℕ) (limit : ℕ) (h : List EntryData)
   owed_enough places places_are = omega (arith, places_are, ap owed_to before_its, owed_at_most h (its_call event))
 
   pub call_entered : (old new : Teller) (state : CallState) (owed_before owed_now : ℕ)
-      → TellsEach old.tally.calls h → Renews old.tally.calls new.tally.calls call state → known_of state ≡ known_after before (its_deed event) → old.owed ≡ owed h
+      → KnowsEach old.tally.calls h → Renews old.tally.calls new.tally.calls call state → known_of state ≡ known_after before (its_deed event) → old.owed ≡ owed h
       → owed_before ≡ owed_to before → owed_now ≡ owed_to (known_of state) → new.owed ≡ old.owed + owed_now - owed_before
       → new.tally.funds ≡ old.tally.funds → new.tally.available ≡ shown_by event.reply → new.tally.last_moment ≡ old.tally.last_moment
       → new.limit ≡ old.limit → new.entries ≡ old.entries + 1 → IsEntered h event old new

@@ -51,9 +51,9 @@ entry_grants opening until h last event answered is =
     subst P (sym answered.answered) (answer_grants opening until h last event.asked is)
 
 -- an entry that leaves the last moment
-moment_left : (before : Option ℕ) (asked : Asked) (told : Reply) → LeavesLastMoment asked told → last_moment_after before asked told ≡ before
+moment_left : (before : Option ℕ) (asked : Asked) (response : Reply) → LeavesLastMoment asked response → last_moment_after before asked response ≡ before
 moment_left before (Credits amount (Some moment)) (reply.Credited available) leaves = absurd leaves
-moment_left before asked told leaves = refl
+moment_left before asked response leaves = refl
 
 -- ---- the entries of a history, from one place on
 

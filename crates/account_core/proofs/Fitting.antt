@@ -70,7 +70,7 @@ money_within opening h c sound =
 -- ---- the answers in closed form
 
 an_entry : Asked → Reply → EntryData
-an_entry asked told = record { seat = 0; asked = asked; reply = told }
+an_entry asked response = record { seat = 0; asked = asked; reply = response }
 
 module _ (opening : ℕ) (until : Option ℕ) (h : List EntryData) (sound : IsSoundPast opening h) where
   credit_by : (fits : Bool) (amount : ℕ) (moment : Option ℕ)
@@ -158,7 +158,7 @@ module _ (opening : ℕ) (until : Option ℕ) (h : List EntryData) (sound : IsSo
 
 -- ---- what an answer shows
 
-pub shown_by_showing : (told : Reply) (credit : ℕ) → shown_by (showing credit told) ≡ credit
+pub shown_by_showing : (response : Reply) (credit : ℕ) → shown_by (showing credit response) ≡ credit
 shown_by_showing (reply.Credited available) credit = refl
 shown_by_showing (reply.CreditOver available) credit = refl
 shown_by_showing (reply.Granted units last available) credit = refl
@@ -168,21 +168,21 @@ shown_by_showing (reply.Forfeit paid available) credit = refl
 shown_by_showing (reply.Returned paid available) credit = refl
 
 -- neither the seat nor what a reply shows is read
-available_showing : (opening : ℕ) (h : List EntryData) (seat credit : ℕ) (asked : Asked) (told : Reply)
-    → available opening (record { seat = seat; asked = asked; reply = showing credit told } ∷ h) ≡ available opening (record { seat = 0; asked = asked; reply = told } ∷ h)
+available_showing : (opening : ℕ) (h : List EntryData) (seat credit : ℕ) (asked : Asked) (response : Reply)
+    → available opening (record { seat = seat; asked = asked; reply = showing credit response } ∷ h) ≡ available opening (record { seat = 0; asked = asked; reply = response } ∷ h)
 unfolding available taken_by_all deed
 available_showing opening h seat credit (Credits amount moment) (reply.Credited available) = refl
 available_showing opening h seat credit (Reserves call plan wanted least at) (reply.Granted units last available) = refl
 available_showing opening h seat credit (Settles call number info) (reply.Settled paid available) = refl
 available_showing opening h seat credit (Settles call number info) (reply.Forfeit paid available) = refl
 available_showing opening h seat credit (Returns call) (reply.Returned paid available) = refl
-available_showing opening h seat credit asked told = refl
+available_showing opening h seat credit asked response = refl
 
 -- an answer shows what is available after it
 pub answer_shows : (opening : ℕ) (until : Option ℕ) (h : List EntryData) (event : EntryData) → event.reply ≡ answer opening until h event.asked → shown_by event.reply ≡ available opening (event ∷ h)
 unfolding answer
 answer_shows opening until h event is =
-    let told : Reply = bare_reply opening until h event.asked in
-    let credit : ℕ = available opening (record { seat = 0; asked = event.asked; reply = told } ∷ h) in
+    let response : Reply = bare_reply opening until h event.asked in
+    let credit : ℕ = available opening (record { seat = 0; asked = event.asked; reply = response } ∷ h) in
     let P : Reply → Type 0 = λ r. shown_by r ≡ available opening (record { seat = event.seat; asked = event.asked; reply = r } ∷ h) in
-    subst P (sym is) (shown_by_showing told credit ∙ sym (available_showing opening h event.seat credit event.asked told))
+    subst P (sym is) (shown_by_showing response credit ∙ sym (available_showing opening h event.seat credit event.asked response))

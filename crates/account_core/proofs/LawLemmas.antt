@@ -34,23 +34,23 @@ no_negative laws opening until history later small legal =
 
 -- ---- closed calls
 
-told_here : (h : List EntryData) (event : EntryData) → paid_at_return (its_call event) (event ∷ h) ≡ paid_after (paid_at_return (its_call event) h) (its_deed event)
-told_here h event = ap (paid_after (paid_at_return (its_call event) h)) (deed_here event)
+response_here : (h : List EntryData) (event : EntryData) → paid_at_return (its_call event) (event ∷ h) ≡ paid_after (paid_at_return (its_call event) h) (its_deed event)
+response_here h event = ap (paid_after (paid_at_return (its_call event) h)) (deed_here event)
 
-told_apart : (h : List EntryData) (event : EntryData) (call : ℕ) → (its_call event == call) ≡ false → paid_at_return call (event ∷ h) ≡ paid_at_return call h
-told_apart h event call apart = ap (paid_after (paid_at_return call h)) (deed_apart call event apart)
+response_apart : (h : List EntryData) (event : EntryData) (call : ℕ) → (its_call event == call) ≡ false → paid_at_return call (event ∷ h) ≡ paid_at_return call h
+response_apart h event call apart = ap (paid_after (paid_at_return call h)) (deed_apart call event apart)
 
 ended_yet : (call : CallFacts) → is_open call ≡ true → call.returned ≡ true → ⊥
 ended_yet call is ended = let yet = (open_parts call.plan call.returned is).1 in cc
 
 -- a call that is returned told what it has paid
-told_by : (credit : ℕ) (call : CallFacts) (before : Option ℕ) (deed : EntryDeed) → IsAllowed credit call deed → (call.returned ≡ true → before ≡ Some (paid_of call))
+response_by : (credit : ℕ) (call : CallFacts) (before : Option ℕ) (deed : EntryDeed) → IsAllowed credit call deed → (call.returned ≡ true → before ≡ Some (paid_of call))
     → (known_after call deed).returned ≡ true → paid_after before deed ≡ Some (paid_of (known_after call deed))
-told_by credit call before (Grants plan units) grant known_told ended = let yet = grant.unreturned in cc
-told_by credit call before (Reports info) report known_told ended = absurd (ended_yet call report.open_yet ended)
-told_by credit call before Forfeits is known_told ended = absurd (ended_yet call is ended)
-told_by credit call before (Ends paid) end known_told ended = ap Some end.paid_is
-told_by credit call before Rests rests known_told ended = known_told ended
+response_by credit call before (Grants plan units) grant known_each ended = let yet = grant.unreturned in cc
+response_by credit call before (Reports info) report known_each ended = absurd (ended_yet call report.open_yet ended)
+response_by credit call before Forfeits is known_each ended = absurd (ended_yet call is ended)
+response_by credit call before (Ends paid) end known_each ended = ap Some end.paid_is
+response_by credit call before Rests rests known_each ended = known_each ended
 
 module _ (laws : TariffLaws) where
   allowed_at : (opening : ℕ) (until : Option ℕ) (h : List EntryData) (event : EntryData) → opening ≤ 1000000000000000 → IsLegalPast opening until (event ∷ h)
@@ -58,25 +58,25 @@ module _ (laws : TariffLaws) where
   allowed_at opening until h event small legal =
       entry_allowed laws opening until h event ((legal_is_sound laws opening until h small legal.0).each (its_call event)) legal.1
 
-  told_more : (here : Bool) (opening : ℕ) (until : Option ℕ) (h : List EntryData) (event : EntryData) (call : ℕ) → (its_call event == call) ≡ here → opening ≤ 1000000000000000
+  said_more : (here : Bool) (opening : ℕ) (until : Option ℕ) (h : List EntryData) (event : EntryData) (call : ℕ) → (its_call event == call) ≡ here → opening ≤ 1000000000000000
       → IsLegalPast opening until (event ∷ h) → ((c : ℕ) → (known c h).returned ≡ true → paid_at_return c h ≡ Some (paid_of (known c h)))
       → (known call (event ∷ h)).returned ≡ true → paid_at_return call (event ∷ h) ≡ Some (paid_of (known call (event ∷ h)))
-  told_more true opening until h event call is small legal before =
+  said_more true opening until h event call is small legal before =
       let P : ℕ → Type 0 = λ c. (known c (event ∷ h)).returned ≡ true → paid_at_return c (event ∷ h) ≡ Some (paid_of (known c (event ∷ h))) in
       subst P (eqb-true (its_call event) call is)
-      (rw (known_here h event, told_here h event)
-      (told_by (available opening h) (known (its_call event) h) (paid_at_return (its_call event) h) (its_deed event) (allowed_at opening until h event small legal) (before (its_call event))))
-  told_more false opening until h event call is small legal before = rw (known_apart h event call is, told_apart h event call is) (before call)
+      (rw (known_here h event, response_here h event)
+      (response_by (available opening h) (known (its_call event) h) (paid_at_return (its_call event) h) (its_deed event) (allowed_at opening until h event small legal) (before (its_call event))))
+  said_more false opening until h event call is small legal before = rw (known_apart h event call is, response_apart h event call is) (before call)
 
-  told_paid : (opening : ℕ) (until : Option ℕ) (h : List EntryData) → opening ≤ 1000000000000000 → IsLegalPast opening until h
+  response_paid : (opening : ℕ) (until : Option ℕ) (h : List EntryData) → opening ≤ 1000000000000000 → IsLegalPast opening until h
       → (call : ℕ) → (known call h).returned ≡ true → paid_at_return call h ≡ Some (paid_of (known call h))
-  told_paid opening until [] small legal call ended = cc
-  told_paid opening until (event ∷ h) small legal call ended =
-      told_more (its_call event == call) opening until h event call refl small legal (told_paid opening until h small legal.0) ended
+  response_paid opening until [] small legal call ended = cc
+  response_paid opening until (event ∷ h) small legal call ended =
+      said_more (its_call event == call) opening until h event call refl small legal (response_paid opening until h small legal.0) ended
 
   pub closed_pay : ClosedCallsPayTheTariff
   closed_pay opening until history call plan small legal closed =
-      told_paid opening until (reverse history) small legal call closed.returned
+      response_paid opening until (reverse history) small legal call closed.returned
       ∙ ap Some (rw (closed.lawful, closed.granted) refl)
 
 -- ---- the last report
@@ -101,13 +101,13 @@ reported_by : (opening : ℕ) (until : Option ℕ) (h : List EntryData) (asked :
     → ((known (call_of asked) h).forfeited ≡ false → AreReported before (known (call_of asked) h).times)
     → (known_after (known (call_of asked) h) (deed_of asked (bare_reply opening until h asked))).forfeited ≡ false
     → AreReported (report_after before (known (call_of asked) h).times asked) (known_after (known (call_of asked) h) (deed_of asked (bare_reply opening until h asked))).times
-reported_by opening until h (Credits amount moment) before known_told lawful = known_told lawful
-reported_by opening until h (Reserves c plan wanted least at) before known_told lawful =
+reported_by opening until h (Credits amount moment) before known_each lawful = known_each lawful
+reported_by opening until h (Reserves c plan wanted least at) before known_each lawful =
     let (times, forfeited) = reserve_times (known c h) c plan wanted least at (bare_reply opening until h (Reserves c plan wanted least at)) in
-    rw times (known_told (sym forfeited ∙ lawful))
-reported_by opening until h (Settles c number info) before known_told lawful =
+    rw times (known_each (sym forfeited ∙ lawful))
+reported_by opening until h (Settles c number info) before known_each lawful =
     settle_reported (known c h) c number info (accepted_times (known c h) info) refl lawful
-reported_by opening until h (Returns c) before known_told lawful = known_told lawful
+reported_by opening until h (Returns c) before known_each lawful = known_each lawful
 
 report_here : (h : List EntryData) (event : EntryData) → last_report (its_call event) (event ∷ h) ≡ report_after (last_report (its_call event) h) (known (its_call event) h).times event.asked
 report_here h event = rw (eq-eqb (its_call event) (its_call event) refl) refl

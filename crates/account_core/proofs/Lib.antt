@@ -4,7 +4,7 @@ pub mod Entering
 pub mod Expiring
 pub mod Fitting
 pub mod Keeping
-pub mod Kindly
+pub mod FittingAnswers
 pub mod LawLemmas
 pub mod Moves
 pub mod Owing

@@ -25,7 +25,7 @@ use Rattle.account_core.proofs.Verdicts.{in_place, none_else}
 
 -- ---- the credit that a reply shows
 
-showing_in_range : (told : Reply) (credit : ℕ) → credit ≤ 1000000000000000 → IsReplyInRange told → IsReplyInRange (showing credit told)
+showing_in_range : (response : Reply) (credit : ℕ) → credit ≤ 1000000000000000 → IsReplyInRange response → IsReplyInRange (showing credit response)
 showing_in_range (reply.Credited available) credit within range = within
 showing_in_range (reply.CreditOver available) credit within range = within
 showing_in_range (reply.Granted units last available) credit within range = (range.0, within)
@@ -96,15 +96,15 @@ module _ (laws : TariffLaws) where
       → EntryIsInRange event
   unfolding answer
   entry_in_range opening until h event small legal =
-      let told : Reply = bare_reply opening until h event.asked in
-      let credit : ℕ = available opening (record { seat = 0; asked = event.asked; reply = told } ∷ h) in
+      let response : Reply = bare_reply opening until h event.asked in
+      let credit : ℕ = available opening (record { seat = 0; asked = event.asked; reply = response } ∷ h) in
       let shown : shown_by event.reply ≡ available opening (event ∷ h) = answer_shows opening until h event legal.1.answered in
       let capped = available_capped opening (event ∷ h) (legal_is_sound laws opening until (event ∷ h) small legal).capped in
       let P : Reply → Type 0 = λ r. shown_by r ≤ 1000000000000000 → IsReplyInRange r in
       record {
         asked = (in_place h event.asked legal.1.admissible).0;
         reply = subst P (sym legal.1.answered)
-            (λ within. showing_in_range told credit (omega (arith, within, shown_by_showing told credit)) (verdict_in_range opening until h event.asked (legal_is_sound laws opening until h small legal.0) legal.1.admissible))
+            (λ within. showing_in_range response credit (omega (arith, within, shown_by_showing response credit)) (verdict_in_range opening until h event.asked (legal_is_sound laws opening until h small legal.0) legal.1.admissible))
             (omega (arith, shown, capped));
       }
 

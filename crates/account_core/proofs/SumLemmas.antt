@@ -10,9 +10,9 @@ use Rattle.std.specs.declared.cmp.Ordering.TheVariants.{Less}
 use Rattle.std.proofs.lemmas.Bool.Decides.{nat_tests}
 use Rattle.tariff_core.specs.Rates.{Rates}
 use Rattle.account_core.specs.Events.{EntryData}
-use Rattle.account_core.specs.Kept.{TellsEach, known_of}
+use Rattle.account_core.specs.Kept.{KnowsEach, known_of}
 use Rattle.account_core.specs.Known.{CallFacts, known}
-use Rattle.account_core.specs.Sums.{AreSums, sum_in, sum_of, sum_under, sums_told}
+use Rattle.account_core.specs.Sums.{AreSums, sum_in, sum_of, sum_under, sums_known}
 use Rattle.account_core.specs.declared.call_state.CallState.{CallState}
 use Rattle.account_core.specs.declared.call_states.CallStates.{CallStates}
 use Rattle.account_core.specs.declared.call_state.CallState.TheVariants.{Fresh}
@@ -59,22 +59,22 @@ at_false q call is = grind (arith, nat_tests)
 same_true : (q : ℕ) → (q == q) ≡ true
 same_true q = grind (arith, nat_tests)
 
-below_all : (least : ℕ) (entries : List (ℕ × CallState)) → IsBelow least (map (λ e. e.0) entries) → IsBelow least (map (λ sum. sum.call) (sums_told entries))
+below_all : (least : ℕ) (entries : List (ℕ × CallState)) → IsBelow least (map (λ e. e.0) entries) → IsBelow least (map (λ sum. sum.call) (sums_known entries))
 below_all least [] below = tt
 below_all least ((call, state) ∷ entries) below =
-    below_by (known_of state).plan (known_of state) least call (sums_told entries) below.0 (below_all least entries below.1)
+    below_by (known_of state).plan (known_of state) least call (sums_known entries) below.0 (below_all least entries below.1)
 
 rising_all : (entries : List (ℕ × CallState)) → IsStrictlySortedBy nat_cmp (map (λ e. e.0) entries)
-    → IsStrictlySortedBy nat_cmp (map (λ sum. sum.call) (sums_told entries))
+    → IsStrictlySortedBy nat_cmp (map (λ sum. sum.call) (sums_known entries))
 unfolding IsStrictlySortedBy
 rising_all [] rising = tt
 rising_all ((call, state) ∷ entries) rising =
-    rising_by (known_of state).plan (known_of state) call (sums_told entries) (below_all call entries rising.0) (rising_all entries rising.1)
+    rising_by (known_of state).plan (known_of state) call (sums_known entries) (below_all call entries rising.0) (rising_all entries rising.1)
 
-absent_all : (q : ℕ) (entries : List (ℕ × CallState)) → IsBelow q (map (λ e. e.0) entries) → sum_in q (sums_told entries) ≡ None
+absent_all : (q : ℕ) (entries : List (ℕ × CallState)) → IsBelow q (map (λ e. e.0) entries) → sum_in q (sums_known entries) ≡ None
 absent_all q [] below = refl
 absent_all q ((call, state) ∷ entries) below =
-    apart_by (known_of state).plan (known_of state) q call (sums_told entries) (less_apart q call below.0) ∙ absent_all q entries below.1
+    apart_by (known_of state).plan (known_of state) q call (sums_known entries) (less_apart q call below.0) ∙ absent_all q entries below.1
 
 -- the sum of the state that a search finds
 abbrev sum_found : ℕ → Option CallState → Option CallSum
@@ -82,36 +82,36 @@ sum_found q None = None
 sum_found q (Some state) = sum_of q (known_of state)
 
 found_by : (here : Bool) (q call : ℕ) (state : CallState) (entries : List (ℕ × CallState)) → is_at (nat_cmp q) call ≡ here
-    → IsBelow call (map (λ e. e.0) entries) → sum_in q (sums_told entries) ≡ sum_found q (lookup (is_at (nat_cmp q)) entries)
-    → sum_in q (option_to_list (sum_of call (known_of state)) ++ sums_told entries) ≡ sum_found q (if here then Some state else lookup (is_at (nat_cmp q)) entries)
+    → IsBelow call (map (λ e. e.0) entries) → sum_in q (sums_known entries) ≡ sum_found q (lookup (is_at (nat_cmp q)) entries)
+    → sum_in q (option_to_list (sum_of call (known_of state)) ++ sums_known entries) ≡ sum_found q (if here then Some state else lookup (is_at (nat_cmp q)) entries)
 found_by true q call state entries is below rest =
     let P : ℕ → Type 0 = λ n. IsBelow n (map (λ e. e.0) entries)
-    → sum_in q (option_to_list (sum_of n (known_of state)) ++ sums_told entries) ≡ sum_of q (known_of state) in
-    subst P (at_true q call is) (λ b. here_by (known_of state).plan (known_of state) q (sums_told entries) (same_true q) (absent_all q entries b)) below
+    → sum_in q (option_to_list (sum_of n (known_of state)) ++ sums_known entries) ≡ sum_of q (known_of state) in
+    subst P (at_true q call is) (λ b. here_by (known_of state).plan (known_of state) q (sums_known entries) (same_true q) (absent_all q entries b)) below
 found_by false q call state entries is below rest =
-    apart_by (known_of state).plan (known_of state) q call (sums_told entries) (at_false q call is) ∙ rest
+    apart_by (known_of state).plan (known_of state) q call (sums_known entries) (at_false q call is) ∙ rest
 
 found_all : (q : ℕ) (entries : List (ℕ × CallState)) → IsStrictlySortedBy nat_cmp (map (λ e. e.0) entries)
-    → sum_in q (sums_told entries) ≡ sum_found q (lookup (is_at (nat_cmp q)) entries)
+    → sum_in q (sums_known entries) ≡ sum_found q (lookup (is_at (nat_cmp q)) entries)
 unfolding IsStrictlySortedBy
 found_all q [] rising = refl
 found_all q ((call, state) ∷ entries) rising =
     found_by (is_at (nat_cmp q) call) q call state entries refl rising.0 (found_all q entries rising.1)
 
-found_told : (q : ℕ) (found : Option CallState) (call : CallFacts) → known_of (unwrap_or found Fresh) ≡ call → sum_found q found ≡ sum_of q call
-found_told q None call is = ap (sum_of q) is
-found_told q (Some state) call is = ap (sum_of q) is
+found_response : (q : ℕ) (found : Option CallState) (call : CallFacts) → known_of (unwrap_or found Fresh) ≡ call → sum_found q found ≡ sum_of q call
+found_response q None call is = ap (sum_of q) is
+found_response q (Some state) call is = ap (sum_of q) is
 
 -- ---- an account's
 
-pub listed_sums : (h : List EntryData) (calls : CallStates) → TellsEach calls h
-    → (entries : List (ℕ × CallState)) → calls.calls ≡ entries → IsStrictlySortedBy nat_cmp (map (λ e. e.0) entries) → (sums : List CallSum) → sums ≡ sums_told entries
+pub listed_sums : (h : List EntryData) (calls : CallStates) → KnowsEach calls h
+    → (entries : List (ℕ × CallState)) → calls.calls ≡ entries → IsStrictlySortedBy nat_cmp (map (λ e. e.0) entries) → (sums : List CallSum) → sums ≡ sums_known entries
     → AreSums h sums
 listed_sums h calls tells entries are ordered sums is =
     let P : List CallSum → Type 0 = AreSums h in
     subst P (sym is) (record {
       rising = rising_all entries ordered;
-      each = λ q. found_all q entries ordered ∙ found_told q (lookup (is_at (nat_cmp q)) entries) (known q h)
+      each = λ q. found_all q entries ordered ∙ found_response q (lookup (is_at (nat_cmp q)) entries) (known q h)
           (ap (λ es. known_of (unwrap_or (lookup (is_at (nat_cmp q)) es) Fresh)) (sym are) ∙ tells q);
     })
 

@@ -6,12 +6,12 @@ use Rattle.account_core.specs.Available.{credited}
 use Rattle.account_core.specs.Events.{EntryData}
 use Rattle.account_core.specs.CallStates.{Renews, call_state_of}
 use Rattle.account_core.specs.Expiry.{last_moment_after}
-use Rattle.account_core.specs.Kept.{TellsEach, known_of}
+use Rattle.account_core.specs.Kept.{KnowsEach, known_of}
 use Rattle.account_core.specs.Known.{CallFacts, known, known_after, taken_of}
 use Rattle.account_core.specs.Replies.{reply_for}
 use Rattle.account_core.specs.Sound.{GrantsWithinDay, LegalPastsAreSound, SoundPastsAnswer}
-use Rattle.account_core.specs.Tallied.{IsTallied, IsToldOf, tally_of}
-use Rattle.account_core.specs.Wrong.{IsWrong, reply_or_fault as told_of}
+use Rattle.account_core.specs.Tallied.{IsTallied, IsKnownOf, tally_of}
+use Rattle.account_core.specs.Wrong.{IsWrong, reply_or_fault as response_of}
 use Rattle.account_core.specs.declared.entry.Reply.{Reply}
 use Rattle.account_core.specs.declared.fault.AccountFault.{AccountFault}
 use Rattle.account_core.specs.declared.call_states.CallStates.{CallStates}
@@ -42,52 +42,52 @@ reply_in other (Ok reply) = reply
 reply_in other (Err why) = other
 
 module _ (opening : ℕ) (until : Option ℕ) (h : List EntryData) (event : EntryData) (call : CallFacts) (funds credit : ℕ) (last : Option ℕ)
-    (told : IsToldOf opening until h event call funds credit last) where
-  pub told_money : LegalPastsAreSound → credit + taken_of call ≤ 1000000000000000
-  told_money sounds = money_kept opening h (sounds opening until h told.small told.legal) event.asked call told.call_is credit told.credit_is
+    (response : IsKnownOf opening until h event call funds credit last) where
+  pub response_money : LegalPastsAreSound → credit + taken_of call ≤ 1000000000000000
+  response_money sounds = money_kept opening h (sounds opening until h response.small response.legal) event.asked call response.call_is credit response.credit_is
 
   admissible_is : inadmissible_for call event.asked ≡ inadmissible h event.asked
-  admissible_is = ap (λ k. inadmissible_for k event.asked) told.call_is
+  admissible_is = ap (λ k. inadmissible_for k event.asked) response.call_is
 
   -- of an admissible entry, the reply by what is kept is the answer
-  told_answer : LegalPastsAreSound → SoundPastsAnswer → inadmissible h event.asked ≡ None
+  response_answer : LegalPastsAreSound → SoundPastsAnswer → inadmissible h event.asked ≡ None
       → (reply : Reply) → reply ≡ reply_for credit funds last call event.asked → reply ≡ answer opening until h event.asked
-  told_answer sounds fits admissible reply reply_is =
-      let sound = sounds opening until h told.small told.legal in
-      reply_is_answer opening until h sound (fits opening until h sound) event.asked call told.call_is credit funds last told.credit_is told.funds_are told.last_is admissible reply reply_is
+  response_answer sounds fits admissible reply reply_is =
+      let sound = sounds opening until h response.small response.legal in
+      reply_is_answer opening until h sound (fits opening until h sound) event.asked call response.call_is credit funds last response.credit_is response.funds_are response.last_is admissible reply reply_is
 
-  pub told_legal : LegalPastsAreSound → SoundPastsAnswer → inadmissible_for call event.asked ≡ None
+  pub response_legal : LegalPastsAreSound → SoundPastsAnswer → inadmissible_for call event.asked ≡ None
       → (reply : Reply) → reply ≡ reply_for credit funds last call event.asked → reply ≡ event.reply → IsAnswered opening until h event
-  told_legal sounds fits none reply reply_is same =
+  response_legal sounds fits none reply reply_is same =
       let admissible : inadmissible h event.asked ≡ None = sym admissible_is ∙ none in
-      record { admissible = admissible; answered = sym same ∙ told_answer sounds fits admissible reply reply_is }
+      record { admissible = admissible; answered = sym same ∙ response_answer sounds fits admissible reply reply_is }
 
   -- the fault by what is kept is what the account tells, and so is a reply by it that isn't the entry's
-  pub refused_told : (why : AccountFault) → Some why ≡ inadmissible_for call event.asked → IsWrong opening until h event (Err why)
-  refused_told why why_is =
-      record { is_told = sym (ap (λ found. told_of found (answer opening until h event.asked)) (sym admissible_is ∙ sym why_is)); differs = λ same. cc }
+  pub refused_response : (why : AccountFault) → Some why ≡ inadmissible_for call event.asked → IsWrong opening until h event (Err why)
+  refused_response why why_is =
+      record { is_response = sym (ap (λ found. response_of found (answer opening until h event.asked)) (sym admissible_is ∙ sym why_is)); differs = λ same. cc }
 
-  pub replied_told : LegalPastsAreSound → SoundPastsAnswer → inadmissible_for call event.asked ≡ None
+  pub replied_response : LegalPastsAreSound → SoundPastsAnswer → inadmissible_for call event.asked ≡ None
       → (reply : Reply) → reply ≡ reply_for credit funds last call event.asked → reply ≢ event.reply → IsWrong opening until h event (Ok reply)
-  replied_told sounds fits none reply reply_is other =
+  replied_response sounds fits none reply reply_is other =
       let admissible : inadmissible h event.asked ≡ None = sym admissible_is ∙ none in
       record {
-        is_told = ap Ok (told_answer sounds fits admissible reply reply_is) ∙ sym (ap (λ found. told_of found (answer opening until h event.asked)) admissible);
+        is_response = ap Ok (response_answer sounds fits admissible reply reply_is) ∙ sym (ap (λ found. response_of found (answer opening until h event.asked)) admissible);
         differs = λ same. other (ap (reply_in reply) same);
       }
 
-  pub told_room : LegalPastsAreSound → SoundPastsAnswer → IsAnswered opening until h event → GrantsWithinDay call (its_deed event)
-  told_room sounds fits answered = room_walk sounds fits opening until h told.small told.legal event answered call (its_call event) told.call_is refl
+  pub response_room : LegalPastsAreSound → SoundPastsAnswer → IsAnswered opening until h event → GrantsWithinDay call (its_deed event)
+  response_room sounds fits answered = room_walk sounds fits opening until h response.small response.legal event answered call (its_call event) response.call_is refl
 
-  pub told_after : known_after call (its_deed event) ≡ known (its_call event) (event ∷ h)
-  told_after = ap (λ k. known_after k (its_deed event)) told.call_is ∙ sym (known_here h event)
+  pub response_after : known_after call (its_deed event) ≡ known (its_call event) (event ∷ h)
+  response_after = ap (λ k. known_after k (its_deed event)) response.call_is ∙ sym (known_here h event)
 
 -- ---- an entry, by the states of all calls
 
 module _ (opening : ℕ) (until : Option ℕ) (h : List EntryData) (calls : CallStates) (funds credit : ℕ) (last : Option ℕ) (event : EntryData)
     (tallied : IsTallied opening until h (tally_of calls funds credit last)) where
-  pub told_by : (state : CallState) → state ≡ call_state_of calls (its_call event) → IsToldOf opening until h event (known_of state) funds credit last
-  told_by state is = record {
+  pub response_by : (state : CallState) → state ≡ call_state_of calls (its_call event) → IsKnownOf opening until h event (known_of state) funds credit last
+  response_by state is = record {
     small = tallied.small;
     legal = tallied.legal;
     call_is = ap known_of is ∙ tallied.tells (its_call event);
@@ -97,7 +97,7 @@ module _ (opening : ℕ) (until : Option ℕ) (h : List EntryData) (calls : Call
   }
 
   pub tells_after : (new : CallStates) (after : CallState) → Renews calls new (its_call event) after
-      → known_of after ≡ known (its_call event) (event ∷ h) → TellsEach new (event ∷ h)
+      → known_of after ≡ known (its_call event) (event ∷ h) → KnowsEach new (event ∷ h)
   tells_after new after renews after_is = tells_renewed calls new h event after renews tallied.tells (after_is ∙ known_here h event)
 
 -- ---- an entry that was answered
@@ -107,7 +107,7 @@ module _ (opening : ℕ) (until : Option ℕ) (h : List EntryData) (tally : Tall
   pub funds_more : LegalPastsAreSound → tally.funds + credited event.asked event.reply ≤ 1000000000000000
   funds_more sounds = omega (arith, tallied.funds_are, (sounds opening until (event ∷ h) tallied.small (tallied.legal, answered)).capped)
 
-  pub tallied_more : (calls : CallStates) → TellsEach calls (event ∷ h)
+  pub tallied_more : (calls : CallStates) → KnowsEach calls (event ∷ h)
       → IsTallied opening until (event ∷ h)
       (tally_of calls (tally.funds + credited event.asked event.reply) (shown_by event.reply) (last_moment_after tally.last_moment event.asked event.reply))
   tallied_more calls tells = record {

@@ -21,17 +21,17 @@ use Rattle.account_core.specs.TariffLaws.{TariffLaws}
 
 -- ---- what a reply shows changes nothing else
 
-pub deed_showing : (asked : Asked) (told : Reply) (credit : ℕ) → deed_of asked (showing credit told) ≡ deed_of asked told
-deed_showing (Credits amount moment) told credit = refl
+pub deed_showing : (asked : Asked) (response : Reply) (credit : ℕ) → deed_of asked (showing credit response) ≡ deed_of asked response
+deed_showing (Credits amount moment) response credit = refl
 deed_showing (Reserves call plan wanted least at) (reply.Granted units last available) credit = refl
 deed_showing (Settles call number info) (reply.Settled paid available) credit = refl
 deed_showing (Settles call number info) (reply.Forfeit paid available) credit = refl
 deed_showing (Returns call) (reply.Returned paid available) credit = refl
-deed_showing asked told credit = refl
+deed_showing asked response credit = refl
 
-pub credited_showing : (asked : Asked) (told : Reply) (credit : ℕ) → credited asked (showing credit told) ≡ credited asked told
+pub credited_showing : (asked : Asked) (response : Reply) (credit : ℕ) → credited asked (showing credit response) ≡ credited asked response
 credited_showing (Credits amount moment) (reply.Credited available) credit = refl
-credited_showing asked told credit = refl
+credited_showing asked response credit = refl
 
 -- ---- what is admissible
 

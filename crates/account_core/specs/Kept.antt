@@ -29,5 +29,5 @@ known_of (Reported held) = facts_of_held held false false
 known_of (Over held) = facts_of_held held true false
 
 -- each call has the state that the history says
-abbrev pub TellsEach : CallStates → List EntryData → Type 0
-TellsEach calls h = (call : ℕ) → known_of (call_state_of calls call) ≡ known call h
+abbrev pub KnowsEach : CallStates → List EntryData → Type 0
+KnowsEach calls h = (call : ℕ) → known_of (call_state_of calls call) ≡ known call h

@@ -11,7 +11,7 @@ use Rattle.account_core.specs.Available.{available, credits, taken_by_all}
 use Rattle.account_core.specs.Events.{EntryData}
 use Rattle.account_core.specs.Expiry.{GrantsBy, LeavesLastMoment, last_moment}
 use Rattle.account_core.specs.Known.{EntryDeed, Ends, deed, known}
-use Rattle.account_core.specs.Standing.{IsKindly}
+use Rattle.account_core.specs.Standing.{FitsOperation}
 use Rattle.account_core.specs.declared.entry.Reply.{Reply}
 use Rattle.account_core.specs.declared.entry.Reply.TheVariants as reply
 use Rattle.tariff_core.specs.declared.plan.TheConstants.{MAX_MONEY}
@@ -79,9 +79,9 @@ SettlesKeepTheCredit = (opening : ℕ) (until : Option ℕ) (history : List Entr
     → available opening (reverse (history ++ event ∷ [])) ≡ available opening (reverse history)
 
 -- the answer to an admissible operation is of its kind, whatever its call
-abbrev pub AnswersAreKindly : Type 0
-AnswersAreKindly = (opening : ℕ) (until : Option ℕ) (history : List EntryData) (call : ℕ) (asked : Asked) → opening ≤ MAX_MONEY → IsLegal opening until history
-    → inadmissible (reverse history) asked ≡ None → IsKindly call (known call (reverse history)) asked (answer opening until (reverse history) asked)
+abbrev pub AnswersFitTheirOperations : Type 0
+AnswersFitTheirOperations = (opening : ℕ) (until : Option ℕ) (history : List EntryData) (call : ℕ) (asked : Asked) → opening ≤ MAX_MONEY → IsLegal opening until history
+    → inadmissible (reverse history) asked ≡ None → FitsOperation call (known call (reverse history)) asked (answer opening until (reverse history) asked)
 
 -- after the last moment no entry grants anything, until one moves it
 abbrev pub NothingIsGrantedLate : Type 0

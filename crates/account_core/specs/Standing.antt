@@ -26,11 +26,11 @@ FitsCall known (Returns call) (reply.Returned paid available) = Unit {0}
 FitsCall known asked other = ⊥
 
 -- an operation of this call was in its place and got such a reply
-abbrev pub IsKindly : ℕ → CallFacts → Asked → Reply → Type 0
-IsKindly call known asked answer = IsOfCall call asked → (misplaced known asked ≡ None) × FitsCall known asked answer
+abbrev pub FitsOperation : ℕ → CallFacts → Asked → Reply → Type 0
+FitsOperation call known asked answer = IsOfCall call asked → (misplaced known asked ≡ None) × FitsCall known asked answer
 
 -- what is known of a call before an operation and after it: a refusal changes nothing, a reply what its entry would
 abbrev pub MovesCall : ℕ → CallFacts → Asked → Result Reply AccountFault → Option CallFacts → Type 0
 MovesCall call before asked (Err fault) after = after ≡ Some before
 MovesCall call before asked (Ok answer) after =
-    (after ≡ Some (known_after before (deed call (event_by 0 asked answer)))) × IsKindly call before asked answer
+    (after ≡ Some (known_after before (deed call (event_by 0 asked answer)))) × FitsOperation call before asked answer

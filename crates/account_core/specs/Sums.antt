@@ -35,6 +35,6 @@ pub record AreSums (h : List EntryData) (sums : List CallSum) : Type 0 where
   pub each : (call : ℕ) → sum_in call sums ≡ sum_of call (known call h)
 
 -- the sums that states say
-abbrev pub sums_told : List (ℕ × CallState) → List CallSum
-sums_told [] = []
-sums_told (entry ∷ entries) = option_to_list (sum_of entry.0 (known_of entry.1)) ++ sums_told entries
+abbrev pub sums_known : List (ℕ × CallState) → List CallSum
+sums_known [] = []
+sums_known (entry ∷ entries) = option_to_list (sum_of entry.0 (known_of entry.1)) ++ sums_known entries

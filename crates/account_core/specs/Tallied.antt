@@ -5,7 +5,7 @@ use Rattle.account_core.specs.Asked.{call_of}
 use Rattle.account_core.specs.Available.{available, credits}
 use Rattle.account_core.specs.Events.{EntryData}
 use Rattle.account_core.specs.Expiry.{last_moment}
-use Rattle.account_core.specs.Kept.{TellsEach}
+use Rattle.account_core.specs.Kept.{KnowsEach}
 use Rattle.account_core.specs.Known.{CallFacts, known}
 use Rattle.account_core.specs.declared.call_states.CallStates.{CallStates}
 use Rattle.account_core.specs.declared.tally.Tally.{Tally}
@@ -19,13 +19,13 @@ tally_of calls funds available last = record { calls = calls; funds = funds; ava
 pub record IsTallied (opening : ℕ) (until : Option ℕ) (h : List EntryData) (tally : Tally) : Type 0 where
   pub small : opening ≤ MAX_MONEY
   pub legal : IsLegalPast opening until h
-  pub tells : TellsEach tally.calls h
+  pub tells : KnowsEach tally.calls h
   pub funds_are : tally.funds ≡ opening + credits h
   pub credit_is : tally.available ≡ available opening h
   pub last_is : tally.last_moment ≡ last_moment until h
 
 -- the history is legal from this opening, and what is known of the entry's call, the funds, the credit and the last moment are those of the history
-pub record IsToldOf (opening : ℕ) (until : Option ℕ) (h : List EntryData) (event : EntryData) (call : CallFacts) (funds credit : ℕ) (last : Option ℕ) : Type 0 where
+pub record IsKnownOf (opening : ℕ) (until : Option ℕ) (h : List EntryData) (event : EntryData) (call : CallFacts) (funds credit : ℕ) (last : Option ℕ) : Type 0 where
   pub small : opening ≤ MAX_MONEY
   pub legal : IsLegalPast opening until h
   pub call_is : call ≡ known (call_of event.asked) h

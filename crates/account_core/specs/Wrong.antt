@@ -17,5 +17,5 @@ response opening until h asked = reply_or_fault (inadmissible h asked) (answer o
 
 -- this is what an account answers the operation of an entry, and it isn't the entry's reply
 pub record IsWrong (opening : ℕ) (until : Option ℕ) (h : List EntryData) (event : EntryData) (right : Result Reply AccountFault) : Type 0 where
-  pub is_told : right ≡ response opening until h event.asked
+  pub is_response : right ≡ response opening until h event.asked
   pub differs : right ≢ Ok event.reply

@@ -7,7 +7,7 @@ ghost use Rattle.account_core.specs.Standing.{MovesCall};
 ghost use Rattle.account_core.specs.Ledger.{IsRefusal, answer_of, event_by, refusal_of};
 ghost use Rattle.account_core.specs.Places.{IsClosing};
 
-use crate::laws::answers_are_kindly;
+use crate::laws::answers_fit_their_operations;
 use crate::{Account, AccountFault, Op, Reply};
 
 /// Takes the operations of calls, for an account that is behind it.
@@ -66,7 +66,7 @@ impl Port for AccountPort {
             (asked_of op) result
             (Some (known call (reverse self.new.account.history))) }
     {
-        answers_are_kindly();
+        answers_fit_their_operations();
         // For its clauses: the history is legal.
         let _entries = self.account.history();
         self.account.apply(self.seat, op)

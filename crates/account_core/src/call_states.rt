@@ -5,7 +5,7 @@ ghost use Rattle.std.specs.BTreeMap.{IsOrdered};
 ghost use Rattle.std.specs.Ordering.{nat_cmp};
 ghost use Rattle.account_core.specs.Events.{EntryData};
 ghost use Rattle.account_core.specs.Kept.{known_of};
-ghost use Rattle.account_core.specs.Sums.{AreSums, sum_of, sums_told};
+ghost use Rattle.account_core.specs.Sums.{AreSums, sum_of, sums_known};
 
 use crate::call_state::CallState;
 use crate::{CallSum, Fate};
@@ -21,7 +21,7 @@ pub(crate) struct CallStates {
 
 impl CallStates {
     ghost use Rattle.account_core.specs.CallStates.{AreSame, Renews, call_state_of};
-    ghost use Rattle.account_core.specs.Kept.{TellsEach};
+    ghost use Rattle.account_core.specs.Kept.{KnowsEach};
 
     /// Those of no calls.
     pub fn new(alloc: Global) -> CallStates
@@ -56,7 +56,7 @@ impl CallStates {
 
     /// What the calls that were granted anything come to, by rising number.
     pub fn sums(&self, alloc: Global) -> Result<Vec<CallSum>, AllocError>
-        ensures { IfOk result (λ sums. (h : List EntryData) → TellsEach self.now h →
+        ensures { IfOk result (λ sums. (h : List EntryData) → KnowsEach self.now h →
             AreSums h sums.items) }
     {
         match self.calls.listing() {
@@ -68,7 +68,7 @@ impl CallStates {
 
 /// What each state of a list comes to, in its order.
 fn list_sums(alloc: Global, calls: &[(u64, CallState)]) -> Result<Vec<CallSum>, AllocError>
-    ensures { IfOk result (λ sums. sums.items ≡ sums_told calls.now) }
+    ensures { IfOk result (λ sums. sums.items ≡ sums_known calls.now) }
 {
     let mut sums = Vec::new(alloc);
     for (call, state) in calls {
@@ -79,7 +79,7 @@ fn list_sums(alloc: Global, calls: &[(u64, CallState)]) -> Result<Vec<CallSum>, 
 
 /// What each state of a map comes to, by rising number.
 fn map_sums(alloc: Global, calls: &BTreeMap<u64, CallState>) -> Result<Vec<CallSum>, AllocError>
-    ensures sums { IfOk result (λ sums. sums.items ≡ sums_told calls.now.entries) }
+    ensures sums { IfOk result (λ sums. sums.items ≡ sums_known calls.now.entries) }
     ensures ordered { IsOrdered nat_cmp calls.now }
 {
     let mut sums = Vec::new(alloc);

@@ -9,7 +9,7 @@ ghost use Rattle.account_core.specs.Checked.{HasOpening, IsCheckOf, SumsUp};
 ghost use Rattle.account_core.specs.Known.{known, nothing_known};
 ghost use Rattle.account_core.specs.Wrong.{IsWrong};
 
-use crate::tally::{Tally, Told};
+use crate::tally::{Tally, Response};
 use crate::{Account, AccountFault, AccountSum, CallSum, Entry, Reply};
 use std::alloc::{AllocError, Global};
 use tariff_core::MAX_MONEY;
@@ -91,10 +91,10 @@ impl HistoryCheck {
             (opening : ℕ) (until : Option ℕ) (h : List EntryData) →
             IsCheckOf opening until h self.old → IsLegalPast opening until h →
             IsAnswered opening until h (entry_data entry)) }
-        ensures wrong { IfOk result (λ wrong. IfSome wrong (λ told.
+        ensures wrong { IfOk result (λ wrong. IfSome wrong (λ response.
             (opening : ℕ) (until : Option ℕ) (h : List EntryData) →
             IsCheckOf opening until h self.old →
-            IsLegalPast opening until h × IsWrong opening until h (entry_data entry) told)) }
+            IsLegalPast opening until h × IsWrong opening until h (entry_data entry) response)) }
         ensures kept { OnErr result ((opening : ℕ) (until : Option ℕ) (h : List EntryData) →
             IsCheckOf opening until h self.old → IsCheckOf opening until h self.new) }
         ensures fresh { OnErr result ((opening : ℕ) (until : Option ℕ) (h : List EntryData) →
@@ -149,7 +149,7 @@ impl HistoryCheck {
 
     /// Takes one entry more, where there is a tally, or no need of one.
     #[inline(always)]
-    fn judge(&mut self, entry: Entry) -> Result<Option<Told>, AllocError>
+    fn judge(&mut self, entry: Entry) -> Result<Option<Response>, AllocError>
         requires begun { HasOpening self.old }
         requires of { (opening : ℕ) × (until : Option ℕ) × (h : List EntryData)
             × IsCheckOf opening until h self.old }
@@ -160,10 +160,10 @@ impl HistoryCheck {
             (opening : ℕ) (until : Option ℕ) (h : List EntryData) →
             IsCheckOf opening until h self.old → IsLegalPast opening until h →
             IsAnswered opening until h (entry_data entry)) }
-        ensures wrong { IfOk result (λ wrong. IfSome wrong (λ told.
+        ensures wrong { IfOk result (λ wrong. IfSome wrong (λ response.
             (opening : ℕ) (until : Option ℕ) (h : List EntryData) →
             IsCheckOf opening until h self.old →
-            IsLegalPast opening until h × IsWrong opening until h (entry_data entry) told)) }
+            IsLegalPast opening until h × IsWrong opening until h (entry_data entry) response)) }
         ensures kept { OnErr result ((opening : ℕ) (until : Option ℕ) (h : List EntryData) →
             IsCheckOf opening until h self.old → IsCheckOf opening until h self.new) }
         ensures fresh { OnErr result ((opening : ℕ) (until : Option ℕ) (h : List EntryData) →

@@ -2,7 +2,7 @@
 //! account comes to, in words that know nothing of how it answers. And the limits in plain numbers.
 
 ghost use Rattle.std.specs.Prelude.{◌≡◌, ◌^◌};
-ghost use Rattle.account_core.specs.Laws.{AnswersAreKindly, ClosedCallsPayTheTariff, EntriesAreInRange, NoBalanceIsNegative, NothingIsGrantedLate, SettlesKeepTheCredit, TimesAreReported};
+ghost use Rattle.account_core.specs.Laws.{AnswersFitTheirOperations, ClosedCallsPayTheTariff, EntriesAreInRange, NoBalanceIsNegative, NothingIsGrantedLate, SettlesKeepTheCredit, TimesAreReported};
 ghost use Rattle.account_core.specs.Sound.{LegalPastsAreSound, SoundPastsAnswer};
 ghost use Rattle.account_core.specs.TariffLaws.{TariffLaws};
 ghost use Rattle.account_core.specs.SharingLaws.{AccountsHaveNoGate, EachIsOwedItsShare, EntriesOweToTheirCalls};
@@ -42,8 +42,8 @@ pub fn nothing_is_granted_late()
 /// The answer to an admissible operation is of its kind: a grant is of some units, at least the
 /// least and at most those wanted, within a day with the times of its call; and a report is settled
 /// exactly where it is accepted, else a forfeit.
-pub fn answers_are_kindly()
-    ensures { AnswersAreKindly }
+pub fn answers_fit_their_operations()
+    ensures { AnswersFitTheirOperations }
 {
     tariff_laws();
 }

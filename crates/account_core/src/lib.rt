@@ -29,7 +29,7 @@ pub use entry::{Entry, Op, Reply};
 pub use fault::AccountFault;
 pub use history_check::HistoryCheck;
 pub use laws::{
-    accounts_have_no_gate, answers_are_kindly, closed_calls_pay_the_tariff, entries_are_in_range,
+    accounts_have_no_gate, answers_fit_their_operations, closed_calls_pay_the_tariff, entries_are_in_range,
     limits_in_numbers, no_balance_is_negative, nothing_is_granted_late, places_go_with_entries,
     settles_keep_the_credit,
 };

@@ -7,9 +7,9 @@ ghost use Rattle.account_core.specs.Available.{credited};
 ghost use Rattle.account_core.specs.CallStates.{AreSame, call_state_of};
 ghost use Rattle.account_core.specs.Events.{entry_data, EntryData, asked_of};
 ghost use Rattle.account_core.specs.Expiry.{last_moment_after};
-ghost use Rattle.account_core.specs.Kept.{TellsEach, known_of};
+ghost use Rattle.account_core.specs.Kept.{KnowsEach, known_of};
 ghost use Rattle.account_core.specs.Known.{known, nothing_known};
-ghost use Rattle.account_core.specs.Tallied.{IsTallied, IsToldOf, tally_of};
+ghost use Rattle.account_core.specs.Tallied.{IsTallied, IsKnownOf, tally_of};
 ghost use Rattle.account_core.specs.Wrong.{IsWrong};
 
 use crate::call_state::{CallState, inadmissible, reply};
@@ -19,7 +19,7 @@ use std::alloc::{AllocError, Global};
 use tariff_core::MAX_MONEY;
 
 /// What an account answers an operation: its reply, or why it refuses it.
-pub(crate) type Told = Result<Reply, AccountFault>;
+pub(crate) type Response = Result<Reply, AccountFault>;
 
 /// What a legal history comes to: the state of each call, the opening with the accepted credits,
 /// the credit that is left, and the last moment, if there is one. The history itself isn't kept:
@@ -49,7 +49,7 @@ impl Tally {
     /// Adds an entry to those so far where it is legal after them, and else gives what an account
     /// answers in its place. Memory is taken where the entry's call is new, which is 0 at a Credit.
     #[inline(always)]
-    pub fn hear(&mut self, entry: Entry) -> Result<Option<Told>, AllocError>
+    pub fn hear(&mut self, entry: Entry) -> Result<Option<Response>, AllocError>
         requires { (opening : ℕ) × (until : Option ℕ) × (h : List EntryData)
             × IsTallied opening until h self.old }
         ensures legal { IfOk result (λ wrong. wrong ≡ None
@@ -105,14 +105,14 @@ fn renew_state(
     funds: u64,
     available: u64,
     last_moment: Option<u64>,
-) -> Result<Option<Told>, AllocError>
+) -> Result<Option<Response>, AllocError>
     requires { (opening : ℕ) × (until : Option ℕ) × (h : List EntryData) ×
         IsTallied opening until h (tally_of calls.old funds available last_moment) }
     ensures legal { IfOk result (λ wrong. wrong ≡ None
         → (opening : ℕ) (until : Option ℕ) (h : List EntryData)
         → IsTallied opening until h (tally_of calls.old funds available last_moment)
         → IsAnswered opening until h (entry_data entry)
-        × TellsEach calls.new (entry_data entry ∷ h)) }
+        × KnowsEach calls.new (entry_data entry ∷ h)) }
     ensures wrong { IfOk result (λ wrong. IfSome wrong (λ right.
         (opening : ℕ) (until : Option ℕ) (h : List EntryData)
         → IsTallied opening until h (tally_of calls.old funds available last_moment)
@@ -142,17 +142,17 @@ fn after_legal(
     funds: u64,
     available: u64,
     last_moment: Option<u64>,
-) -> Result<CallState, Told>
+) -> Result<CallState, Response>
     requires { (opening : ℕ) × (until : Option ℕ) × (h : List EntryData) ×
-        IsToldOf opening until h (entry_data entry) (known_of state.now)
+        IsKnownOf opening until h (entry_data entry) (known_of state.now)
         funds available last_moment }
     ensures legal { IfOk result (λ after. (opening : ℕ) (until : Option ℕ) (h : List EntryData) →
-        IsToldOf opening until h (entry_data entry) (known_of state.now)
+        IsKnownOf opening until h (entry_data entry) (known_of state.now)
         funds available last_moment →
         IsAnswered opening until h (entry_data entry)
         × (known_of after ≡ known (call_of (asked_of entry.op)) (entry_data entry ∷ h))) }
     ensures wrong { IfErr result (λ right. (opening : ℕ) (until : Option ℕ)
-        (h : List EntryData) → IsToldOf opening until h (entry_data entry) (known_of state.now)
+        (h : List EntryData) → IsKnownOf opening until h (entry_data entry) (known_of state.now)
         funds available last_moment → IsWrong opening until h (entry_data entry) right) }
 {
     laws::legal_pasts_are_sound();

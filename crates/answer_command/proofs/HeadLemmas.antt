@@ -11,24 +11,24 @@ use Rattle.table_core.specs.Judging.{and_then}
 use Rattle.table_core.specs.Rows.{rows_of}
 use Rattle.tariff_core.specs.Bands.{Band}
 use Rattle.answer_command.specs.Heads.{RefusesService, TakesHeader}
-use Rattle.answer_command.specs.Inputs.{live_input_of, told_live}
+use Rattle.answer_command.specs.Inputs.{live_input_of, as_serve_fault}
 use Rattle.answer_command.specs.declared.error.ServeError.{ServeError}
 use Rattle.answer_command.specs.declared.error.ServeError.TheVariants as error
 
 -- a part that is refused
-refused_told : {X Y : Type 0} (why : InputFault) (meaning : Result X InputFault) (next : X → Result Y ServeError) → RefusesInput why meaning
-    → RefusesService (error.Input why) (and_then (told_live meaning) next)
-refused_told input.Parts meaning next is = rw is refl
-refused_told input.TooLong meaning next is = rw is refl
-refused_told (input.Tariff row) meaning next is = rw is refl
-refused_told (input.Setup row) meaning next is = rw is refl
-refused_told (input.Script row) meaning next is = rw is refl
-refused_told input.Device meaning next is = tt
-refused_told input.OutOfMemory meaning next is = tt
+refused_answered : {X Y : Type 0} (why : InputFault) (meaning : Result X InputFault) (next : X → Result Y ServeError) → RefusesInput why meaning
+    → RefusesService (error.Input why) (and_then (as_serve_fault meaning) next)
+refused_answered input.Parts meaning next is = rw is refl
+refused_answered input.TooLong meaning next is = rw is refl
+refused_answered (input.Tariff row) meaning next is = rw is refl
+refused_answered (input.Setup row) meaning next is = rw is refl
+refused_answered (input.Script row) meaning next is = rw is refl
+refused_answered input.Device meaning next is = tt
+refused_answered input.OutOfMemory meaning next is = tt
 
 -- the first part is refused
 pub no_first : (text : List ℕ) (left : Option (List ℕ)) (why : InputFault) → Divides text left (Err why) → RefusesService (error.Input why) (live_input_of text)
-no_first text left why is = refused_told why (first_part text) _ is
+no_first text left why is = refused_answered why (first_part text) _ is
 
 -- the second one
 pub no_second : (text first : List ℕ) (mid left : Option (List ℕ)) (why : InputFault) → Divides text mid (Ok first) → IfSome mid (λ rest. Divides rest left (Err why))
@@ -36,7 +36,7 @@ pub no_second : (text first : List ℕ) (mid left : Option (List ℕ)) (why : In
 no_second text first mid left why one two =
     let (rest, mid_is, is) = one in
     let refused = rw mid_is at two in
-    rw is (refused_told why (first_part rest) _ refused)
+    rw is (refused_answered why (first_part rest) _ refused)
 
 -- both parts were read
 pub record HasParts (text first second : List ℕ) (left : Option (List ℕ)) : Type 0 where
@@ -55,11 +55,11 @@ both_parts text first second mid left one two =
 
 pub no_tariff : (text first second : List ℕ) (left : Option (List ℕ)) (why : InputFault) → HasParts text first second left → RefusesInput why (tariff_in first)
     → RefusesService (error.Input why) (live_input_of text)
-no_tariff text first second left why has is = rw (has.one, has.two) (refused_told why (tariff_in first) _ is)
+no_tariff text first second left why has is = rw (has.one, has.two) (refused_answered why (tariff_in first) _ is)
 
 pub no_setup : (text first second : List ℕ) (left : Option (List ℕ)) (tariff : List Band) (why : InputFault) → HasParts text first second left → tariff_in first ≡ Ok tariff
     → RefusesInput why (as_input_fault input.Setup (table_setup_of (rows_of second))) → RefusesService (error.Input why) (live_input_of text)
-no_setup text first second left tariff why has is refused = rw (has.one, has.two, is) (refused_told why (as_input_fault input.Setup (table_setup_of (rows_of second))) _ refused)
+no_setup text first second left tariff why has is refused = rw (has.one, has.two, is) (refused_answered why (as_input_fault input.Setup (table_setup_of (rows_of second))) _ refused)
 
 pub no_header : (text first second : List ℕ) (left new : Option (List ℕ)) (tariff : List Band) (setup : TableSetup) → HasParts text first second left → tariff_in first ≡ Ok tariff
     → as_input_fault input.Setup (table_setup_of (rows_of second)) ≡ Ok setup → IfSome left (λ behind. TakesHeader behind new false) → live_input_of text ≡ Err error.Header

@@ -90,7 +90,7 @@ module _ (output : LiveOutput) (setup : Setup) (replay : Replay) (rows : List �
   pub header_cut : (a b : Option (List ℕ)) (answer : Result (Unit {0}) ServeError) (why : ServeError) → IsErrAnd answer (λ met. met ≡ why) → IsCutAt a b trace_header why
       → EndsServing output setup replay rows a b answer
   header_cut a b (Ok done) why met cut = absurd met
-  header_cut a b (Err told) why met cut = rw (met, cut.0) (inl cut.1)
+  header_cut a b (Err answered) why met cut = rw (met, cut.0) (inl cut.1)
 
   -- or in the rows
   pub rows_cut : (why : Option LiveFault) (a b c : Option (List ℕ)) (given : List (ℕ × Body)) (books : List Closed) → is_cut_off why ≡ true → Appends a b trace_header
@@ -123,10 +123,10 @@ module _ (output : LiveOutput) (setup : Setup) (replay : Replay) (rows : List �
     end_part (error.Log refused) cut = absurd cut
     end_part (error.LogRow row kind) cut = absurd cut
 
-    pub end_cut : (answer : Result (Unit {0}) ServeError) (met : ServeError) → IsErrAnd answer (λ told. told ≡ met)
+    pub end_cut : (answer : Result (Unit {0}) ServeError) (met : ServeError) → IsErrAnd answer (λ answered. answered ≡ met)
         → IsCutEnd output (record { setup = setup; given = given; books = books }) c d met → EndsServing output setup replay rows a d answer
-    end_cut (Ok done) met told cut = absurd told
-    end_cut (Err same) met told cut = rw told (end_part met cut)
+    end_cut (Ok done) met answered cut = absurd answered
+    end_cut (Err same) met answered cut = rw answered (end_part met cut)
 
     -- all was printed
     pub all_printed : (end : List ℕ) × IsEndOf output (record { setup = setup; given = given; books = books }) end × Appends c d end → IsServedWhole output setup replay rows why a d
@@ -150,9 +150,9 @@ module _ (output : LiveOutput) (setup : Setup) (replay : Replay) (rows : List �
 -- ---- the end
 
 -- what stops it is of the run
-pub cut_of_run : (output : LiveOutput) (ran : Run) (a b : Option (List ℕ)) (answer : Result (Unit {0}) ServeError) (met : ServeError) → IsErrAnd answer (λ told. told ≡ met) → IsCutEnd output ran a b met → IfErr answer IsOfRun
-cut_of_run output ran a b (Ok done) met told cut = tt
-cut_of_run output ran a b (Err same) met told cut = rw told (of_run met cut)
+pub cut_of_run : (output : LiveOutput) (ran : Run) (a b : Option (List ℕ)) (answer : Result (Unit {0}) ServeError) (met : ServeError) → IsErrAnd answer (λ answered. answered ≡ met) → IsCutEnd output ran a b met → IfErr answer IsOfRun
+cut_of_run output ran a b (Ok done) met answered cut = tt
+cut_of_run output ran a b (Err same) met answered cut = rw answered (of_run met cut)
   where
     of_run : (why : ServeError) → IsCutEnd output ran a b why → IsOfRun why
     of_run (error.Live why) is = tt
@@ -171,7 +171,7 @@ cut_of_run output ran a b (Err same) met told cut = rw told (of_run met cut)
 pub divider_cut : (output : LiveOutput) (ran : Run) (a b : Option (List ℕ)) (divider table : List ℕ) (answer : Result (Unit {0}) ServeError) (why : ServeError) → IsErrAnd answer (λ met. met ≡ why)
     → IsCutAt a b divider why → IsEndOf output ran (divider ++ table) → IfErr answer (IsCutEnd output ran a b)
 divider_cut output ran a b divider table (Ok done) why met cut is_end = tt
-divider_cut output ran a b divider table (Err told) why met cut is_end = rw (met, cut.0) (divider ++ table, is_end, front_before a b divider table cut.1)
+divider_cut output ran a b divider table (Err answered) why met cut is_end = rw (met, cut.0) (divider ++ table, is_end, front_before a b divider table cut.1)
 
 -- or behind it
 pub table_cut : (output : LiveOutput) (ran : Run) (a b c : Option (List ℕ)) (divider table : List ℕ) (answer : Result (Unit {0}) ServeError) → Appends a b divider
@@ -201,15 +201,15 @@ module _ (ask : LiveAsk) (log : Option LogWish) (meaning : Result LiveInput Serv
   pub loses_log : (known : Option (List ℕ)) (said : LiveInput) → meaning ≡ Ok said → IsSome log → LosesLog log meaning known known
   loses_log known said is asked = record { asked = asked; input = said; is_input = is; silent = Keeps-refl known }
 
-  pub log_refused : (known : Option (List ℕ)) (said : LiveInput) (answer : Result (Unit {0}) ServeError) (met : ServeError) → IsErrAnd answer (λ told. told ≡ met) → IsOfLog met
+  pub log_refused : (known : Option (List ℕ)) (said : LiveInput) (answer : Result (Unit {0}) ServeError) (met : ServeError) → IsErrAnd answer (λ answered. answered ≡ met) → IsOfLog met
       → meaning ≡ Ok said → IsSome log → ServesBy ask log meaning known known answer
-  log_refused known said (Ok done) met told of is asked = absurd told
-  log_refused known said (Err why) (error.Log fault) told of is asked = rw told (loses_log known said is asked)
-  log_refused known said (Err why) (error.LogRow row kind) told of is asked = rw told (loses_log known said is asked)
-  log_refused known said (Err why) (error.Input fault) told of is asked = absurd of
-  log_refused known said (Err why) error.Header told of is asked = absurd of
-  log_refused known said (Err why) (error.Live fault) told of is asked = absurd of
-  log_refused known said (Err why) (error.Run fault) told of is asked = absurd of
+  log_refused known said (Ok done) met answered of is asked = absurd answered
+  log_refused known said (Err why) (error.Log fault) answered of is asked = rw answered (loses_log known said is asked)
+  log_refused known said (Err why) (error.LogRow row kind) answered of is asked = rw answered (loses_log known said is asked)
+  log_refused known said (Err why) (error.Input fault) answered of is asked = absurd of
+  log_refused known said (Err why) error.Header answered of is asked = absurd of
+  log_refused known said (Err why) (error.Live fault) answered of is asked = absurd of
+  log_refused known said (Err why) (error.Run fault) answered of is asked = absurd of
 
   -- its rows are served
   pub serves : (said : LiveInput) (setup : Setup) (lines : List ℕ) (replay : Replay) (old new : Option (List ℕ)) (result : Result (Unit {0}) ServeError)

@@ -30,16 +30,16 @@ abbrev pub behind_header : List ℕ → Result (List ℕ) ServeError
 behind_header text = if is_message_header (take_through 10 text) then Ok (drop_through 10 text) else Err error.Header
 
 -- what a part says, its fault told as one of `serve`
-abbrev pub told_live : {X : Type 0} → Result X InputFault → Result X ServeError
-told_live (Ok x) = Ok x
-told_live (Err why) = Err (error.Input why)
+abbrev pub as_serve_fault : {X : Type 0} → Result X InputFault → Result X ServeError
+as_serve_fault (Ok x) = Ok x
+as_serve_fault (Err why) = Err (error.Input why)
 
 -- what an input says before its rows: its dividers are judged first, then the tariff, the setup and the header
 abbrev pub live_input_of : List ℕ → Result LiveInput ServeError
 live_input_of text =
-    and_then (told_live (first_part text)) (λ one.
-    and_then (told_live (first_part one.rest)) (λ two.
-    and_then (told_live (tariff_in one.part)) (λ tariff.
-    and_then (told_live (as_input_fault input.Setup (table_setup_of (rows_of two.part)))) (λ setup.
+    and_then (as_serve_fault (first_part text)) (λ one.
+    and_then (as_serve_fault (first_part one.rest)) (λ two.
+    and_then (as_serve_fault (tariff_in one.part)) (λ tariff.
+    and_then (as_serve_fault (as_input_fault input.Setup (table_setup_of (rows_of two.part)))) (λ setup.
     and_then (behind_header two.rest) (λ rows.
     Ok (record { tariff = tariff; setup = setup; rows = rows }))))))

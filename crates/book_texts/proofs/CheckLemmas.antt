@@ -27,33 +27,33 @@ use Rattle.table_core.proofs.Known.{map_known}
 use Rattle.entry_rows.specs.Versions.{version_at}
 use Rattle.book_texts.specs.Audits.{AreVerdicts, GivesAuditOf, IsSaidOfBooks}
 use Rattle.book_texts.specs.BookRows.{Enters, HasBookColumns, Opens, RowSaid, columns_in, row_said_in}
-use Rattle.book_texts.specs.Books.{Books, Told, books_form, books_headers, books_of, entered_in_books, judged_books, opened, row_at, account_so_far, books_with_entry, with_opening}
+use Rattle.book_texts.specs.Books.{Books, Booked, books_form, books_headers, books_of, entered_in_books, judged_books, opened, row_at, account_so_far, books_with_entry, with_opening}
 use Rattle.book_texts.specs.Checks.{AreChecks, AreNoted, HaveVerdicts, Comes, GivesChecks, HaveChecks, HearsBy, IsOrdered, HasItsVerdict, ListComes, NotesEntry, audited_by, checks_by_account, verdicts_of, wrong_of}
 use Rattle.book_texts.specs.declared.account_checks.AccountChecks.{AccountChecks}
 use Rattle.book_texts.specs.declared.audit.Audit.{Audit}
 use Rattle.book_texts.specs.declared.audit.Checked.{Checked}
 use Rattle.book_texts.specs.declared.wrong_row.WrongRow.{WrongRow}
 use Rattle.book_texts.proofs.AboveLemmas.{IsAbove, above_is, at_first, next_above}
-use Rattle.book_texts.proofs.ToldLemmas.{AreFoundIn, all_found, books_ascend}
+use Rattle.book_texts.proofs.BookedLemmas.{AreFoundIn, all_found, books_ascend}
 use Rattle.book_texts.proofs.WrongLemmas.{entry_right, opening_right}
 
 -- a check has heard what is told
-abbrev pub HasHeard : Told → HistoryCheck → Type 0
-HasHeard told check = IsCheckOf told.opening told.until (reverse told.history) check
+abbrev pub HasHeard : Booked → HistoryCheck → Type 0
+HasHeard booked check = IsCheckOf booked.opening booked.until (reverse booked.history) check
 
 -- ---- what is found
 
-abbrev pub AreFound : Option Told → Option HistoryCheck → Type 0
+abbrev pub AreFound : Option Booked → Option HistoryCheck → Type 0
 AreFound None None = ⊤
 AreFound None (Some check) = ⊥
-AreFound (Some told) None = ⊥
-AreFound (Some told) (Some check) = HasHeard told check
+AreFound (Some booked) None = ⊥
+AreFound (Some booked) (Some check) = HasHeard booked check
 
 module _ (test : ℕ → Bool) where
-  found_at : (passes : Bool) (told : Told) (check : HistoryCheck) (later : Option Told) (others : Option HistoryCheck) → HasHeard told check → AreFound later others
-      → AreFound (cond passes (Some told) later) (cond passes (Some check) others)
-  found_at true told check later others heard are = heard
-  found_at false told check later others heard are = are
+  found_at : (passes : Bool) (booked : Booked) (check : HistoryCheck) (later : Option Booked) (others : Option HistoryCheck) → HasHeard booked check → AreFound later others
+      → AreFound (cond passes (Some booked) later) (cond passes (Some check) others)
+  found_at true booked check later others heard are = heard
+  found_at false booked check later others heard are = are
 
   pub found : (books : Books) (checks : List (ℕ × HistoryCheck)) → AreChecks books checks → AreFound (lookup test books) (lookup test checks)
   found [] [] are = tt
@@ -64,14 +64,14 @@ module _ (test : ℕ → Bool) where
 
   -- ---- what is set
 
-  module _ (told : Told) (check : HistoryCheck) (heard : HasHeard told check) where
-    set_at : (passes : Bool) (account : ℕ) (was : Told) (old : HistoryCheck) (books later : Books) (checks others : List (ℕ × HistoryCheck)) → HasHeard was old → AreChecks books checks
+  module _ (booked : Booked) (check : HistoryCheck) (heard : HasHeard booked check) where
+    set_at : (passes : Bool) (account : ℕ) (was : Booked) (old : HistoryCheck) (books later : Books) (checks others : List (ℕ × HistoryCheck)) → HasHeard was old → AreChecks books checks
         → AreChecks later others
-        → AreChecks (cond passes ((account, told) ∷ books) ((account, was) ∷ later)) (cond passes ((account, check) ∷ checks) ((account, old) ∷ others))
+        → AreChecks (cond passes ((account, booked) ∷ books) ((account, was) ∷ later)) (cond passes ((account, check) ∷ checks) ((account, old) ∷ others))
     set_at true account was old books later checks others had are set = ((refl, heard), are)
     set_at false account was old books later checks others had are set = ((refl, had), set)
 
-    pub checks_set : (books : Books) (checks : List (ℕ × HistoryCheck)) → AreChecks books checks → AreChecks (set_value test books told) (set_value test checks check)
+    pub checks_set : (books : Books) (checks : List (ℕ × HistoryCheck)) → AreChecks books checks → AreChecks (set_value test books booked) (set_value test checks check)
     checks_set [] [] are = tt
     checks_set [] (old ∷ checks) are = absurd are
     checks_set (book ∷ books) [] are = absurd are
@@ -79,40 +79,40 @@ module _ (test : ℕ → Bool) where
         rw are.0.0 (set_at (test account) account was old books _ checks _ are.0.1 are.1 (checks_set books checks are.1))
 
 -- what is found of an account
-pub not_found : (told : Option Told) (check : Option HistoryCheck) → AreFound told check → check ≡ None → told ≡ None
+pub not_found : (booked : Option Booked) (check : Option HistoryCheck) → AreFound booked check → check ≡ None → booked ≡ None
 not_found None check are none = refl
-not_found (Some told) None are none = absurd are
-not_found (Some told) (Some check) are none = cc
+not_found (Some booked) None are none = absurd are
+not_found (Some booked) (Some check) are none = cc
 
-pub is_found : (told : Option Told) (check : Option HistoryCheck) (heard : HistoryCheck) → AreFound told check → check ≡ Some heard → (t : Told) × (told ≡ Some t) × HasHeard t heard
+pub is_found : (booked : Option Booked) (check : Option HistoryCheck) (heard : HistoryCheck) → AreFound booked check → check ≡ Some heard → (t : Booked) × (booked ≡ Some t) × HasHeard t heard
 is_found None None heard are some = cc
 is_found None (Some check) heard are some = absurd are
-is_found (Some told) None heard are some = absurd are
-is_found (Some told) (Some check) heard are some = let same : check ≡ heard = cc in (told, refl, rw (← same) are)
+is_found (Some booked) None heard are some = absurd are
+is_found (Some booked) (Some check) heard are some = let same : check ≡ heard = cc in (booked, refl, rw (← same) are)
 
-pub is_known : (told : Option Told) (check : Option HistoryCheck) → AreFound told check → is_some check ≡ true → (t : Told) × (told ≡ Some t)
+pub is_known : (booked : Option Booked) (check : Option HistoryCheck) → AreFound booked check → is_some check ≡ true → (t : Booked) × (booked ≡ Some t)
 is_known None None are some = cc
 is_known None (Some check) are some = absurd are
-is_known (Some told) check are some = (told, refl)
+is_known (Some booked) check are some = (booked, refl)
 
-pub is_new : (told : Option Told) (check : Option HistoryCheck) → AreFound told check → is_some check ≡ false → told ≡ None
+pub is_new : (booked : Option Booked) (check : Option HistoryCheck) → AreFound booked check → is_some check ≡ false → booked ≡ None
 is_new None check are none = refl
-is_new (Some told) None are none = absurd are
-is_new (Some told) (Some check) are none = cc
+is_new (Some booked) None are none = absurd are
+is_new (Some booked) (Some check) are none = cc
 
 -- ---- what is inserted
 
-module _ (cmp : ℕ → ℕ → Ordering) (account : ℕ) (told : Told) (check : HistoryCheck) (heard : HasHeard told check) where
-  inserted_at : (o : Ordering) (number : ℕ) (was : Told) (old : HistoryCheck) (books later : Books) (checks others : List (ℕ × HistoryCheck)) → HasHeard was old → AreChecks books checks
+module _ (cmp : ℕ → ℕ → Ordering) (account : ℕ) (booked : Booked) (check : HistoryCheck) (heard : HasHeard booked check) where
+  inserted_at : (o : Ordering) (number : ℕ) (was : Booked) (old : HistoryCheck) (books later : Books) (checks others : List (ℕ × HistoryCheck)) → HasHeard was old → AreChecks books checks
       → AreChecks later others
-      → AreChecks (match_ordering o ((account, told) ∷ (number, was) ∷ books) ((number, told) ∷ books) ((number, was) ∷ later))
+      → AreChecks (match_ordering o ((account, booked) ∷ (number, was) ∷ books) ((number, booked) ∷ books) ((number, was) ∷ later))
       (match_ordering o ((account, check) ∷ (number, old) ∷ checks) ((number, check) ∷ checks) ((number, old) ∷ others))
   inserted_at order.Less number was old books later checks others had are set = ((refl, heard), ((refl, had), are))
   inserted_at order.Equal number was old books later checks others had are set = ((refl, heard), are)
   inserted_at order.Greater number was old books later checks others had are set = ((refl, had), set)
 
   pub checks_inserted : (books : Books) (checks : List (ℕ × HistoryCheck)) → AreChecks books checks
-      → AreChecks (insert_entry cmp books account told) (insert_entry cmp checks account check)
+      → AreChecks (insert_entry cmp books account booked) (insert_entry cmp checks account check)
   checks_inserted [] [] are = ((refl, heard), tt)
   checks_inserted [] (old ∷ checks) are = absurd are
   checks_inserted (book ∷ books) [] are = absurd are
@@ -148,19 +148,19 @@ has_columns (suc (suc (suc zero))) fields one wide =
 has_columns (suc (suc (suc (suc header)))) fields one wide = absurd (omega (arith, one))
 
 -- a fault that the table's reader passes on is that of the meaning
-pub fault_told : (most : ℕ) (known : Option (List ℕ)) (answer : Result Checked TableFault) (why : TableFault) (P : List ℕ → Type 0) (meaning : List ℕ → Result Books RowFault)
+pub fault_booked : (most : ℕ) (known : Option (List ℕ)) (answer : Result Checked TableFault) (why : TableFault) (P : List ℕ → Type 0) (meaning : List ℕ → Result Books RowFault)
     → IsErrAnd answer (λ met. met ≡ why) → IfSome known P → ((text : List ℕ) → P text → RefusesTable why (meaning text))
     → IfSome known (λ text. GivesChecks most (rows_of text) answer (meaning text))
-fault_told most known (Ok checked) why P meaning met holds so = absurd met
-fault_told most known (Err other) why P meaning met holds so = map_known known P _ holds (λ text at. rw met (so text at))
+fault_booked most known (Ok checked) why P meaning met holds so = absurd met
+fault_booked most known (Err other) why P meaning met holds so = map_known known P _ holds (λ text at. rw met (so text at))
 
 -- an entry was heard, by what the check says of it
-pub heard_by : (told : Told) (event : EntryData) (wrong : Option (Result Reply AccountFault))
-    → (wrong ≡ None → IsLegal told.opening told.until told.history → IsAnswered told.opening told.until (reverse told.history) event)
-    → IfSome wrong (λ right. IsLegal told.opening told.until told.history × IsWrong told.opening told.until (reverse told.history) event right)
-    → HearsBy told event wrong
-heard_by told event None answers says = answers refl
-heard_by told event (Some right) answers says = says
+pub heard_by : (booked : Booked) (event : EntryData) (wrong : Option (Result Reply AccountFault))
+    → (wrong ≡ None → IsLegal booked.opening booked.until booked.history → IsAnswered booked.opening booked.until (reverse booked.history) event)
+    → IfSome wrong (λ right. IsLegal booked.opening booked.until booked.history × IsWrong booked.opening booked.until (reverse booked.history) event right)
+    → HearsBy booked event wrong
+heard_by booked event None answers says = answers refl
+heard_by booked event (Some right) answers says = says
 
 -- ---- the wrong rows so far
 
@@ -181,19 +181,19 @@ module _ {R : Type 0} (most : ℕ) (remaining : R → Option (List ℕ)) where
 
   module _ (number : ℕ) (rows : List Fields) (more : Fields) (books next : Books) (before after : List (ℕ × WrongRow)) (number_is : number ≡ length rows + 1)
       (so_far : books_of most rows ≡ Ok books) (now : books_of most (rows ++ more ∷ []) ≡ Ok next) (are : HaveVerdicts most rows books before) where
-    opens_so : (account opening : ℕ) (until : Option ℕ) (found : Option Told) → account_so_far account books ≡ found → opened account opening until books found ≡ Ok next → after ≡ before
+    opens_so : (account opening : ℕ) (until : Option ℕ) (found : Option Booked) → account_so_far account books ≡ found → opened account opening until books found ≡ Ok next → after ≡ before
         → HaveVerdicts most (rows ++ more ∷ []) next after
     opens_so account opening until None none is same =
         let with : with_opening account opening until books ≡ next = cc in
         rw (← with, same) (opening_right most rows more account opening until books before none are)
-    opens_so account opening until (Some told) found is same = cc
+    opens_so account opening until (Some booked) found is same = cc
 
-    enters_so : (account : ℕ) (event : EntryData) (found : Option Told) → account_so_far account books ≡ found → entered_in_books account event books found ≡ Ok next
-        → ((told : Told) → account_so_far account books ≡ Some told → NotesEntry number account told event before after) → HaveVerdicts most (rows ++ more ∷ []) next after
+    enters_so : (account : ℕ) (event : EntryData) (found : Option Booked) → account_so_far account books ≡ found → entered_in_books account event books found ≡ Ok next
+        → ((booked : Booked) → account_so_far account books ≡ Some booked → NotesEntry number account booked event before after) → HaveVerdicts most (rows ++ more ∷ []) next after
     enters_so account event None none is noted = cc
-    enters_so account event (Some told) found is noted =
-        let with : books_with_entry account told event books ≡ next = cc in
-        rw (← with) (entry_right most rows more account books told event found number before after number_is so_far (rw (← with) at now) (noted told found) are)
+    enters_so account event (Some booked) found is noted =
+        let with : books_with_entry account booked event books ≡ next = cc in
+        rw (← with) (entry_right most rows more account books booked event found number before after number_is so_far (rw (← with) at now) (noted booked found) are)
 
     pub right_next : (said : Result RowSaid RowKind) → after_row said (judged_books books) ≡ Ok next → AreNoted number books said before after → HaveVerdicts most (rows ++ more ∷ []) next after
     right_next (Ok (Opens account opening until)) is noted = opens_so account opening until (account_so_far account books) refl is noted
@@ -238,7 +238,7 @@ verdicts_right most rows all [] [] wrongs found are right = tt
 verdicts_right most rows all [] (check ∷ checks) wrongs found are right = absurd are
 verdicts_right most rows all (book ∷ books) [] wrongs found are right = absurd are
 verdicts_right most rows all (book ∷ books) (check ∷ checks) wrongs found are right =
-    let R : Option Told → Type 0 = λ told. HasItsVerdict most rows book.0 told (wrong_of book.0 wrongs) in
+    let R : Option Booked → Type 0 = λ booked. HasItsVerdict most rows book.0 booked (wrong_of book.0 wrongs) in
     ((are.0.0, rw are.0.0 (subst R found.0 (right book.0))), verdicts_right most rows all books checks wrongs found.1 are.1 right)
 
 -- what is said of a table's checks, where the verdicts on its books are those of the checks

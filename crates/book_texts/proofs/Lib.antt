@@ -7,5 +7,5 @@ pub mod ReadBooks
 pub mod SumLines
 pub mod TextLemmas
 pub mod AboveLemmas
-pub mod ToldLemmas
+pub mod BookedLemmas
 pub mod WrongLemmas

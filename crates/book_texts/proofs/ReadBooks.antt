@@ -34,7 +34,7 @@ use Rattle.tariff_core.specs.declared.times.TimeInfo.TheVariants as info
 use Rattle.book_texts.specs.Audits.{AreVerdicts, IsAuditOf, IsSummedUp, AccountVerdict, all_sum_lines, audited, passed_books}
 use Rattle.book_texts.specs.BookRows.{Enters, Opens, book_account_in, columns_in, entry_in, opening_in, row_said_in}
 use Rattle.book_texts.specs.BookTexts.{asks_steps, book_text, history_has_steps, version_of}
-use Rattle.book_texts.specs.Books.{Books, Told, books_form, row_at}
+use Rattle.book_texts.specs.Books.{Books, Booked, books_form, row_at}
 use Rattle.book_texts.specs.Laws.{BooksAreRead, PrintedBooksHaveTheirLines, PrintedBooksPass}
 use Rattle.book_texts.specs.Printable.{ArePrintable, FitsBook, row_count, account_of_book}
 use Rattle.book_texts.specs.RunTexts.{account_line, call_line, line_in}
@@ -52,23 +52,23 @@ later_is_above : (first later : ℕ) → nat_cmp first later ≡ order.Less → 
 later_is_above first later less = grind (arith, nat_tests)
 
 module _ (account : ℕ) where
-  not_told : (front : Books) → IsAbove account front → lookup (is_at (nat_cmp account)) front ≡ None
-  not_told [] above = refl
-  not_told (other ∷ front) above = rw above.0 (not_told front above.1)
+  not_booked : (front : Books) → IsAbove account front → lookup (is_at (nat_cmp account)) front ≡ None
+  not_booked [] above = refl
+  not_booked (other ∷ front) above = rw above.0 (not_booked front above.1)
 
-  opened_last : (front : Books) (told : Told) → IsAbove account front → insert_entry nat_cmp front account told ≡ front ++ (account, told) ∷ []
-  opened_last [] told above = refl
-  opened_last (other ∷ front) told above = rw above.0 (ap (λ l. other ∷ l) (opened_last front told above.1))
+  opened_last : (front : Books) (booked : Booked) → IsAbove account front → insert_entry nat_cmp front account booked ≡ front ++ (account, booked) ∷ []
+  opened_last [] booked above = refl
+  opened_last (other ∷ front) booked above = rw above.0 (ap (λ l. other ∷ l) (opened_last front booked above.1))
 
-  told_last : (front : Books) (told : Told) → IsAbove account front → lookup (is_at (nat_cmp account)) (front ++ (account, told) ∷ []) ≡ Some told
-  told_last [] told above = rw (itself account) refl
-  told_last (other ∷ front) told above = rw above.0 (told_last front told above.1)
+  booked_last : (front : Books) (booked : Booked) → IsAbove account front → lookup (is_at (nat_cmp account)) (front ++ (account, booked) ∷ []) ≡ Some booked
+  booked_last [] booked above = rw (itself account) refl
+  booked_last (other ∷ front) booked above = rw above.0 (booked_last front booked above.1)
 
-  set_last : (front : Books) (was told : Told) → IsAbove account front → set_value (is_at (nat_cmp account)) (front ++ (account, was) ∷ []) told ≡ front ++ (account, told) ∷ []
-  set_last [] was told above = rw (itself account) refl
-  set_last (other ∷ front) was told above = rw above.0 (ap (λ l. other ∷ l) (set_last front was told above.1))
+  set_last : (front : Books) (was booked : Booked) → IsAbove account front → set_value (is_at (nat_cmp account)) (front ++ (account, was) ∷ []) booked ≡ front ++ (account, booked) ∷ []
+  set_last [] was booked above = rw (itself account) refl
+  set_last (other ∷ front) was booked above = rw above.0 (ap (λ l. other ∷ l) (set_last front was booked above.1))
 
-  above_more : (front : Books) (other : ℕ × Told) → IsAbove account front → nat_cmp account other.0 ≡ order.Greater → IsAbove account (front ++ other ∷ [])
+  above_more : (front : Books) (other : ℕ × Booked) → IsAbove account front → nat_cmp account other.0 ≡ order.Greater → IsAbove account (front ++ other ∷ [])
   above_more [] other above last = (last, tt)
   above_more (first ∷ front) other above last = (above.0, above_more front other above.1 last)
 
@@ -283,7 +283,7 @@ module _ (reads : DecimalsAreRead) (operations : OperationsAreRead) (replies : R
     opening_at : (book : Closed) (front : Books) → FitsBook book → IsAbove book.account front
         → row_at version front (opening_fields version book) ≡ Ok (front ++ (book.account, record { opening = book.opening; until = book.until; history = [] }) ∷ [])
     unfolding row_at
-    opening_at book front fits above = rw (opening_said version printed book fits, not_told book.account front above, opened_last book.account front _ above) refl
+    opening_at book front fits above = rw (opening_said version printed book fits, not_booked book.account front above, opened_last book.account front _ above) refl
 
     entry_at : (account opening : ℕ) (until : Option ℕ) (before : List EntryData) (event : EntryData) (front : Books) → account ≤ 4294967295 → FitsEvent event
         → PrintsWhole version event.asked → IsAbove account front
@@ -291,7 +291,7 @@ module _ (reads : DecimalsAreRead) (operations : OperationsAreRead) (replies : R
         ≡ Ok (front ++ (account, record { opening = opening; until = until; history = before ++ event ∷ [] }) ∷ [])
     unfolding row_at
     entry_at account opening until before event front small fits prints above =
-        rw (entry_said version printed account event small fits prints, told_last account front _ above, set_last account front _ _ above) refl
+        rw (entry_said version printed account event small fits prints, booked_last account front _ above, set_last account front _ _ above) refl
 
     -- ---- books
 

@@ -9,7 +9,7 @@ use Rattle.account_core.specs.declared.account_sum.AccountSum.{AccountSum}
 use Rattle.account_core.specs.declared.history_check.HistoryCheck.{HistoryCheck}
 use Rattle.table_core.specs.Rows.{Fields}
 use Rattle.book_texts.specs.Audits.{AreVerdicts, IsVerdict, AccountVerdict, all_sum_lines, book_by, summed_line, passed_books, sum_lines, verdict_lines}
-use Rattle.book_texts.specs.Books.{Books, Told}
+use Rattle.book_texts.specs.Books.{Books, Booked}
 use Rattle.book_texts.specs.Checks.{AreChecks, IsCheck, verdicts_of, wrong_of}
 use Rattle.book_texts.specs.RunTexts.{account_text, line_in, call_line_of, call_lines_of}
 use Rattle.book_texts.specs.declared.lines.CallLine.{CallLine}
@@ -42,7 +42,7 @@ and_assoc false b c = refl
 
 -- of a check among those of books, the book and the verdict, and what is said of it behind what is said before
 pub record IsNext (shown : Bool) (most : ℕ) (rows : List Fields) (books : Books) (checks : List (ℕ × HistoryCheck)) (wrongs : List (ℕ × WrongRow)) (i : ℕ) (check : ℕ × HistoryCheck) : Type 0 where
-  pub book : ℕ × Told
+  pub book : ℕ × Booked
   pub is_check : IsCheck book check
   pub is_verdict : IsVerdict most rows book (verdict_of wrongs check)
   pub lines : all_sum_lines shown (take (suc i) books) (verdicts_of (take (suc i) checks) wrongs)
@@ -88,7 +88,7 @@ pub record AreSaid (shown : Bool) (books : Books) (verdicts : List AccountVerdic
 abbrev pub Sums : HistoryCheck → Option AccountSum → Type 0
 Sums check sum = (opening : ℕ) (until : Option ℕ) (h : List EntryData) → IsCheckOf opening until h check → SumsUp opening until h sum
 
-module _ (shown : Bool) (most : ℕ) (rows : List Fields) (book : ℕ × Told) (check : ℕ × HistoryCheck) (is_check : IsCheck book check) where
+module _ (shown : Bool) (most : ℕ) (rows : List Fields) (book : ℕ × Booked) (check : ℕ × HistoryCheck) (is_check : IsCheck book check) where
   -- a check with a sum has no wrong row
   no_wrong : (wrong : Option WrongRow) → IsVerdict most rows book (check.0, wrong) → (sum : AccountSum) → SumsUp book.1.opening book.1.until (reverse book.1.history) (Some sum)
       → is_none wrong ≡ true
@@ -117,8 +117,8 @@ module _ (shown : Bool) (most : ℕ) (rows : List Fields) (books : Books) (check
   pub sum_more : (sum : AccountSum) → Sums check.1 (Some sum)
       → Next (text ++ account_text check.0 sum.opening sum.available sum.entries) (calls ++ map (call_line_of check.0) sum.calls.items)
   sum_more sum sums =
-      let told = next.book.1 in
-      let said = sums told.opening told.until (reverse told.history) next.is_check.1 in
+      let booked = next.book.1 in
+      let said = sums booked.opening booked.until (reverse booked.history) next.is_check.1 in
       let none = no_wrong shown most rows next.book check next.is_check (wrong_of check.0 wrongs) next.is_verdict sum said in
       record {
         lines = rw (so_far.lines, sum_line shown most rows next.book check next.is_check sum said, next.lines, none) refl;
@@ -129,8 +129,8 @@ module _ (shown : Bool) (most : ℕ) (rows : List Fields) (books : Books) (check
 
   pub none_more : Sums check.1 None → Next (text ++ verdict_lines shown (check.0, wrong)) calls
   none_more sums =
-      let told = next.book.1 in
-      let said = sums told.opening told.until (reverse told.history) next.is_check.1 in
+      let booked = next.book.1 in
+      let said = sums booked.opening booked.until (reverse booked.history) next.is_check.1 in
       let some = a_wrong shown most rows next.book check next.is_check (wrong_of check.0 wrongs) next.is_verdict said in
       record {
         lines = rw (so_far.lines, wrong_is, next.lines, some) refl;

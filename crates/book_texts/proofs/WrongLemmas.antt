@@ -5,40 +5,40 @@ use Rattle.std.proofs.lemmas.List.{append_assoc, reverse-append}
 use Rattle.std.specs.Prelude.{◌==◌, if◌then◌else◌}
 use Rattle.account_core.specs.Answers.{IsAnswered, IsLegal, IsLegalPast, answer}
 use Rattle.account_core.specs.Events.{EntryData}
-use Rattle.account_core.specs.Wrong.{IsWrong, response as told_after, reply_or_fault}
+use Rattle.account_core.specs.Wrong.{IsWrong, response as response_after, reply_or_fault}
 use Rattle.account_core.specs.declared.entry.Reply.{Reply}
 use Rattle.account_core.specs.declared.fault.AccountFault.{AccountFault}
 use Rattle.table_core.specs.Rows.{Fields}
 use Rattle.rising_map.proofs.RisingLemmas.{looked_up_at}
 use Rattle.book_texts.specs.Audits.{HasVerdict}
-use Rattle.book_texts.specs.Books.{Books, Told, books_of, account_so_far, books_with_entry, with_opening}
+use Rattle.book_texts.specs.Books.{Books, Booked, books_of, account_so_far, books_with_entry, with_opening}
 use Rattle.book_texts.specs.Checks.{HaveVerdicts, HasItsVerdict, NotesEntry, wrong_of}
 use Rattle.book_texts.specs.Wrongs.{IsWrongRow}
 use Rattle.book_texts.specs.declared.wrong_row.WrongRow.{WrongRow}
-use Rattle.book_texts.proofs.ToldLemmas.{told_set}
+use Rattle.book_texts.proofs.BookedLemmas.{booked_set}
 
 -- what is told of an account with one entry more
-abbrev with_event : Told → EntryData → Told
-with_event told event = record told { history = told.history ++ event ∷ [] }
+abbrev with_event : Booked → EntryData → Booked
+with_event booked event = record booked { history = booked.history ++ event ∷ [] }
 
-module _ (told : Told) (event : EntryData) where
-  legal_is : IsLegal told.opening told.until (told.history ++ event ∷ []) ≡ IsLegalPast told.opening told.until (event ∷ reverse told.history)
-  legal_is = ap (IsLegalPast told.opening told.until) (reverse-append told.history (event ∷ []))
+module _ (booked : Booked) (event : EntryData) where
+  legal_is : IsLegal booked.opening booked.until (booked.history ++ event ∷ []) ≡ IsLegalPast booked.opening booked.until (event ∷ reverse booked.history)
+  legal_is = ap (IsLegalPast booked.opening booked.until) (reverse-append booked.history (event ∷ []))
 
-  still_legal : IsLegal told.opening told.until told.history → IsAnswered told.opening told.until (reverse told.history) event
-      → IsLegal told.opening told.until (told.history ++ event ∷ [])
-  still_legal legal answered = rw (reverse-append told.history (event ∷ [])) (legal, answered)
+  still_legal : IsLegal booked.opening booked.until booked.history → IsAnswered booked.opening booked.until (reverse booked.history) event
+      → IsLegal booked.opening booked.until (booked.history ++ event ∷ [])
+  still_legal legal answered = rw (reverse-append booked.history (event ∷ [])) (legal, answered)
 
-  was_legal : IsLegal told.opening told.until (told.history ++ event ∷ []) → IsLegalPast told.opening told.until (event ∷ reverse told.history)
-  was_legal legal = rw (reverse-append told.history (event ∷ [])) at legal
+  was_legal : IsLegal booked.opening booked.until (booked.history ++ event ∷ []) → IsLegalPast booked.opening booked.until (event ∷ reverse booked.history)
+  was_legal legal = rw (reverse-append booked.history (event ∷ [])) at legal
 
-  told_right : IsAnswered told.opening told.until (reverse told.history) event → told_after told.opening told.until (reverse told.history) event.asked ≡ Ok event.reply
-  told_right answered =
-      ap (λ refused. reply_or_fault refused (answer told.opening told.until (reverse told.history) event.asked)) answered.admissible ∙ ap Ok (sym answered.answered)
+  booked_right : IsAnswered booked.opening booked.until (reverse booked.history) event → booked_after booked.opening booked.until (reverse booked.history) event.asked ≡ Ok event.reply
+  booked_right answered =
+      ap (λ refused. reply_or_fault refused (answer booked.opening booked.until (reverse booked.history) event.asked)) answered.admissible ∙ ap Ok (sym answered.answered)
 
-  not_legal : (right : Result Reply AccountFault) → IsWrong told.opening told.until (reverse told.history) event right
-      → IsLegal told.opening told.until (told.history ++ event ∷ []) → ⊥
-  not_legal right wrong legal = wrong.differs (wrong.is_told ∙ told_right (was_legal legal).1)
+  not_legal : (right : Result Reply AccountFault) → IsWrong booked.opening booked.until (reverse booked.history) event right
+      → IsLegal booked.opening booked.until (booked.history ++ event ∷ []) → ⊥
+  not_legal right wrong legal = wrong.differs (wrong.is_booked ∙ booked_right (was_legal legal).1)
 
 -- ---- a row further
 
@@ -52,77 +52,77 @@ module _ (most : ℕ) (rows : List Fields) (more : Fields) where
     number = is.number;
     books = is.books;
     so_far = is.so_far;
-    told = is.told;
+    booked = is.booked;
     of_account = is.of_account;
     enters = is.enters;
     legal = is.legal;
     is_wrong = is.is_wrong;
   }
 
-  verdict_kept : (account : ℕ) (told : Told) (wrong : Option WrongRow) → HasVerdict most rows account told wrong → HasVerdict most (rows ++ more ∷ []) account told wrong
-  verdict_kept account told None legal = legal
-  verdict_kept account told (Some wrong) (not, row) = (not, row_kept account wrong row)
+  verdict_kept : (account : ℕ) (booked : Booked) (wrong : Option WrongRow) → HasVerdict most rows account booked wrong → HasVerdict most (rows ++ more ∷ []) account booked wrong
+  verdict_kept account booked None legal = legal
+  verdict_kept account booked (Some wrong) (not, row) = (not, row_kept account wrong row)
 
-  right_kept : (account : ℕ) (told : Option Told) (wrong : Option WrongRow) → HasItsVerdict most rows account told wrong → HasItsVerdict most (rows ++ more ∷ []) account told wrong
+  right_kept : (account : ℕ) (booked : Option Booked) (wrong : Option WrongRow) → HasItsVerdict most rows account booked wrong → HasItsVerdict most (rows ++ more ∷ []) account booked wrong
   right_kept account None wrong none = none
-  right_kept account (Some told) wrong has = verdict_kept account told wrong has
+  right_kept account (Some booked) wrong has = verdict_kept account booked wrong has
 
   -- an account that opens has no wrong row
-  opens_right : (account : ℕ) (found : Option Told) (wrong : Option WrongRow) (told : Told) → told.history ≡ [] → found ≡ None → HasItsVerdict most rows account found wrong
-      → HasItsVerdict most (rows ++ more ∷ []) account (Some told) wrong
-  opens_right account None wrong told empty none is = rw (is, empty) tt
-  opens_right account (Some other) wrong told empty none is = cc
+  opens_right : (account : ℕ) (found : Option Booked) (wrong : Option WrongRow) (booked : Booked) → booked.history ≡ [] → found ≡ None → HasItsVerdict most rows account found wrong
+      → HasItsVerdict most (rows ++ more ∷ []) account (Some booked) wrong
+  opens_right account None wrong booked empty none is = rw (is, empty) tt
+  opens_right account (Some other) wrong booked empty none is = cc
 
   same_number : (one other : ℕ) → (one == other) ≡ true → one ≡ other
   same_number one other same = grind (arith, nat_tests)
 
-  opened_at : (same : Bool) (account other : ℕ) (told : Told) (found : Option Told) (wrong : Option WrongRow) → told.history ≡ [] → (same ≡ true → found ≡ None)
-      → HasItsVerdict most rows other found wrong → HasItsVerdict most (rows ++ more ∷ []) other (if same then Some told else found) wrong
-  opened_at true account other told found wrong empty none is = opens_right other found wrong told empty (none refl) is
-  opened_at false account other told found wrong empty none is = right_kept other found wrong is
+  opened_at : (same : Bool) (account other : ℕ) (booked : Booked) (found : Option Booked) (wrong : Option WrongRow) → booked.history ≡ [] → (same ≡ true → found ≡ None)
+      → HasItsVerdict most rows other found wrong → HasItsVerdict most (rows ++ more ∷ []) other (if same then Some booked else found) wrong
+  opened_at true account other booked found wrong empty none is = opens_right other found wrong booked empty (none refl) is
+  opened_at false account other booked found wrong empty none is = right_kept other found wrong is
 
   pub opening_right : (account opening : ℕ) (until : Option ℕ) (books : Books) (wrongs : List (ℕ × WrongRow)) → account_so_far account books ≡ None → HaveVerdicts most rows books wrongs
       → HaveVerdicts most (rows ++ more ∷ []) (with_opening account opening until books) wrongs
   opening_right account opening until books wrongs none are = λ other.
-      let told : Told = record { opening = opening; until = until; history = [] } in
-      rw (looked_up_at account told other books)
-      (opened_at (other == account) account other told (account_so_far other books) (wrong_of other wrongs) refl
+      let booked : Booked = record { opening = opening; until = until; history = [] } in
+      rw (looked_up_at account booked other books)
+      (opened_at (other == account) account other booked (account_so_far other books) (wrong_of other wrongs) refl
       (λ same. rw (same_number other account same) none) (are other))
 
   -- ---- an entry
 
-  module _ (account : ℕ) (books : Books) (told : Told) (event : EntryData) (found : account_so_far account books ≡ Some told) where
-    entered_legal : (wrong : Option WrongRow) → (IsLegal told.opening told.until told.history → IsAnswered told.opening told.until (reverse told.history) event)
-        → HasVerdict most rows account told wrong → HasVerdict most (rows ++ more ∷ []) account (with_event told event) wrong
-    entered_legal None answers legal = still_legal told event legal (answers legal)
-    entered_legal (Some wrong) answers (not, row) = (λ legal. not (was_legal told event legal).0, row_kept account wrong row)
+  module _ (account : ℕ) (books : Books) (booked : Booked) (event : EntryData) (found : account_so_far account books ≡ Some booked) where
+    entered_legal : (wrong : Option WrongRow) → (IsLegal booked.opening booked.until booked.history → IsAnswered booked.opening booked.until (reverse booked.history) event)
+        → HasVerdict most rows account booked wrong → HasVerdict most (rows ++ more ∷ []) account (with_event booked event) wrong
+    entered_legal None answers legal = still_legal booked event legal (answers legal)
+    entered_legal (Some wrong) answers (not, row) = (λ legal. not (was_legal booked event legal).0, row_kept account wrong row)
 
     entered_at : (same : Bool) (other : ℕ) (wrong : Option WrongRow) → (same ≡ true → other ≡ account)
-        → (IsLegal told.opening told.until told.history → IsAnswered told.opening told.until (reverse told.history) event)
+        → (IsLegal booked.opening booked.until booked.history → IsAnswered booked.opening booked.until (reverse booked.history) event)
         → HasItsVerdict most rows other (account_so_far other books) wrong
-        → HasItsVerdict most (rows ++ more ∷ []) other (if same then Some (with_event told event) else account_so_far other books) wrong
+        → HasItsVerdict most (rows ++ more ∷ []) other (if same then Some (with_event booked event) else account_so_far other books) wrong
     entered_at true other wrong one answers is =
-        let H : Option Told → Type 0 = λ t. HasItsVerdict most rows account t wrong in
+        let H : Option Booked → Type 0 = λ t. HasItsVerdict most rows account t wrong in
         let here = subst H found (rw (one refl) at is) in
         rw (one refl) (entered_legal wrong answers here)
     entered_at false other wrong one answers is = right_kept other (account_so_far other books) wrong is
 
     noted_at : (same : Bool) (other : ℕ) (old : Option WrongRow) (wrong : WrongRow) → (same ≡ true → other ≡ account)
-        → HasVerdict most (rows ++ more ∷ []) account (with_event told event) (Some wrong)
+        → HasVerdict most (rows ++ more ∷ []) account (with_event booked event) (Some wrong)
         → HasItsVerdict most rows other (account_so_far other books) old
-        → HasItsVerdict most (rows ++ more ∷ []) other (if same then Some (with_event told event) else account_so_far other books) (if same then Some wrong else old)
+        → HasItsVerdict most (rows ++ more ∷ []) other (if same then Some (with_event booked event) else account_so_far other books) (if same then Some wrong else old)
     noted_at true other old wrong one has is = rw (one refl) has
     noted_at false other old wrong one has is = right_kept other (account_so_far other books) old is
 
     pub entry_right : (number : ℕ) (before after : List (ℕ × WrongRow)) → number ≡ length rows + 1 → books_of most rows ≡ Ok books
-        → books_of most (rows ++ more ∷ []) ≡ Ok (books_with_entry account told event books) → NotesEntry number account told event before after → HaveVerdicts most rows books before
-        → HaveVerdicts most (rows ++ more ∷ []) (books_with_entry account told event books) after
+        → books_of most (rows ++ more ∷ []) ≡ Ok (books_with_entry account booked event books) → NotesEntry number account booked event before after → HaveVerdicts most rows books before
+        → HaveVerdicts most (rows ++ more ∷ []) (books_with_entry account booked event books) after
     entry_right number before after number_is so_far now (inl (answers, same)) are = λ other.
-        rw (told_set account (with_event told event) other books (rw found refl), same)
+        rw (booked_set account (with_event booked event) other books (rw found refl), same)
         (entered_at (other == account) other (wrong_of other before) (same_number other account) answers (are other))
     entry_right number before after number_is so_far now (inr (wrong, row_is, says, heard, added)) are = λ other.
-        let has : HasVerdict most (rows ++ more ∷ []) account (with_event told event) (Some wrong) = (
-          not_legal told event wrong.right heard.1,
+        let has : HasVerdict most (rows ++ more ∷ []) account (with_event booked event) (Some wrong) = (
+          not_legal booked event wrong.right heard.1,
           record {
             above = rows;
             row = more;
@@ -131,12 +131,12 @@ module _ (most : ℕ) (rows : List Fields) (more : Fields) where
             number = row_is ∙ number_is;
             books = books;
             so_far = so_far;
-            told = told;
+            booked = booked;
             of_account = found;
             enters = rw says now;
             legal = heard.0;
             is_wrong = rw says heard.1;
           },
         ) in
-        rw (told_set account (with_event told event) other books (rw found refl), added, looked_up_at account wrong other before)
+        rw (booked_set account (with_event booked event) other books (rw found refl), added, looked_up_at account wrong other before)
         (noted_at (other == account) other (wrong_of other before) wrong (same_number other account) has (are other))

@@ -10,7 +10,7 @@ use Rattle.table_core.specs.Faults.{RefusesTable}
 use Rattle.table_core.specs.Rows.{Fields}
 use Rattle.table_core.specs.declared.fault.RowFault.{RowFault}
 use Rattle.table_core.specs.declared.fault.TableFault.{TableFault}
-use Rattle.book_texts.specs.Books.{Books, Told, books_of}
+use Rattle.book_texts.specs.Books.{Books, Booked, books_of}
 use Rattle.book_texts.specs.RunTexts.{AreCallLines, account_text, call_line}
 use Rattle.book_texts.specs.Wrongs.{IsWrongRow, wrong_line}
 use Rattle.book_texts.specs.declared.lines.CallLine.{CallLine}
@@ -21,12 +21,12 @@ abbrev pub AccountVerdict : Type 0
 AccountVerdict = ℕ × Option WrongRow
 
 -- the history of an account is legal from its opening; or it isn't, and this row is the first that is wrong
-abbrev pub HasVerdict : ℕ → List Fields → ℕ → Told → Option WrongRow → Type 0
-HasVerdict most rows account told None = IsLegal told.opening told.until told.history
-HasVerdict most rows account told (Some wrong) = (IsLegal told.opening told.until told.history → ⊥) × IsWrongRow most rows account wrong
+abbrev pub HasVerdict : ℕ → List Fields → ℕ → Booked → Option WrongRow → Type 0
+HasVerdict most rows account booked None = IsLegal booked.opening booked.until booked.history
+HasVerdict most rows account booked (Some wrong) = (IsLegal booked.opening booked.until booked.history → ⊥) × IsWrongRow most rows account wrong
 
 -- the verdict on an account
-abbrev pub IsVerdict : ℕ → List Fields → ℕ × Told → AccountVerdict → Type 0
+abbrev pub IsVerdict : ℕ → List Fields → ℕ × Booked → AccountVerdict → Type 0
 IsVerdict most rows book verdict = (verdict.0 ≡ book.0) × HasVerdict most rows book.0 book.1 verdict.1
 
 -- a verdict on each account, in order
@@ -61,8 +61,8 @@ abbrev pub audited : Bool → List AccountVerdict → Audited
 audited shown verdicts = record { lines = flat_map (verdict_lines shown) verdicts; passes = list_all (λ verdict. is_none verdict.1) verdicts }
 
 -- the book of what is told of an account
-abbrev pub book_by : ℕ × Told → Closed
-book_by (account, told) = record { account = account; opening = told.opening; until = told.until; limit = length told.history; history = told.history }
+abbrev pub book_by : ℕ × Booked → Closed
+book_by (account, booked) = record { account = account; opening = booked.opening; until = booked.until; limit = length booked.history; history = booked.history }
 
 -- the books of the accounts whose verdict is yes
 abbrev pub passed_books : Books → List AccountVerdict → List Closed
@@ -75,7 +75,7 @@ abbrev pub summed_line : Closed → List ℕ
 summed_line book = account_text book.account book.opening (available book.opening (reverse book.history)) (entries_counted (length book.history))
 
 -- what is said of an account: what it came to, where its verdict is yes; else its verdict
-abbrev pub sum_lines : Bool → ℕ × Told → AccountVerdict → List ℕ
+abbrev pub sum_lines : Bool → ℕ × Booked → AccountVerdict → List ℕ
 sum_lines shown book verdict = if is_none verdict.1 then summed_line (book_by book) else verdict_lines shown verdict
 
 -- the same of each account

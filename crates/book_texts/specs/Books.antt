@@ -14,17 +14,17 @@ use Rattle.table_core.specs.declared.fault.RowKind.TheVariants as kind
 use Rattle.book_texts.specs.BookRows.{Enters, Opens, RowSaid, columns_in, row_said_in}
 
 -- the opening credit of an account, its last moment, if it has one, and its entries, oldest first
-pub record Told : Type 0 where
+pub record Booked : Type 0 where
   pub opening : ℕ
   pub until : Option ℕ
   pub history : List EntryData
 
 -- what is told of each account, by rising number
 abbrev pub Books : Type 0
-Books = List (ℕ × Told)
+Books = List (ℕ × Booked)
 
 -- what was told of an account so far
-abbrev pub account_so_far : ℕ → Books → Option Told
+abbrev pub account_so_far : ℕ → Books → Option Booked
 account_so_far account books = lookup (is_at (nat_cmp account)) books
 
 -- the books with one account more
@@ -32,18 +32,18 @@ abbrev pub with_opening : ℕ → ℕ → Option ℕ → Books → Books
 with_opening account opening until books = insert_entry nat_cmp books account (record { opening = opening; until = until; history = [] })
 
 -- the books with one entry more of an account
-abbrev pub books_with_entry : ℕ → Told → EntryData → Books → Books
-books_with_entry account told event books = set_value (is_at (nat_cmp account)) books (record told { history = told.history ++ event ∷ [] })
+abbrev pub books_with_entry : ℕ → Booked → EntryData → Books → Books
+books_with_entry account booked event books = set_value (is_at (nat_cmp account)) books (record booked { history = booked.history ++ event ∷ [] })
 
 -- an account opens once
-abbrev pub opened : ℕ → ℕ → Option ℕ → Books → Option Told → Result Books RowKind
+abbrev pub opened : ℕ → ℕ → Option ℕ → Books → Option Booked → Result Books RowKind
 opened account opening until books None = Ok (with_opening account opening until books)
-opened account opening until books (Some told) = Err kind.Repeated
+opened account opening until books (Some booked) = Err kind.Repeated
 
 -- and has entries after that
-abbrev pub entered_in_books : ℕ → EntryData → Books → Option Told → Result Books RowKind
+abbrev pub entered_in_books : ℕ → EntryData → Books → Option Booked → Result Books RowKind
 entered_in_books account event books None = Err kind.Unknown
-entered_in_books account event books (Some told) = Ok (books_with_entry account told event books)
+entered_in_books account event books (Some booked) = Ok (books_with_entry account booked event books)
 
 -- the books after a row that says this
 abbrev pub judged_books : Books → RowSaid → Result Books RowKind

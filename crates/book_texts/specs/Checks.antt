@@ -19,7 +19,7 @@ use Rattle.table_core.specs.declared.fault.RowKind.{RowKind}
 use Rattle.table_core.specs.declared.fault.TableFault.{TableFault}
 use Rattle.book_texts.specs.Audits.{Audited, HasVerdict, AccountVerdict}
 use Rattle.book_texts.specs.BookRows.{Enters, RowSaid}
-use Rattle.book_texts.specs.Books.{Books, Told, account_so_far}
+use Rattle.book_texts.specs.Books.{Books, Booked, account_so_far}
 use Rattle.book_texts.specs.declared.account_checks.AccountChecks.{AccountChecks}
 use Rattle.book_texts.specs.declared.account_checks.AccountChecks.TheVariants.{Rising, Mixed}
 use Rattle.book_texts.specs.declared.audit.Audit.{Audit}
@@ -27,7 +27,7 @@ use Rattle.book_texts.specs.declared.audit.Checked.{Checked}
 use Rattle.book_texts.specs.declared.wrong_row.WrongRow.{WrongRow}
 
 -- an account's check has heard its history
-abbrev pub IsCheck : ℕ × Told → ℕ × HistoryCheck → Type 0
+abbrev pub IsCheck : ℕ × Booked → ℕ × HistoryCheck → Type 0
 IsCheck book check = (check.0 ≡ book.0) × IsCheckOf book.1.opening book.1.until (reverse book.1.history) check.1
 
 -- each account has its check, in order
@@ -63,15 +63,15 @@ Comes before (Some kind) (Ok books) checks = ⊥
 Comes before (Some kind) (Err why) checks = (kind ≡ why) × HaveChecks before checks
 
 -- an entry of an account was heard: it is what the account answers, where the history before it is legal; or that history is legal, and this is what the account answers in its place
-abbrev pub HearsBy : Told → EntryData → Option (Result Reply AccountFault) → Type 0
-HearsBy told event None = IsLegal told.opening told.until told.history → IsAnswered told.opening told.until (reverse told.history) event
-HearsBy told event (Some right) = IsLegal told.opening told.until told.history × IsWrong told.opening told.until (reverse told.history) event right
+abbrev pub HearsBy : Booked → EntryData → Option (Result Reply AccountFault) → Type 0
+HearsBy booked event None = IsLegal booked.opening booked.until booked.history → IsAnswered booked.opening booked.until (reverse booked.history) event
+HearsBy booked event (Some right) = IsLegal booked.opening booked.until booked.history × IsWrong booked.opening booked.until (reverse booked.history) event right
 
 -- an entry was heard, or refused, since nothing was told of its account
-abbrev pub IsHeard : Option Told → EntryData → Result (Option (Result Reply AccountFault)) RowKind → Type 0
+abbrev pub IsHeard : Option Booked → EntryData → Result (Option (Result Reply AccountFault)) RowKind → Type 0
 IsHeard None event (Ok wrong) = ⊥
-IsHeard (Some told) event (Ok wrong) = HearsBy told event wrong
-IsHeard told event (Err kind) = told ≡ None
+IsHeard (Some booked) event (Ok wrong) = HearsBy booked event wrong
+IsHeard booked event (Err kind) = booked ≡ None
 
 -- ---- wrong rows
 
@@ -80,23 +80,23 @@ abbrev pub wrong_of : ℕ → List (ℕ × WrongRow) → Option WrongRow
 wrong_of account wrongs = lookup (is_at (nat_cmp account)) wrongs
 
 -- what is told of an account, if it is open, has its verdict by the rows so far
-abbrev pub HasItsVerdict : ℕ → List Fields → ℕ → Option Told → Option WrongRow → Type 0
+abbrev pub HasItsVerdict : ℕ → List Fields → ℕ → Option Booked → Option WrongRow → Type 0
 HasItsVerdict most rows account None wrong = wrong ≡ None
-HasItsVerdict most rows account (Some told) wrong = HasVerdict most rows account told wrong
+HasItsVerdict most rows account (Some booked) wrong = HasVerdict most rows account booked wrong
 
 -- each account has its verdict by these rows
 abbrev pub HaveVerdicts : ℕ → List Fields → Books → List (ℕ × WrongRow) → Type 0
 HaveVerdicts most rows books wrongs = (account : ℕ) → HasItsVerdict most rows account (account_so_far account books) (wrong_of account wrongs)
 
 -- an entry of an account in the row of a number adds itself to the wrong rows, where it is the first that is wrong
-abbrev pub NotesEntry : ℕ → ℕ → Told → EntryData → List (ℕ × WrongRow) → List (ℕ × WrongRow) → Type 0
-NotesEntry number account told event before after =
-    ((IsLegal told.opening told.until told.history → IsAnswered told.opening told.until (reverse told.history) event) × (after ≡ before))
-    ⊎ ((wrong : WrongRow) × (wrong.row ≡ number) × (entry_data wrong.entry ≡ event) × HearsBy told event (Some wrong.right) × (after ≡ insert_entry nat_cmp before account wrong))
+abbrev pub NotesEntry : ℕ → ℕ → Booked → EntryData → List (ℕ × WrongRow) → List (ℕ × WrongRow) → Type 0
+NotesEntry number account booked event before after =
+    ((IsLegal booked.opening booked.until booked.history → IsAnswered booked.opening booked.until (reverse booked.history) event) × (after ≡ before))
+    ⊎ ((wrong : WrongRow) × (wrong.row ≡ number) × (entry_data wrong.entry ≡ event) × HearsBy booked event (Some wrong.right) × (after ≡ insert_entry nat_cmp before account wrong))
 
 -- what a row says is noted so: an opening adds nothing
 abbrev pub AreNoted : ℕ → Books → Result RowSaid RowKind → List (ℕ × WrongRow) → List (ℕ × WrongRow) → Type 0
-AreNoted number books (Ok (Enters account event)) before after = (told : Told) → account_so_far account books ≡ Some told → NotesEntry number account told event before after
+AreNoted number books (Ok (Enters account event)) before after = (booked : Booked) → account_so_far account books ≡ Some booked → NotesEntry number account booked event before after
 AreNoted number books said before after = after ≡ before
 
 -- ---- all of a table

@@ -5,7 +5,7 @@ use Rattle.std.specs.List.Sorted.{IsStrictlySortedBy}
 use Rattle.std.specs.Ordering.{nat_cmp}
 use Rattle.entry_rows.specs.Fits.{FitsEvent, IsMoment, IsMoney}
 use Rattle.shared_account.specs.Closed.{Closed}
-use Rattle.book_texts.specs.Books.{Told}
+use Rattle.book_texts.specs.Books.{Booked}
 
 -- each number of a book is in the range of its column
 pub record FitsBook (book : Closed) : Type 0 where
@@ -26,5 +26,5 @@ pub record ArePrintable (most : ℕ) (books : List Closed) : Type 0 where
   pub room : row_count books ≤ most
 
 -- what is told of the account of a book
-abbrev pub account_of_book : Closed → ℕ × Told
+abbrev pub account_of_book : Closed → ℕ × Booked
 account_of_book book = (book.account, record { opening = book.opening; until = book.until; history = book.history })

@@ -4,9 +4,9 @@ use Rattle.std.specs.Fmt.{decimal}
 use Rattle.account_core.specs.Answers.{IsLegal}
 use Rattle.account_core.specs.Events.{entry_data}
 use Rattle.account_core.specs.Wrong.{IsWrong}
-use Rattle.entry_rows.specs.Told.{reply_text, told_text, operation_word}
+use Rattle.entry_rows.specs.Responses.{reply_text, response_text, operation_word}
 use Rattle.table_core.specs.Rows.{Fields}
-use Rattle.book_texts.specs.Books.{Books, Told, books_of, account_so_far, books_with_entry}
+use Rattle.book_texts.specs.Books.{Books, Booked, books_of, account_so_far, books_with_entry}
 use Rattle.book_texts.specs.declared.wrong_row.WrongRow.{WrongRow}
 
 -- a row of a table enters an operation of an account, of which the rows above it make a legal history. Its reply isn't what an account answers after that; what one answers is right
@@ -18,14 +18,14 @@ pub record IsWrongRow (most : ℕ) (rows : List Fields) (account : ℕ) (wrong :
   pub number : wrong.row ≡ length above + 1
   pub books : Books
   pub so_far : books_of most above ≡ Ok books
-  pub told : Told
-  pub of_account : account_so_far account books ≡ Some told
-  pub enters : books_of most (above ++ row ∷ []) ≡ Ok (books_with_entry account told (entry_data wrong.entry) books)
-  pub legal : IsLegal told.opening told.until told.history
-  pub is_wrong : IsWrong told.opening told.until (reverse told.history) (entry_data wrong.entry) wrong.right
+  pub booked : Booked
+  pub of_account : account_so_far account books ≡ Some booked
+  pub enters : books_of most (above ++ row ∷ []) ≡ Ok (books_with_entry account booked (entry_data wrong.entry) books)
+  pub legal : IsLegal booked.opening booked.until booked.history
+  pub is_wrong : IsWrong booked.opening booked.until (reverse booked.history) (entry_data wrong.entry) wrong.right
 
 -- `account A row N: OPERATION: REPLY, is REPLY`: the reply of the row, and the right one
 abbrev pub wrong_line : ℕ → WrongRow → List ℕ
 wrong_line account wrong =
     codes "account " ++ (decimal account ++ (codes " row " ++ (decimal wrong.row ++ (codes ": " ++ (operation_word (entry_data wrong.entry).asked
-    ++ (codes ": " ++ (reply_text wrong.entry.reply ++ (codes ", is " ++ (told_text wrong.right ++ codes "\n")))))))))
+    ++ (codes ": " ++ (reply_text wrong.entry.reply ++ (codes ", is " ++ (response_text wrong.right ++ codes "\n")))))))))

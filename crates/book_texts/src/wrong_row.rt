@@ -4,7 +4,7 @@ ghost use Rattle.std.specs.Prelude.{◌≡◌, ◌++◌, OnOk, string_bytes};
 ghost use Rattle.book_texts.specs.Wrongs.{wrong_line};
 
 use account_core::{AccountFault, Entry, Reply};
-use entry_rows::{op_word, write_reply, write_told};
+use entry_rows::{op_word, write_reply, write_response};
 use std::alloc::AllocError;
 
 /// The first row of an account whose reply isn't what an account answers.
@@ -31,6 +31,6 @@ pub(crate) fn write_wrong(
     write!(lines, "account {account} row {row}: {word}: ")?;
     write_reply(lines, wrong.entry.reply)?;
     lines.push_str(", is ")?;
-    write_told(lines, wrong.right)?;
+    write_response(lines, wrong.right)?;
     lines.push('\n')
 }

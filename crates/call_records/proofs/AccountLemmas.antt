@@ -11,7 +11,7 @@ use Rattle.tariff_core.specs.Rates.{Rates}
 use Rattle.account_core.specs.declared.call_sum.CallSum.{CallSum}
 use Rattle.shared_account.specs.Closed.{Closed}
 use Rattle.call_records.proofs.CallLemmas.{next_item}
-use Rattle.call_records.specs.Kept.{AreCallsOf, TellCalls}
+use Rattle.call_records.specs.Kept.{AreCallsOf, KnowCalls}
 use Rattle.call_records.specs.Standings.{book_of}
 use Rattle.call_records.specs.declared.accounts.AccountCalls.{AccountCalls}
 
@@ -59,7 +59,7 @@ same_number number other = grind (arith, nat_tests)
 
 -- one that has none gets those of the book
 pub calls_opened : (kept : Option AccountCalls) (found : Option Closed) (passes : Bool) (book : Closed) (calls : AccountCalls) → (passes ≡ true → is_some kept ≡ false)
-    → TellCalls calls (reverse book.history) → AreCallsOf kept found
+    → KnowCalls calls (reverse book.history) → AreCallsOf kept found
     → AreCallsOf (cond passes (Some calls) kept) (option_or found (if passes then Some book else None))
 calls_opened None None true book calls new tell are = tell
 calls_opened None None false book calls new tell are = tt

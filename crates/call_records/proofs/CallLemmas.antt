@@ -12,7 +12,7 @@ use Rattle.cap_values.specs.declared.message.SsfMsg.TheVariants as message
 use Rattle.cap_values.specs.declared.message.SsfMsg.{SsfMsg}
 use Rattle.run_values.specs.declared.post.Body.{Body}
 use Rattle.run_values.specs.declared.post.Body.TheVariants as body
-use Rattle.call_records.specs.Calls.{end_by, first_told, report_by, call_reports_of, start_by, start_of, message_of_call}
+use Rattle.call_records.specs.Calls.{end_by, first_said, report_by, call_reports_of, start_by, start_of, message_of_call}
 use Rattle.call_records.specs.declared.reports.CallReports.{CallReports}
 
 -- the first of three is that of the first two, or the third
@@ -25,27 +25,27 @@ or_none None = refl
 or_none (Some x) = refl
 
 -- what is first told with one post more
-pub told_more : {X : Type 0} (call : ℕ) (tell : ℕ → SsfMsg → Option X) (given : List (ℕ × Body)) (post : ℕ × Body)
-    → first_told call tell (given ++ post ∷ []) ≡ option_or (first_told call tell given) (message_of_call call (tell post.0) post.1)
-told_more call tell [] post = or_none (message_of_call call (tell post.0) post.1)
-told_more call tell (first ∷ given) post =
-    ap (λ later. option_or (message_of_call call (tell first.0) first.1) later) (told_more call tell given post)
-    ∙ either (message_of_call call (tell first.0) first.1) (first_told call tell given) (message_of_call call (tell post.0) post.1)
+pub said_more : {X : Type 0} (call : ℕ) (tell : ℕ → SsfMsg → Option X) (given : List (ℕ × Body)) (post : ℕ × Body)
+    → first_said call tell (given ++ post ∷ []) ≡ option_or (first_said call tell given) (message_of_call call (tell post.0) post.1)
+said_more call tell [] post = or_none (message_of_call call (tell post.0) post.1)
+said_more call tell (first ∷ given) post =
+    ap (λ later. option_or (message_of_call call (tell first.0) first.1) later) (said_more call tell given post)
+    ∙ either (message_of_call call (tell first.0) first.1) (first_said call tell given) (message_of_call call (tell post.0) post.1)
 
 -- what is known, or what is told now
 abbrev pub known_or : Option ℕ → Option ℕ → Option ℕ
 known_or known None = known
 known_or known (Some moment) = option_or known (Some moment)
 
-is_known_or : (known told : Option ℕ) → option_or known told ≡ known_or known told
+is_known_or : (known said_so : Option ℕ) → option_or known said_so ≡ known_or known said_so
 is_known_or known None = or_none known
 is_known_or known (Some moment) = refl
 
-is_told : (known told : Option ℕ) → is_some (option_or known told) ≡ is_some told || is_some known
-is_told None None = refl
-is_told None (Some moment) = refl
-is_told (Some known) None = refl
-is_told (Some known) (Some moment) = refl
+is_said_so : (known said_so : Option ℕ) → is_some (option_or known said_so) ≡ is_some said_so || is_some known
+is_said_so None None = refl
+is_said_so None (Some moment) = refl
+is_said_so (Some known) None = refl
+is_said_so (Some known) (Some moment) = refl
 
 -- the reports after a post that tells this
 abbrev pub reports_with : CallReports → ((ℕ → SsfMsg → Option ℕ) → Option ℕ) → CallReports
@@ -63,11 +63,11 @@ module _ (call : ℕ) (given : List (ℕ × Body)) (post : ℕ × Body) where
   abbrev tells : (ℕ → SsfMsg → Option ℕ) → Option ℕ
   tells tell = message_of_call call (tell post.0) post.1
 
-  moment_more : (tell : ℕ → SsfMsg → Option ℕ) → first_told call tell (given ++ post ∷ []) ≡ known_or (first_told call tell given) (tells tell)
-  moment_more tell = told_more call tell given post ∙ is_known_or (first_told call tell given) (tells tell)
+  moment_more : (tell : ℕ → SsfMsg → Option ℕ) → first_said call tell (given ++ post ∷ []) ≡ known_or (first_said call tell given) (tells tell)
+  moment_more tell = said_more call tell given post ∙ is_known_or (first_said call tell given) (tells tell)
 
-  mark_more : (tell : ℕ → SsfMsg → Option ℕ) → is_some (first_told call tell (given ++ post ∷ [])) ≡ is_some (tells tell) || is_some (first_told call tell given)
-  mark_more tell = ap is_some (told_more call tell given post) ∙ is_told (first_told call tell given) (tells tell)
+  mark_more : (tell : ℕ → SsfMsg → Option ℕ) → is_some (first_said call tell (given ++ post ∷ [])) ≡ is_some (tells tell) || is_some (first_said call tell given)
+  mark_more tell = ap is_some (said_more call tell given post) ∙ is_said_so (first_said call tell given) (tells tell)
 
   pub reports_more : call_reports_of call (given ++ post ∷ []) ≡ reports_with (call_reports_of call given) tells
   reports_more = λ i. record {
@@ -112,7 +112,7 @@ reports_kept call other given at msg after was false differs are had = had ∙ s
 pub no_start : (call : ℕ) (given : List (ℕ × Body)) (post : ℕ × Body) → message_of_call call (start_by post.0) post.1 ≡ None
     → start_of call given ≡ start_of call (given ++ post ∷ [])
 no_start call given post none =
-    sym (told_more call start_by given post ∙ ap (λ s. option_or (start_of call given) s) none ∙ or_none (start_of call given))
+    sym (said_more call start_by given post ∙ ap (λ s. option_or (start_of call given) s) none ∙ or_none (start_of call given))
 
 -- the reports of a call after a message more of it
 pub message_kept : (call : ℕ) (given : List (ℕ × Body)) (at : ℕ) (msg : SsfMsg) (reports : CallReports) → reports ≡ call_reports_of call given

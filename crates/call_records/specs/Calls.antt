@@ -18,9 +18,9 @@ message_of_call call tell (body.Ssf other msg) = if other == call then tell msg 
 message_of_call call tell (body.Recharge account amount until) = None
 
 -- what the first message of a call says that says anything, at its moment
-abbrev pub first_told : {X : Type 0} → ℕ → (ℕ → SsfMsg → Option X) → List (ℕ × Body) → Option X
-first_told call tell [] = None
-first_told call tell (post ∷ posts) = option_or (message_of_call call (tell post.0) post.1) (first_told call tell posts)
+abbrev pub first_said : {X : Type 0} → ℕ → (ℕ → SsfMsg → Option X) → List (ℕ × Body) → Option X
+first_said call tell [] = None
+first_said call tell (post ∷ posts) = option_or (message_of_call call (tell post.0) post.1) (first_said call tell posts)
 
 -- an InitialDp starts its call
 abbrev pub start_by : ℕ → SsfMsg → Option Start
@@ -39,7 +39,7 @@ report_by event at _ = None
 
 -- the start of a call
 abbrev pub start_of : ℕ → List (ℕ × Body) → Option Start
-start_of call given = first_told call start_by given
+start_of call given = first_said call start_by given
 
 -- the calling and the called number that a call starts with
 abbrev pub parties_of : ℕ → List (ℕ × Body) → Option (Number × Number)
@@ -47,7 +47,7 @@ parties_of call given = option_map (λ start. (start.calling, start.called)) (st
 
 -- the moment at which an event of a call was reported
 abbrev pub reported_at : Event → ℕ → List (ℕ × Body) → Option ℕ
-reported_at event call given = first_told call (report_by event) given
+reported_at event call given = first_said call (report_by event) given
 
 -- whether it was reported
 abbrev pub is_reported : Event → ℕ → List (ℕ × Body) → Bool
@@ -57,7 +57,7 @@ is_reported event call given = is_some (reported_at event call given)
 abbrev pub call_reports_of : ℕ → List (ℕ × Body) → CallReports
 call_reports_of call given = record {
   answer = reported_at event.Answer call given;
-  end = first_told call end_by given;
+  end = first_said call end_by given;
   busy = is_reported event.CalledPartyBusy call given;
   no_answer = is_reported event.NoAnswer call given;
   route_failed = is_reported event.RouteSelectFailure call given;

@@ -52,7 +52,7 @@ abbrev pub HavePaid : List (ℕ × ℕ) → List EntryData → Type 0
 HavePaid paid h = (call : ℕ) → lookup (is_at (nat_cmp call)) paid ≡ paid_if_granted (known call h)
 
 -- what is kept of an account's calls is what its history says
-pub record TellCalls (calls : AccountCalls) (h : List EntryData) : Type 0 where
+pub record KnowCalls (calls : AccountCalls) (h : List EntryData) : Type 0 where
   pub marks : HaveMarks calls.marks h
   pub paid : HavePaid calls.paid h
 
@@ -61,7 +61,7 @@ abbrev pub AreCallsOf : Option AccountCalls → Option Closed → Type 0
 AreCallsOf None None = ⊤
 AreCallsOf None (Some book) = ⊥
 AreCallsOf (Some calls) None = ⊥
-AreCallsOf (Some calls) (Some book) = TellCalls calls (reverse book.history)
+AreCallsOf (Some calls) (Some book) = KnowCalls calls (reverse book.history)
 
 -- the map has the calls of the first book of each account
 abbrev pub HaveAccounts : BTreeMap ℕ AccountCalls → List Closed → Type 0

@@ -7,7 +7,7 @@ ghost use Rattle.std.specs.Option.{option_or};
 ghost use Rattle.std.specs.Ordering.{nat_cmp};
 ghost use Rattle.account_core.specs.Events.{EntryData};
 ghost use Rattle.account_core.specs.Sums.{AreSums};
-ghost use Rattle.call_records.specs.Kept.{HaveAccounts, HavePaid, TellCalls};
+ghost use Rattle.call_records.specs.Kept.{HaveAccounts, HavePaid, KnowCalls};
 ghost use Rattle.call_records.specs.Standings.{past_of, standing_of};
 ghost use Rattle.shared_account.specs.Closed.{Closed};
 
@@ -31,7 +31,7 @@ pub(crate) struct AccountCalls {
 impl AccountCalls {
     /// Those of a book.
     fn of(alloc: Global, book: &Book) -> Result<AccountCalls, AllocError>
-        ensures { IfOk result (λ calls. TellCalls calls (reverse book.now.history)) }
+        ensures { IfOk result (λ calls. KnowCalls calls (reverse book.now.history)) }
     {
         let summary = book.summary(alloc)?;
         Ok(AccountCalls {
@@ -42,7 +42,7 @@ impl AccountCalls {
 
     /// What the account knows of a call.
     fn standing(&self, call: u64) -> Standing
-        ensures { (h : List EntryData) → TellCalls self.now h → result ≡ standing_of call h }
+        ensures { (h : List EntryData) → KnowCalls self.now h → result ≡ standing_of call h }
     {
         let marks = marks_of(&self.marks, call);
         let used_up = u64::from(marks.times.total()) == marks.total;

@@ -4,6 +4,6 @@ pub mod Fits
 pub mod Laws
 pub mod Operations
 pub mod Replies
-pub mod Told
+pub mod Response
 pub mod Versions
 pub mod Words

@@ -10,8 +10,8 @@ mod laws;
 mod operation;
 mod places;
 mod reply;
+mod response;
 mod seat;
-mod told;
 mod version;
 mod words;
 
@@ -20,7 +20,7 @@ pub use field::Field;
 pub use laws::{operations_are_read, replies_are_read};
 pub use operation::{is_money_blank, is_op_blank, read_op, read_until};
 pub use reply::{is_reply_blank, read_reply};
+pub use response::{op_word, write_reply, write_response};
 pub use seat::read_seat;
-pub use told::{op_word, write_reply, write_told};
 pub use version::Version;
 pub use words::{OpWord, ReplyWord, read_op_word, read_reply_word};

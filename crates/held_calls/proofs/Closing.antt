@@ -20,11 +20,11 @@ use Rattle.run_values.specs.Setups.{Setup}
 use Rattle.run_values.specs.declared.post.Body.TheVariants.{Ssf}
 use Rattle.run_values.specs.declared.post.Post.{Post}
 use Rattle.tariff_core.specs.declared.times.TimeInfo.{TimeInfo}
-use Rattle.workers_core.proofs.Abouts.{kept_got, no_settle, talked_about}
+use Rattle.workers_core.proofs.OwnCalls.{kept_got, no_settle, talked_about}
 use Rattle.workers_core.proofs.Chaining.{all_sound, first_sound, handled_so}
 use Rattle.workers_core.proofs.Growing.{place_within, read_talked}
 use Rattle.workers_core.proofs.Handling.{many_keys, own_of}
-use Rattle.workers_core.proofs.Returnings.{gives_back, sequel_to}
+use Rattle.workers_core.proofs.ReturnedOnce.{gives_back, sequel_to}
 use Rattle.workers_core.specs.Chains.{at_first, refusals_in, seat_numbers}
 use Rattle.workers_core.specs.Handled.{AnswerView, AreRefusedRightly, Holding, IsDone, IsRightlyHandled, IsTalked}
 use Rattle.workers_core.specs.Laws.{IsRunning, ends_call}
@@ -113,28 +113,28 @@ talk_returns_it seat call after phase last (got ∷ earlier) asked talk rests fi
 
 -- ---- a call that goes on takes a message
 
-pub record IsTakenOnce (Shows : ℕ → Showing) (numbers : List ℕ) (call place : ℕ) (said : Says) (to : Phase) (old new : Holding) (told : AnswerView) : Type 0 where
+pub record IsTakenOnce (Shows : ℕ → Showing) (numbers : List ℕ) (call place : ℕ) (said : Says) (to : Phase) (old new : Holding) (answer : AnswerView) : Type 0 where
   pub within : place < length old.lists
   pub kept : IsKept old.lists call (old.talks call)
-  pub talk : IsTalked numbers call place (said, to) old new told
+  pub talk : IsTalked numbers call place (said, to) old new answer
   pub right : AreRightlyGot (Shows place) (slice_index_or numbers place 0) (said, to) (slice_index_or old.lists place []) talk.gots
 
 abbrev IsDoneRightly : (ℕ → Showing) → Setup → List ℕ → ℕ → Holding → Holding → AnswerView → Verdict → Type 0
-IsDoneRightly Shows setup numbers at old new told v = (done : IsDone setup numbers at v old new told) × AreRefusedRightly Shows setup numbers at v old new told done
+IsDoneRightly Shows setup numbers at old new answer v = (done : IsDone setup numbers at v old new answer) × AreRefusedRightly Shows setup numbers at v old new answer done
 
 pub its_call : (setup : Setup) (posts : List Post) (old : Holding) (call place : ℕ) → IsSoundHolding (keys_of setup.accounts) posts old → (running : IsRunning old call place) → running.terms.call ≡ call
 its_call setup posts old call place sound running =
     (own_of (length (keys_of setup.accounts)) posts call (record { phase = Running running.terms; place = place }) (old.talks call) running.is (sound.talks call)).is.about
 
-pub taken_once : (Shows : ℕ → Showing) (setup : Setup) (numbers : List ℕ) (posts : List Post) (post : Post) (old new : Holding) (told : AnswerView) (call place : ℕ) (message : SsfMsg) (said : Says) (to : Phase)
-    → IsSoundHolding (keys_of setup.accounts) posts old → AreKept old → IsRightlyHandled Shows setup numbers post old new told → (running : IsRunning old call place) → post.body ≡ Ssf call message
-    → on_message (Running running.terms) post.number post.at message ≡ Ok (said, to) → IsTakenOnce Shows numbers call place said to old new told
-taken_once Shows setup numbers posts post old new told call place message said to sound kept is running body takes =
+pub taken_once : (Shows : ℕ → Showing) (setup : Setup) (numbers : List ℕ) (posts : List Post) (post : Post) (old new : Holding) (answer : AnswerView) (call place : ℕ) (message : SsfMsg) (said : Says) (to : Phase)
+    → IsSoundHolding (keys_of setup.accounts) posts old → AreKept old → IsRightlyHandled Shows setup numbers post old new answer → (running : IsRunning old call place) → post.body ≡ Ssf call message
+    → on_message (Running running.terms) post.number post.at message ≡ Ok (said, to) → IsTakenOnce Shows numbers call place said to old new answer
+taken_once Shows setup numbers posts post old new answer call place message said to sound kept is running body takes =
     let standing : DialogueAt = record { phase = Running running.terms; place = place } in
     let own = own_of (length (keys_of setup.accounts)) posts call standing (old.talks call) running.is (sound.talks call) in
     let verdict_is : verdict_on setup old.talks post.number post.at post.body ≡ GoesOn call place said to =
     ap (verdict_on setup old.talks post.number post.at) body ∙ ap (spoken setup post.number post.at call message) running.is ∙ ap (goes_on call place) takes in
-    let done = subst (IsDoneRightly Shows setup numbers post.at old new told) verdict_is (is.handled.done, is.right) in
+    let done = subst (IsDoneRightly Shows setup numbers post.at old new answer) verdict_is (is.handled.done, is.right) in
     record {
       within = place_within setup posts old place sound (rw (← many_keys setup) own.is.placed);
       kept = kept call;
@@ -148,19 +148,19 @@ shown_of : (old : Holding) (call place : ℕ) (running : IsRunning old call plac
 shown_of old call place running kept = subst (λ (found : Option DialogueAt). IsKept old.lists call found) running.is kept
 
 -- a report of it
-pub report_asked : (Shows : ℕ → Showing) (setup : Setup) (numbers : List ℕ) (posts : List Post) (post : Post) (old new : Holding) (told : AnswerView) (call place : ℕ) (active : Bool) (info : TimeInfo)
-    → IsSoundHolding (keys_of setup.accounts) posts old → AreKept old → IsRightlyHandled Shows setup numbers post old new told → (running : IsRunning old call place)
+pub report_asked : (Shows : ℕ → Showing) (setup : Setup) (numbers : List ℕ) (posts : List Post) (post : Post) (old new : Holding) (answer : AnswerView) (call place : ℕ) (active : Bool) (info : TimeInfo)
+    → IsSoundHolding (keys_of setup.accounts) posts old → AreKept old → IsRightlyHandled Shows setup numbers post old new answer → (running : IsRunning old call place)
     → post.body ≡ Ssf call (msg.ChargingReport active info)
-    → IsTakenOnce Shows numbers call place (Asks (Settles call post.number info)) (Settling running.terms active post.at) old new told
-report_asked Shows setup numbers posts post old new told call place active info sound kept is running body =
-    taken_once Shows setup numbers posts post old new told call place (msg.ChargingReport active info) (Asks (Settles call post.number info)) (Settling running.terms active post.at) sound kept is running
+    → IsTakenOnce Shows numbers call place (Asks (Settles call post.number info)) (Settling running.terms active post.at) old new answer
+report_asked Shows setup numbers posts post old new answer call place active info sound kept is running body =
+    taken_once Shows setup numbers posts post old new answer call place (msg.ChargingReport active info) (Asks (Settles call post.number info)) (Settling running.terms active post.at) sound kept is running
     body (ap (λ (c : ℕ). Ok (Asks (Settles c post.number info), Settling running.terms active post.at)) (its_call setup posts old call place sound running))
 
-pub report_settled : (Shows : ℕ → Showing) (numbers : List ℕ) (call place number : ℕ) (active : Bool) (info : TimeInfo) (at : ℕ) (old new : Holding) (told : AnswerView) → NeverRefusesClosing Shows call
+pub report_settled : (Shows : ℕ → Showing) (numbers : List ℕ) (call place number : ℕ) (active : Bool) (info : TimeInfo) (at : ℕ) (old new : Holding) (answer : AnswerView) → NeverRefusesClosing Shows call
     → (running : IsRunning old call place) → running.terms.call ≡ call
-    → (taken : IsTakenOnce Shows numbers call place (Asks (Settles call number info)) (Settling running.terms active at) old new told)
+    → (taken : IsTakenOnce Shows numbers call place (Asks (Settles call number info)) (Settling running.terms active at) old new answer)
     → settles_of (entries_of (slice_index_or numbers place 0) (Asks (Settles call number info), Settling running.terms active at) taken.talk.gots) ≡ (number, call, info) ∷ []
-report_settled Shows numbers call place number active info at old new told never running about taken =
+report_settled Shows numbers call place number active info at old new answer never running about taken =
     let asked : Asked = Settles call number info in
     let to : Phase = Settling running.terms active at in
     let mine = slice_index_or old.lists place [] in
@@ -169,18 +169,18 @@ report_settled Shows numbers call place number active info at old new told never
     talk_settles_it (slice_index_or numbers place 0) call number info to taken.talk.phase taken.talk.last taken.talk.gots about taken.talk.talk taken.talk.rests first
 
 -- a message that ends it
-pub ending_asked : (Shows : ℕ → Showing) (setup : Setup) (numbers : List ℕ) (posts : List Post) (post : Post) (old new : Holding) (told : AnswerView) (call place : ℕ) (message : SsfMsg)
-    → IsSoundHolding (keys_of setup.accounts) posts old → AreKept old → IsRightlyHandled Shows setup numbers post old new told → IsRunning old call place → post.body ≡ Ssf call message
-    → ends_call message ≡ true → IsTakenOnce Shows numbers call place (Asks (Returns call)) (Returning (sequel_to message)) old new told
-ending_asked Shows setup numbers posts post old new told call place message sound kept is running body ends =
+pub ending_asked : (Shows : ℕ → Showing) (setup : Setup) (numbers : List ℕ) (posts : List Post) (post : Post) (old new : Holding) (answer : AnswerView) (call place : ℕ) (message : SsfMsg)
+    → IsSoundHolding (keys_of setup.accounts) posts old → AreKept old → IsRightlyHandled Shows setup numbers post old new answer → IsRunning old call place → post.body ≡ Ssf call message
+    → ends_call message ≡ true → IsTakenOnce Shows numbers call place (Asks (Returns call)) (Returning (sequel_to message)) old new answer
+ending_asked Shows setup numbers posts post old new answer call place message sound kept is running body ends =
     let to : Phase = Returning (sequel_to message) in
-    taken_once Shows setup numbers posts post old new told call place message (Asks (Returns call)) to sound kept is running body
+    taken_once Shows setup numbers posts post old new answer call place message (Asks (Returns call)) to sound kept is running body
     (gives_back running.terms post.number post.at message ends ∙ ap (λ (c : ℕ). Ok (Asks (Returns c), to)) (its_call setup posts old call place sound running))
 
-pub ending_returned : (Shows : ℕ → Showing) (numbers : List ℕ) (call place : ℕ) (message : SsfMsg) (old new : Holding) (told : AnswerView) → NeverRefusesClosing Shows call → IsRunning old call place
-    → (taken : IsTakenOnce Shows numbers call place (Asks (Returns call)) (Returning (sequel_to message)) old new told)
+pub ending_returned : (Shows : ℕ → Showing) (numbers : List ℕ) (call place : ℕ) (message : SsfMsg) (old new : Holding) (answer : AnswerView) → NeverRefusesClosing Shows call → IsRunning old call place
+    → (taken : IsTakenOnce Shows numbers call place (Asks (Returns call)) (Returning (sequel_to message)) old new answer)
     → returns_of (entries_of (slice_index_or numbers place 0) (Asks (Returns call), Returning (sequel_to message)) taken.talk.gots) ≡ call ∷ []
-ending_returned Shows numbers call place message old new told never running taken =
+ending_returned Shows numbers call place message old new answer never running taken =
     let to : Phase = Returning (sequel_to message) in
     let mine = slice_index_or old.lists place [] in
     let closing : IsClosing (reverse mine) (Returns call) = (shown_of old call place running taken.kept).0.shown.0 in
@@ -207,16 +207,16 @@ pub taken_settled : (Shows : ℕ → Showing) → TakenReportsAreSettled Shows
 taken_settled Shows setup number before post old new call place active info never is running body at =
     let numbers = seat_numbers number setup in
     let so = in_order Shows setup number before post old new is in
-    let taken = report_asked Shows setup numbers before post old new is.told call place active info so.sound so.kept is.handles running body in
-    let settled = report_settled Shows numbers call place post.number active info post.at old new is.told never running (its_call setup before old call place so.sound running) taken in
-    read_talked (λ (e : EntryData). settled_in e.asked) numbers call place at (Asks (Settles call post.number info), Settling running.terms active post.at) old new is.told taken.within taken.talk
+    let taken = report_asked Shows setup numbers before post old new is.answer call place active info so.sound so.kept is.handles running body in
+    let settled = report_settled Shows numbers call place post.number active info post.at old new is.answer never running (its_call setup before old call place so.sound running) taken in
+    read_talked (λ (e : EntryData). settled_in e.asked) numbers call place at (Asks (Settles call post.number info), Settling running.terms active post.at) old new is.answer taken.within taken.talk
     ∙ ap (λ l. settles_of (slice_index_or old.lists at []) ++ (if at == place then l else [])) settled
 
 pub ended_returned : (Shows : ℕ → Showing) → EndedCallsAreReturned Shows
 ended_returned Shows setup number before post old new call place message never is running body ends at =
     let numbers = seat_numbers number setup in
     let so = in_order Shows setup number before post old new is in
-    let taken = ending_asked Shows setup numbers before post old new is.told call place message so.sound so.kept is.handles running body ends in
-    let returned = ending_returned Shows numbers call place message old new is.told never running taken in
-    read_talked (λ (e : EntryData). returned_in e.asked) numbers call place at (Asks (Returns call), Returning (sequel_to message)) old new is.told taken.within taken.talk
+    let taken = ending_asked Shows setup numbers before post old new is.answer call place message so.sound so.kept is.handles running body ends in
+    let returned = ending_returned Shows numbers call place message old new is.answer never running taken in
+    read_talked (λ (e : EntryData). returned_in e.asked) numbers call place at (Asks (Returns call), Returning (sequel_to message)) old new is.answer taken.within taken.talk
     ∙ ap (λ l. returns_of (slice_index_or old.lists at []) ++ (if at == place then l else [])) returned

@@ -18,7 +18,7 @@ use Rattle.held_calls.specs.Held.{entries_at, facts_at}
 use Rattle.shared_account.proofs.Knowing.{known_here}
 use Rattle.shared_account.proofs.Owning.{known_alike}
 use Rattle.shared_account.specs.Own.{asks_of_call, of_call}
-use Rattle.workers_core.proofs.Abouts.{SaysOf, says_of_call}
+use Rattle.workers_core.proofs.OwnCalls.{SaysOf, says_of_call}
 use Rattle.workers_core.specs.Handled.{grown}
 use Rattle.workers_core.specs.Talks.{AllAsk, entries_of, entry_of}
 use Rattle.workers_core.specs.Workers.{IsAbout}

@@ -26,7 +26,7 @@ use Rattle.runs_core.specs.Shares.{item_of}
 use Rattle.shared_account.proofs.Beginnings.{begins_further}
 use Rattle.shared_account.specs.Own.{of_call}
 use Rattle.shared_account.specs.Prefixes.{IsPrefix}
-use Rattle.workers_core.proofs.Abouts.{TakesTo, begun_about, begun_says, takes_told}
+use Rattle.workers_core.proofs.OwnCalls.{TakesTo, begun_about, begun_says, takes_answer}
 use Rattle.workers_core.proofs.Chaining.{first_sound}
 use Rattle.workers_core.proofs.Entering.{none_at_first}
 use Rattle.workers_core.proofs.Handling.{Means, is_itself, means_on, own_of, same_number, sound_after}
@@ -67,13 +67,13 @@ unmoved_by setup numbers posts post (GoesOn its at said phase) old new t call so
     let differs = apart_by (call == its) call its refl (λ same. other m.message (m.is ∙ ap (λ (c : ℕ). Ssf c m.message) (sym same))) in
     let own = own_of (length (keys_of setup.accounts)) posts its m.standing (old.talks its) m.stands (sound.talks its) in
     let takes : TakesTo its post.number m.message (Ok (said, phase)) =
-    subst (λ (step : Step). TakesTo its post.number m.message step) m.takes (takes_told its post.number post.at m.standing.phase m.message own.is.about) in
+    subst (λ (step : Step). TakesTo its post.number m.message step) m.takes (takes_answer its post.number post.at m.standing.phase m.message own.is.about) in
     talk_apart numbers call its at (said, phase) old new t differs takes.0 takes.1 done
 
 -- ---- any post
 
-record IsStep (Closes : Type 0) (setup : Setup) (call number : ℕ) (body : Body) (old new : Holding) (told : AnswerView) : Type 0 where
-  goes : stands_at (new.talks call) ≡ after_item setup call (stands_at (old.talks call)) body told
+record IsStep (Closes : Type 0) (setup : Setup) (call number : ℕ) (body : Body) (old new : Holding) (answer : AnswerView) : Type 0 where
+  goes : stands_at (new.talks call) ≡ after_item setup call (stands_at (old.talks call)) body answer
   settles : Closes → (place : ℕ)
       → settles_of (entries_at call new.lists place) ≡ settles_of (entries_at call old.lists place) ++ taken_in call place (stands_at (old.talks call)) number body
   passed : has_passed (old.talks call) ≡ true → SameEntries call old.lists new.lists × (has_passed (new.talks call) ≡ true)
@@ -82,12 +82,12 @@ record IsStep (Closes : Type 0) (setup : Setup) (call number : ℕ) (body : Body
   grows : (place : ℕ) → IsPrefix (entries_at call old.lists place) (entries_at call new.lists place)
   returns : Closes → (place : ℕ) → All IsHonestEntry (entries_at call new.lists place)
       → returns_of (entries_at call new.lists place)
-      ≡ returns_of (entries_at call old.lists place) ++ left_in call place (stands_at (old.talks call)) (after_item setup call (stands_at (old.talks call)) body told)
+      ≡ returns_of (entries_at call old.lists place) ++ left_in call place (stands_at (old.talks call)) (after_item setup call (stands_at (old.talks call)) body answer)
 
-unmoved_step : (Closes : Type 0) (setup : Setup) (call number : ℕ) (body : Body) (old new : Holding) (told : AnswerView) → IsUnmoved call old new
-    → after_item setup call (stands_at (old.talks call)) body told ≡ stands_at (old.talks call) → filter (λ (report : Report). report.1 == call) (reported_in number body) ≡ []
-    → ended_in call (stands_at (old.talks call)) body ≡ None → IsStep Closes setup call number body old new told
-unmoved_step Closes setup call number body old new told unmoved same none open_still = record {
+unmoved_step : (Closes : Type 0) (setup : Setup) (call number : ℕ) (body : Body) (old new : Holding) (answer : AnswerView) → IsUnmoved call old new
+    → after_item setup call (stands_at (old.talks call)) body answer ≡ stands_at (old.talks call) → filter (λ (report : Report). report.1 == call) (reported_in number body) ≡ []
+    → ended_in call (stands_at (old.talks call)) body ≡ None → IsStep Closes setup call number body old new answer
+unmoved_step Closes setup call number body old new answer unmoved same none open_still = record {
   goes = ap stands_at unmoved.1 ∙ sym same;
   settles = λ closes place.
       ap settles_of (unmoved.0 place) ∙ sym (append-nil (settles_of (entries_at call old.lists place)))
@@ -97,7 +97,7 @@ unmoved_step Closes setup call number body old new told unmoved same none open_s
   ends = λ closes there is. let never : None ≡ Some there = sym open_still ∙ is in absurd (cc);
   grows = same_grows call old new unmoved.0;
   returns = λ closes place honest.
-      same_returns call old new (stands_at (old.talks call)) (after_item setup call (stands_at (old.talks call)) body told) unmoved.0 same place;
+      same_returns call old new (stands_at (old.talks call)) (after_item setup call (stands_at (old.talks call)) body answer) unmoved.0 same place;
 }
 
 pub other_report : (number call other : ℕ) (message : SsfMsg) → (other == call) ≡ false → filter (λ (report : Report). report.1 == call) (report_in number other message) ≡ []
@@ -116,12 +116,12 @@ ended_by : (b : Bool) (was : Option ℕ) (there : ℕ) → (if b then was else N
 ended_by true was there is = (refl, is)
 ended_by false was there is = absurd (cc)
 
-message_step : (Closes : Type 0) (setup : Setup) (call number : ℕ) (message : SsfMsg) (old new : Holding) (told : AnswerView) → IsOwnStep Closes setup call number message (old.talks call) old new told
-    → IsStep Closes setup call number (Ssf call message) old new told
-message_step Closes setup call number message old new told own =
+message_step : (Closes : Type 0) (setup : Setup) (call number : ℕ) (message : SsfMsg) (old new : Holding) (answer : AnswerView) → IsOwnStep Closes setup call number message (old.talks call) old new answer
+    → IsStep Closes setup call number (Ssf call message) old new answer
+message_step Closes setup call number message old new answer own =
     let was = stands_at (old.talks call) in
     record {
-      goes = own.goes ∙ ap (λ (b : Bool). if b then after_message setup (pays told.orders) was message else was) (sym (is_itself call));
+      goes = own.goes ∙ ap (λ (b : Bool). if b then after_message setup (pays answer.orders) was message else was) (sym (is_itself call));
       settles = λ closes place.
           own.settles closes place
           ∙ ap (λ (l : List Report). settles_of (entries_at call old.lists place) ++ (if is_there was place then l else [])) (sym (own_report number call message));
@@ -132,7 +132,7 @@ message_step Closes setup call number message old new told own =
       returns = λ closes place honest.
           own.returns closes place honest
           ∙ ap (λ (now : Option ℕ). returns_of (entries_at call old.lists place) ++ left_in call place was now)
-          (own.goes ∙ ap (λ (b : Bool). if b then after_message setup (pays told.orders) was message else was) (sym (is_itself call)));
+          (own.goes ∙ ap (λ (b : Bool). if b then after_message setup (pays answer.orders) was message else was) (sym (is_itself call)));
     }
 
 another : (call other : ℕ) (message : SsfMsg) (body : Body) → (other == call) ≡ false → body ≡ Ssf other message → (its : SsfMsg) → body ≡ Ssf call its → ⊥
@@ -141,30 +141,30 @@ another call other message body differs is its same =
     let alike : other ≡ call = cc in
     let alike_too : (other == call) ≡ true = grind (arith, nat_tests, alike) in absurd (cc)
 
-step_of : (Shows : ℕ → Showing) (setup : Setup) (numbers : List ℕ) (posts : List Post) (post : Post) (old new : Holding) (told : AnswerView) (call other : ℕ) (message : SsfMsg) (b : Bool)
-    → (other == call) ≡ b → IsSoundHolding (keys_of setup.accounts) posts old → AreKept old → IsRightlyHandled Shows setup numbers post old new told
-    → post.body ≡ Ssf other message → IsStep (NeverRefusesClosing Shows call) setup call post.number (Ssf other message) old new told
-step_of Shows setup numbers posts post old new told call other message true same sound kept is body =
+step_of : (Shows : ℕ → Showing) (setup : Setup) (numbers : List ℕ) (posts : List Post) (post : Post) (old new : Holding) (answer : AnswerView) (call other : ℕ) (message : SsfMsg) (b : Bool)
+    → (other == call) ≡ b → IsSoundHolding (keys_of setup.accounts) posts old → AreKept old → IsRightlyHandled Shows setup numbers post old new answer
+    → post.body ≡ Ssf other message → IsStep (NeverRefusesClosing Shows call) setup call post.number (Ssf other message) old new answer
+step_of Shows setup numbers posts post old new answer call other message true same sound kept is body =
     let here = same_number other call same in
-    subst (λ (c : ℕ). IsStep (NeverRefusesClosing Shows call) setup call post.number (Ssf c message) old new told) (sym here)
-    (message_step (NeverRefusesClosing Shows call) setup call post.number message old new told
-    (own_step Shows setup numbers posts post old new told call message sound kept is (body ∙ ap (λ (c : ℕ). Ssf c message) here)))
-step_of Shows setup numbers posts post old new told call other message false differs sound kept is body =
+    subst (λ (c : ℕ). IsStep (NeverRefusesClosing Shows call) setup call post.number (Ssf c message) old new answer) (sym here)
+    (message_step (NeverRefusesClosing Shows call) setup call post.number message old new answer
+    (own_step Shows setup numbers posts post old new answer call message sound kept is (body ∙ ap (λ (c : ℕ). Ssf c message) here)))
+step_of Shows setup numbers posts post old new answer call other message false differs sound kept is body =
     let was = stands_at (old.talks call) in
-    unmoved_step (NeverRefusesClosing Shows call) setup call post.number (Ssf other message) old new told
-    (unmoved_by setup numbers posts post (verdict_on setup old.talks post.number post.at post.body) old new told call sound (means_on setup old.talks post.number post.at post.body)
+    unmoved_step (NeverRefusesClosing Shows call) setup call post.number (Ssf other message) old new answer
+    (unmoved_by setup numbers posts post (verdict_on setup old.talks post.number post.at post.body) old new answer call sound (means_on setup old.talks post.number post.at post.body)
     is.handled.done (another call other message post.body differs body))
-    (ap (λ (b : Bool). if b then after_message setup (pays told.orders) was message else was) differs) (other_report post.number call other message differs)
+    (ap (λ (b : Bool). if b then after_message setup (pays answer.orders) was message else was) differs) (other_report post.number call other message differs)
     (ap (λ (b : Bool). if b && ends_call message then was else None) differs)
 
-step_by : (Shows : ℕ → Showing) (setup : Setup) (numbers : List ℕ) (posts : List Post) (post : Post) (old new : Holding) (told : AnswerView) (call : ℕ) (body : Body)
-    → IsSoundHolding (keys_of setup.accounts) posts old → AreKept old → IsRightlyHandled Shows setup numbers post old new told → post.body ≡ body
-    → IsStep (NeverRefusesClosing Shows call) setup call post.number body old new told
-step_by Shows setup numbers posts post old new told call (Ssf other message) sound kept is body =
-    step_of Shows setup numbers posts post old new told call other message (other == call) refl sound kept is body
-step_by Shows setup numbers posts post old new told call (Recharge account amount until) sound kept is body =
-    unmoved_step (NeverRefusesClosing Shows call) setup call post.number (Recharge account amount until) old new told
-    (unmoved_by setup numbers posts post (verdict_on setup old.talks post.number post.at post.body) old new told call sound (means_on setup old.talks post.number post.at post.body)
+step_by : (Shows : ℕ → Showing) (setup : Setup) (numbers : List ℕ) (posts : List Post) (post : Post) (old new : Holding) (answer : AnswerView) (call : ℕ) (body : Body)
+    → IsSoundHolding (keys_of setup.accounts) posts old → AreKept old → IsRightlyHandled Shows setup numbers post old new answer → post.body ≡ body
+    → IsStep (NeverRefusesClosing Shows call) setup call post.number body old new answer
+step_by Shows setup numbers posts post old new answer call (Ssf other message) sound kept is body =
+    step_of Shows setup numbers posts post old new answer call other message (other == call) refl sound kept is body
+step_by Shows setup numbers posts post old new answer call (Recharge account amount until) sound kept is body =
+    unmoved_step (NeverRefusesClosing Shows call) setup call post.number (Recharge account amount until) old new answer
+    (unmoved_by setup numbers posts post (verdict_on setup old.talks post.number post.at post.body) old new answer call sound (means_on setup old.talks post.number post.at post.body)
     is.handled.done (λ message same. let never_so : Recharge account amount until ≡ Ssf call message = sym body ∙ same in absurd (cc))) refl refl refl
 
 -- ---- all posts
@@ -199,32 +199,32 @@ path Shows setup numbers call done [] [] old new sound kept are = record {
   returns = λ closes place honest.
       ap (λ (h : Holding). returns_of (entries_at call h.lists place)) (sym are) ∙ sym (append-nil (returns_of (entries_at call old.lists place)));
 }
-path Shows setup numbers call done [] (told ∷ answers) old new sound kept are = absurd are
+path Shows setup numbers call done [] (answer ∷ answers) old new sound kept are = absurd are
 path Shows setup numbers call done (post ∷ posts) [] old new sound kept are = absurd are
-path Shows setup numbers call done (post ∷ posts) (told ∷ answers) old new sound kept are =
+path Shows setup numbers call done (post ∷ posts) (answer ∷ answers) old new sound kept are =
     let between : Holding = are.0 in
-    let step = step_by Shows setup numbers done post old between told call post.body sound kept are.1 refl in
+    let step = step_by Shows setup numbers done post old between answer call post.body sound kept are.1 refl in
     let rest = path Shows setup numbers call (done ++ post ∷ []) posts answers between new
-    (sound_after setup numbers done post old between told sound are.1.handled.done) (kept_once setup numbers done post old between told sound kept are.1.handled.done) are.2 in
+    (sound_after setup numbers done post old between answer sound are.1.handled.done) (kept_once setup numbers done post old between answer sound kept are.1.handled.done) are.2 in
     let items = map item_of posts in
     record {
       goes = rest.goes ∙ ap (λ (was : Option ℕ). goes_on_from setup call was items answers) step.goes;
       settles = λ closes place.
           rest.settles closes place ∙ ap (λ (was : Option ℕ). settles_of (entries_at call between.lists place) ++ taken_from setup call place was items answers) step.goes
-          ∙ ap (λ l. l ++ taken_from setup call place (after_item setup call (stands_at (old.talks call)) post.body told) items answers) (step.settles closes place)
+          ∙ ap (λ l. l ++ taken_from setup call place (after_item setup call (stands_at (old.talks call)) post.body answer) items answers) (step.settles closes place)
           ∙ append_assoc (settles_of (entries_at call old.lists place)) (taken_in call place (stands_at (old.talks call)) post.number post.body)
-          (taken_from setup call place (after_item setup call (stands_at (old.talks call)) post.body told) items answers);
+          (taken_from setup call place (after_item setup call (stands_at (old.talks call)) post.body answer) items answers);
       passed = λ was place. let now = step.passed was in rest.passed now.1 place ∙ now.0 place;
       ends = λ closes there is place.
           ended_first (ended_in call (stands_at (old.talks call)) post.body)
-          (ended_from setup call (after_item setup call (stands_at (old.talks call)) post.body told) items answers) there
+          (ended_from setup call (after_item setup call (stands_at (old.talks call)) post.body answer) items answers) there
           (returns_of (entries_at call new.lists place) ≡ (if place == there then call ∷ [] else [])) is
           (λ here. let its = step.ends closes there here in ap returns_of (rest.passed its.0 place) ∙ its.1 place)
           (λ later. rest.ends closes there (ap (λ (was : Option ℕ). ended_from setup call was items answers) step.goes ∙ later) place);
       grows = λ place.
           begins_further (entries_at call old.lists place) (entries_at call between.lists place) (entries_at call new.lists place) (step.grows place) (rest.grows place);
       returns = λ closes place honest.
-          let now : Option ℕ = after_item setup call (stands_at (old.talks call)) post.body told in
+          let now : Option ℕ = after_item setup call (stands_at (old.talks call)) post.body answer in
           let so_far : All IsHonestEntry (entries_at call between.lists place) =
           all_first IsHonestEntry (entries_at call between.lists place) (rest.grows place).rest (subst (λ (l : List EntryData). All IsHonestEntry l) (rest.grows place).is honest) in
           rest.returns closes place honest

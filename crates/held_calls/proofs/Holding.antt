@@ -12,18 +12,18 @@ use Rattle.dialogue_core.specs.Phases.{Phase, Says, Asks}
 use Rattle.dialogue_core.specs.Table.{Step, on_begin, on_message}
 use Rattle.dialogue_core.specs.Talks.{talked}
 use Rattle.held_calls.proofs.Entries.{credit_entry, grown_apart, grown_elsewhere, grown_here, known_same, of_call-append, other_entries, own_entries, talk_stands}
-use Rattle.held_calls.proofs.Tables.{Stands, StepStands, begun_stands, told_stands}
+use Rattle.held_calls.proofs.Tables.{Stands, StepStands, begun_stands, answer_stands}
 use Rattle.held_calls.specs.Held.{CallsAreHeld, IsHeldBy, IsShown, entries_at, facts_at}
 use Rattle.run_values.specs.Setups.{Setup}
 use Rattle.run_values.specs.declared.post.Post.{Post}
 use Rattle.shared_account.proofs.Owning.{known_alike}
 use Rattle.shared_account.specs.Own.{of_call}
-use Rattle.workers_core.proofs.Abouts.{SaysOf, TakesTo, begun_about, begun_says, takes_told}
+use Rattle.workers_core.proofs.OwnCalls.{SaysOf, TakesTo, begun_about, begun_says, takes_answer}
 use Rattle.workers_core.proofs.Chaining.{first_sound, once_sound}
 use Rattle.workers_core.proofs.Entering.{none_at_first}
 use Rattle.workers_core.proofs.Growing.{place_within}
 use Rattle.workers_core.proofs.Handling.{Means, is_itself, many_keys, means_on, own_of, same_number}
-use Rattle.workers_core.proofs.Through.{ReturnsLast, StepReturnsLast, is_through, last_begun, last_told, not_before, over_told, returns_none, through_still, StepIsOver}
+use Rattle.workers_core.proofs.Through.{ReturnsLast, StepReturnsLast, is_through, last_begun, last_answer, not_before, over_answer, returns_none, through_still, StepIsOver}
 use Rattle.workers_core.specs.Chains.{AreHandled, at_first, seat_numbers}
 use Rattle.workers_core.specs.Handled.{AnswerView, Holding, IsDone, IsTalked}
 use Rattle.workers_core.specs.Served.{returned_in, returns_of}
@@ -163,16 +163,16 @@ begins_bound lists call at now wanted least route none = record {
 pub goes_bound : (lists : List (List EntryData)) (call at number now : ℕ) (from : Phase) (message : _) (said : Says) (phase : Phase) → IsAbout call from
     → on_message from number now message ≡ Ok (said, phase) → IsKept lists call (Some (record { phase = from; place = at })) → IsBound call at (said, phase) lists
 goes_bound lists call at number now from message said phase about takes kept =
-    let to : TakesTo call number message (Ok (said, phase)) = subst (λ (step : Step). TakesTo call number message step) takes (takes_told call number now from message about) in
+    let to : TakesTo call number message (Ok (said, phase)) = subst (λ (step : Step). TakesTo call number message step) takes (takes_answer call number now from message about) in
     record {
       about = to.0;
       says = to.1;
-      last = subst StepReturnsLast takes (last_told number now from message);
+      last = subst StepReturnsLast takes (last_answer number now from message);
       alone = kept.0.alone;
-      stands = subst (λ (step : Step). StepStands (facts_at call lists at) step) takes (told_stands (facts_at call lists at) number now from message kept.0.shown);
+      stands = subst (λ (step : Step). StepStands (facts_at call lists at) step) takes (answer_stands (facts_at call lists at) number now from message kept.0.shown);
       unreturned = λ not.
           let through : is_through from ≡ true → is_through phase ≡ true =
-          λ is. let over : StepIsOver (Ok (said, phase)) = subst StepIsOver takes (over_told number now from message is) in over.1 in
+          λ is. let over : StepIsOver (Ok (said, phase)) = subst StepIsOver takes (over_answer number now from message is) in over.1 in
           kept.1 (not_before (is_through from) (is_through phase) through not);
     }
 
@@ -216,7 +216,7 @@ kept_all setup numbers done [] (refusal ∷ refusals) old new sound kept are = a
 kept_all setup numbers done (post ∷ posts) [] old new sound kept are = absurd are
 kept_all setup numbers done (post ∷ posts) (refusal ∷ refusals) old new sound kept are =
     kept_all setup numbers (done ++ post ∷ []) posts refusals are.0 new (once_sound setup numbers done post refusal old are.0 sound are.1)
-    (kept_once setup numbers done post old are.0 are.1.told sound kept are.1.handled.done) are.2
+    (kept_once setup numbers done post old are.0 are.1.answer sound kept are.1.handled.done) are.2
 
 pub calls_held : CallsAreHeld
 calls_held setup number posts refusals held are call = (kept_all setup (seat_numbers number setup) [] posts refusals (at_first setup) held (first_sound setup) (first_kept setup) are call).0

@@ -10,7 +10,7 @@ use Rattle.account_core.specs.Answers.{IsLegal, IsLegalPast, answer, inadmissibl
 use Rattle.account_core.specs.Asked.{Asked, Credits, IsOfCall, Reserves, Returns, Settles}
 use Rattle.account_core.specs.Events.{EntryData}
 use Rattle.account_core.specs.Known.{CallFacts, known}
-use Rattle.account_core.specs.Laws.{AnswersAreKindly}
+use Rattle.account_core.specs.Laws.{AnswersFitTheirOperations}
 use Rattle.account_core.specs.Standing.{FitsCall}
 use Rattle.account_core.specs.declared.entry.Reply.{Reply}
 use Rattle.account_core.specs.declared.entry.Reply.TheVariants.{Granted, Denied, Settled, Forfeit, Returned}
@@ -45,8 +45,8 @@ use Rattle.workers_core.specs.Served.{Report, reported_in, returns_of, settles_o
 
 -- ---- an item of another worker is of no message of the call
 
-record IsApart (setup : Setup) (call number : ℕ) (was : Option ℕ) (body : Body) (told : AnswerView) : Type 0 where
-  after : after_item setup call was body told ≡ was
+record IsApart (setup : Setup) (call number : ℕ) (was : Option ℕ) (body : Body) (view : AnswerView) : Type 0 where
+  after : after_item setup call was body view ≡ was
   ended : ended_in call was body ≡ None
 
 differs_so : (workers call other : ℕ) (b : Bool) → (other == call) ≡ b → (other % workers == call % workers) ≡ false → (other == call) ≡ false
@@ -55,14 +55,14 @@ differs_so workers call other true same apart =
     let alike_too : (other % workers == call % workers) ≡ true = rw alike (grind (arith, nat_tests)) in absurd (cc)
 differs_so workers call other false same apart = same
 
-apart_item : (setup : Setup) (workers call number : ℕ) (was : Option ℕ) (body : Body) (told : AnswerView) → (worker_of workers body == call % workers) ≡ false → IsApart setup call number was body told
-apart_item setup workers call number was (Ssf other message) told apart =
+apart_item : (setup : Setup) (workers call number : ℕ) (was : Option ℕ) (body : Body) (view : AnswerView) → (worker_of workers body == call % workers) ≡ false → IsApart setup call number was body view
+apart_item setup workers call number was (Ssf other message) view apart =
     let differs = differs_so workers call other (other == call) refl apart in
     record {
-      after = ap (λ (b : Bool). if b then after_message setup (pays told.orders) was message else was) differs;
+      after = ap (λ (b : Bool). if b then after_message setup (pays view.orders) was message else was) differs;
       ended = ap (λ (b : Bool). if b && ends_call message then was else None) differs;
     }
-apart_item setup workers call number was (Recharge account amount until) told apart =
+apart_item setup workers call number was (Recharge account amount until) view apart =
     record { after = refl; ended = refl }
 
 -- nor has it a report of it
@@ -157,10 +157,10 @@ pub run_settled : RunClosingIsNeverRefused → RunCallsAreOfOneWorker StoodIn �
 run_settled closing one alone setup workers given answers books account place book call some run at =
     let worker : ℕ = call % workers in
     let by = run.answered worker (mod_below call workers some) in
-    let told = map answer_view (answers_to workers worker given answers) in
-    let settled = worked_settled (refuses_in StoodIn books worker) setup worker by.posts told (lists_of worker books) call (closing setup workers given answers books call run) by.answered place in
+    let view = map answer_view (answers_to workers worker given answers) in
+    let settled = worked_settled (refuses_in StoodIn books worker) setup worker by.posts view (lists_of worker books) call (closing setup workers given answers books call run) by.answered place in
     ap settles_of (whole books workers call account place setup book alone (one setup workers given answers books run) at)
-    ∙ settled ∙ ap (λ (items : List Item). taken_from setup call place None items told) by.share
+    ∙ settled ∙ ap (λ (items : List Item). taken_from setup call place None items view) by.share
     ∙ shared_gathered (λ was now item. taken_in call place was item.number item.body) setup workers call None 0 given answers
     (λ was now item apart same. taken_apart workers call place item.number was item.body apart)
 
@@ -168,11 +168,11 @@ pub run_returned : RunClosingIsNeverRefused → RunCallsAreOfOneWorker StoodIn �
 run_returned closing one alone setup workers given answers books account place book call there some run at ended =
     let worker : ℕ = call % workers in
     let by = run.answered worker (mod_below call workers some) in
-    let told = map answer_view (answers_to workers worker given answers) in
-    let its : ended_from setup call None (map item_of by.posts) told ≡ Some there =
-    ap (λ (items : List Item). ended_from setup call None items told) by.share ∙ shared_ended setup workers call None 0 given answers ∙ ended in
+    let view = map answer_view (answers_to workers worker given answers) in
+    let its : ended_from setup call None (map item_of by.posts) view ≡ Some there =
+    ap (λ (items : List Item). ended_from setup call None items view) by.share ∙ shared_ended setup workers call None 0 given answers ∙ ended in
     ap returns_of (whole books workers call account place setup book alone (one setup workers given answers books run) at)
-    ∙ worked_returned (refuses_in StoodIn books worker) setup worker by.posts told (lists_of worker books) call there (closing setup workers given answers books call run) by.answered its place
+    ∙ worked_returned (refuses_in StoodIn books worker) setup worker by.posts view (lists_of worker books) call there (closing setup workers given answers books call run) by.answered its place
 
 -- ---- the replies of a legal history are of the kinds that accounts give
 
@@ -194,7 +194,7 @@ honest_or : (call : ℕ) (b : Bool) (event : EntryData) (rest : List EntryData) 
 honest_or call true event rest here all = All-cons IsHonestEntry event rest (here refl) all
 honest_or call false event rest here all = all
 
-honest_past : AnswersAreKindly → (opening : ℕ) (until : Option ℕ) (call : ℕ) (h : List EntryData) → opening ≤ MAX_MONEY → IsLegalPast opening until h → All IsHonestEntry (of_call call h)
+honest_past : AnswersFitTheirOperations → (opening : ℕ) (until : Option ℕ) (call : ℕ) (h : List EntryData) → opening ≤ MAX_MONEY → IsLegalPast opening until h → All IsHonestEntry (of_call call h)
 honest_past kindly opening until call [] small legal = All-nil IsHonestEntry
 honest_past kindly opening until call (event ∷ h) small legal =
     let before : IsLegal opening until (reverse h) = subst (IsLegalPast opening until) (sym (reverse-reverse h)) legal.0 in
@@ -212,20 +212,20 @@ turned (x ∷ xs) all =
     let parts : All IsHonestEntry (reverse xs ++ x ∷ []) = subst (All IsHonestEntry) (reverse-append (x ∷ []) xs) all in
     All-cons IsHonestEntry x xs (All-head IsHonestEntry x [] (all_later IsHonestEntry (reverse xs) (x ∷ []) parts)) (turned xs (all_first IsHonestEntry (reverse xs) (x ∷ []) parts))
 
-honest_book : AnswersAreKindly → (book : Closed) (call : ℕ) → book.opening ≤ MAX_MONEY → IsLegal book.opening book.until book.history → All IsHonestEntry (of_call call book.history)
+honest_book : AnswersFitTheirOperations → (book : Closed) (call : ℕ) → book.opening ≤ MAX_MONEY → IsLegal book.opening book.until book.history → All IsHonestEntry (of_call call book.history)
 honest_book kindly book call small legal =
     turned (of_call call book.history)
     (subst (All IsHonestEntry) (filter_reverse (λ (event : EntryData). asks_of_call call event.asked) book.history) (honest_past kindly book.opening book.until call (reverse book.history) small legal))
 
-pub run_left : AnswersAreKindly → RunClosingIsNeverRefused → RunCallsAreOfOneWorker StoodIn → CallsOfOneSeatAreAlone → RunCallsThatEndAreReturned
+pub run_left : AnswersFitTheirOperations → RunClosingIsNeverRefused → RunCallsAreOfOneWorker StoodIn → CallsOfOneSeatAreAlone → RunCallsThatEndAreReturned
 run_left kindly closing one alone setup workers given answers books account place book call some run at small =
     let worker : ℕ = call % workers in
     let by = run.answered worker (mod_below call workers some) in
-    let told = map answer_view (answers_to workers worker given answers) in
+    let view = map answer_view (answers_to workers worker given answers) in
     let legal : IsLegal book.opening book.until book.history = subst (λ (b : Closed). IsLegal b.opening b.until b.history) at.book_is (run.legal place book at.within) in
     let all_of = whole books workers call account place setup book alone (one setup workers given answers books run) at in
     let honest : All IsHonestEntry (entries_at call (lists_of worker books) place) = subst (All IsHonestEntry) all_of (honest_book kindly book call small legal) in
     ap returns_of all_of
-    ∙ worked_left (refuses_in StoodIn books worker) setup worker by.posts told (lists_of worker books) call (closing setup workers given answers books call run) by.answered place honest
-    ∙ ap (λ (items : List Item). left_from setup call place None items told) by.share
+    ∙ worked_left (refuses_in StoodIn books worker) setup worker by.posts view (lists_of worker books) call (closing setup workers given answers books call run) by.answered place honest
+    ∙ ap (λ (items : List Item). left_from setup call place None items view) by.share
     ∙ shared_gathered (λ was now item. left_in call place was now) setup workers call None 0 given answers (λ was now item apart same. left_same call place was now same)

@@ -24,7 +24,7 @@ use Rattle.held_calls.proofs.Tables.{Awaits, Fits, Stands}
 use Rattle.held_calls.specs.Held.{IsShown}
 use Rattle.runs_core.proofs.Listed.{all_first, all_later}
 use Rattle.tariff_core.specs.declared.times.TheConstants.{DAY}
-use Rattle.workers_core.proofs.Abouts.{SaysOf, says_of_call}
+use Rattle.workers_core.proofs.OwnCalls.{SaysOf, says_of_call}
 use Rattle.workers_core.specs.Refusals.{NeverRefusesClosing}
 use Rattle.workers_core.specs.Served.{returned_in, returns_of}
 use Rattle.workers_core.specs.Talks.{AllAsk, AreRightlyGot, IsRightlyGot, Showing, entries_of, entry_of}

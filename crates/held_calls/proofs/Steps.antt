@@ -21,10 +21,10 @@ use Rattle.held_calls.specs.Held.{entries_at}
 use Rattle.run_values.specs.Setups.{Setup}
 use Rattle.shared_account.specs.Own.{of_call}
 use Rattle.shared_account.specs.Prefixes.{IsPrefix}
-use Rattle.workers_core.proofs.Abouts.{part_of_none, settled_by, talk_settles}
+use Rattle.workers_core.proofs.OwnCalls.{part_of_none, settled_by, talk_settles}
 use Rattle.workers_core.proofs.AtRest.{nothing_asked}
 use Rattle.workers_core.proofs.Handling.{is_itself, same_number}
-use Rattle.workers_core.proofs.Through.{StepIsOver, is_through, over_told}
+use Rattle.workers_core.proofs.Through.{StepIsOver, is_through, over_answer}
 use Rattle.workers_core.specs.Handled.{AnswerView, Holding, IsDone, IsTalked}
 use Rattle.workers_core.specs.Laws.{ends_call}
 use Rattle.workers_core.specs.Served.{IsPart, Report, report_in, returns_of, settles_of}
@@ -139,9 +139,9 @@ ended_pays call seat at lists first (got ∷ earlier) bound pending last phase a
     pays_got (talked first earlier).1 got (fits_idle (talked first earlier).0 (talked first earlier).1 asked.0 stands.0)
 
 -- a talk that begins with an ask sends what pays for a period just where the call goes on then
-pub asked_pays : (numbers : List ℕ) (call at : ℕ) (first : Says × Phase) (old new : Holding) (told : AnswerView) → IsBound call at first old.lists → is_ask first.0 ≡ true
-    → (is : IsTalked numbers call at first old new told) → is_running is.phase ≡ pays told.orders
-asked_pays numbers call at first old new told bound pending is =
+pub asked_pays : (numbers : List ℕ) (call at : ℕ) (first : Says × Phase) (old new : Holding) (answer : AnswerView) → IsBound call at first old.lists → is_ask first.0 ≡ true
+    → (is : IsTalked numbers call at first old new answer) → is_running is.phase ≡ pays answer.orders
+asked_pays numbers call at first old new answer bound pending is =
     let ended = ended_pays call (slice_index_or numbers at 0) at old.lists first is.gots bound pending is.last is.phase is.asked is.talk is.rests in
     subst PaysIfRunning is.talk ended ∙ ap pays (sym is.orders)
 
@@ -162,8 +162,8 @@ settles_none seat call first gots about none =
 
 -- ---- what a message of a call does to it
 
-pub record IsOwnStep (Closes : Type 0) (setup : Setup) (call number : ℕ) (message : SsfMsg) (found : Option DialogueAt) (old new : Holding) (told : AnswerView) : Type 0 where
-  pub goes : stands_at (new.talks call) ≡ after_message setup (pays told.orders) (stands_at found) message
+pub record IsOwnStep (Closes : Type 0) (setup : Setup) (call number : ℕ) (message : SsfMsg) (found : Option DialogueAt) (old new : Holding) (answer : AnswerView) : Type 0 where
+  pub goes : stands_at (new.talks call) ≡ after_message setup (pays answer.orders) (stands_at found) message
   pub settles : Closes → (place : ℕ)
       → settles_of (entries_at call new.lists place) ≡ settles_of (entries_at call old.lists place) ++ (if is_there (stands_at found) place then report_in number call message else [])
   pub passed : has_passed found ≡ true → SameEntries call old.lists new.lists × (has_passed (new.talks call) ≡ true)
@@ -206,11 +206,11 @@ either_same true x = refl
 either_same false x = refl
 
 -- it has no place, so nothing is done
-pub stray_step : (Closes : Type 0) (setup : Setup) (call number : ℕ) (message : SsfMsg) (found : Option DialogueAt) (old new : Holding) (told : AnswerView) → IsUnmoved call old new → old.talks call ≡ found
-    → after_message setup (pays told.orders) (stands_at found) message ≡ stands_at found
+pub stray_step : (Closes : Type 0) (setup : Setup) (call number : ℕ) (message : SsfMsg) (found : Option DialogueAt) (old new : Holding) (answer : AnswerView) → IsUnmoved call old new → old.talks call ≡ found
+    → after_message setup (pays answer.orders) (stands_at found) message ≡ stands_at found
     → ((place : ℕ) → (if is_there (stands_at found) place then report_in number call message else []) ≡ []) → (ends_call message ≡ true → stands_at found ≡ None)
-    → IsOwnStep Closes setup call number message found old new told
-stray_step Closes setup call number message found old new told unmoved is same none idle = record {
+    → IsOwnStep Closes setup call number message found old new answer
+stray_step Closes setup call number message found old new answer unmoved is same none idle = record {
   goes = ap stands_at (unmoved.1 ∙ is) ∙ sym same;
   settles = λ closes place.
       ap settles_of (unmoved.0 place) ∙ sym (append-nil (settles_of (entries_at call old.lists place)))
@@ -229,12 +229,12 @@ after_none setup false (msg.EventReport event leg mode) is = either_same (ends_c
 after_none setup false (msg.ChargingReport active info) is = refl
 after_none setup false msg.Ended is = refl
 
-pub unasked_stray : (Closes : Type 0) (setup : Setup) (numbers : List ℕ) (at call number : ℕ) (message : SsfMsg) (found : Option DialogueAt) (old new : Holding) (told : AnswerView) → stands_at found ≡ None
-    → old.talks call ≡ found → IsDone setup numbers at Strays old new told → IsOwnStep Closes setup call number message found old new told
-unasked_stray Closes setup numbers at call number message found old new told idle is done =
-    let same : after_message setup (pays told.orders) (stands_at found) message ≡ stands_at found =
-    ap (λ (was : Option ℕ). after_message setup (pays told.orders) was message) idle ∙ after_none setup (pays told.orders) message (ap pays done.orders_are) ∙ sym idle in
-    stray_step Closes setup call number message found old new told (same_lists call old new done.lists, done.talks call) is same
+pub unasked_stray : (Closes : Type 0) (setup : Setup) (numbers : List ℕ) (at call number : ℕ) (message : SsfMsg) (found : Option DialogueAt) (old new : Holding) (answer : AnswerView) → stands_at found ≡ None
+    → old.talks call ≡ found → IsDone setup numbers at Strays old new answer → IsOwnStep Closes setup call number message found old new answer
+unasked_stray Closes setup numbers at call number message found old new answer idle is done =
+    let same : after_message setup (pays answer.orders) (stands_at found) message ≡ stands_at found =
+    ap (λ (was : Option ℕ). after_message setup (pays answer.orders) was message) idle ∙ after_none setup (pays answer.orders) message (ap pays done.orders_are) ∙ sym idle in
+    stray_step Closes setup call number message found old new answer (same_lists call old new done.lists, done.talks call) is same
     (λ place. ap (λ (was : Option ℕ). if is_there was place then report_in number call message else []) idle) (λ ended. idle)
 
 -- a dialogue that doesn't go on with its call asks for nothing more
@@ -243,9 +243,9 @@ idle_over number at (FirstAsk t) message idle = tt
 idle_over number at (Running t) message idle = absurd (cc)
 idle_over number at (Settling t active since) message idle = tt
 idle_over number at (MoreAsk t) message idle = tt
-idle_over number at (Returning after) message idle = over_told number at (Returning after) message refl
-idle_over number at Ending message idle = over_told number at Ending message refl
-idle_over number at Closed message idle = over_told number at Closed message refl
+idle_over number at (Returning after) message idle = over_answer number at (Returning after) message refl
+idle_over number at Ending message idle = over_answer number at Ending message refl
+idle_over number at Closed message idle = over_answer number at Closed message refl
 
 -- and pays for nothing
 abbrev StepPaysNone : Step → Type 0
@@ -270,14 +270,14 @@ pub idle_place : (phase : Phase) (place : ℕ) → is_running phase ≡ false �
 idle_place phase place idle = ap (λ (b : Bool). if b then Some place else None) idle
 
 -- a talk that has asked for nothing
-pub record IsIdleTalk (numbers : List ℕ) (call at : ℕ) (first : Says × Phase) (old new : Holding) (told : AnswerView) : Type 0 where
+pub record IsIdleTalk (numbers : List ℕ) (call at : ℕ) (first : Says × Phase) (old new : Holding) (answer : AnswerView) : Type 0 where
   pub same : SameEntries call old.lists new.lists
   pub now : new.talks call ≡ Some (record { phase = first.1; place = at })
-  pub orders : told.orders ≡ orders_sent_by first.0
+  pub orders : answer.orders ≡ orders_sent_by first.0
 
-pub idle_talk : (numbers : List ℕ) (call at : ℕ) (first : Says × Phase) (old new : Holding) (told : AnswerView) → is_ask first.0 ≡ false → IsTalked numbers call at first old new told
-    → IsIdleTalk numbers call at first old new told
-idle_talk numbers call at first old new told rests is =
+pub idle_talk : (numbers : List ℕ) (call at : ℕ) (first : Says × Phase) (old new : Holding) (answer : AnswerView) → is_ask first.0 ≡ false → IsTalked numbers call at first old new answer
+    → IsIdleTalk numbers call at first old new answer
+idle_talk numbers call at first old new answer rests is =
     let none : is.gots ≡ [] = nothing_asked first is.gots rests is.asked in
     let first_is : first ≡ (is.last, is.phase) = subst (λ (gots : List Got). talked first gots ≡ (is.last, is.phase)) none is.talk in
     let seat : ℕ = slice_index_or numbers at 0 in
@@ -293,18 +293,18 @@ idle_talk numbers call at first old new told rests is =
 pub not_false : (b : Bool) → b ≡ false → not b ≡ true
 not_false b is = ap not is
 
-pub idle_step : (Closes : Type 0) (setup : Setup) (numbers : List ℕ) (at call number : ℕ) (message : SsfMsg) (phase : Phase) (place : ℕ) (step : Step) (old new : Holding) (told : AnswerView) → is_running phase ≡ false
+pub idle_step : (Closes : Type 0) (setup : Setup) (numbers : List ℕ) (at call number : ℕ) (message : SsfMsg) (phase : Phase) (place : ℕ) (step : Step) (old new : Holding) (answer : AnswerView) → is_running phase ≡ false
     → StepIsOver step → StepPaysNone step → old.talks call ≡ Some (record { phase = phase; place = place })
-    → IsDone setup numbers at (goes_on call place step) old new told → IsOwnStep Closes setup call number message (Some (record { phase = phase; place = place })) old new told
-idle_step Closes setup numbers at call number message phase place (Err fault) old new told idle over free is done =
-    unasked_stray Closes setup numbers at call number message (Some (record { phase = phase; place = place })) old new told (idle_place phase place idle) is done
-idle_step Closes setup numbers at call number message phase place (Ok next) old new told idle over free is done =
-    let talk = idle_talk numbers call place next old new told over.0 done in
+    → IsDone setup numbers at (goes_on call place step) old new answer → IsOwnStep Closes setup call number message (Some (record { phase = phase; place = place })) old new answer
+idle_step Closes setup numbers at call number message phase place (Err fault) old new answer idle over free is done =
+    unasked_stray Closes setup numbers at call number message (Some (record { phase = phase; place = place })) old new answer (idle_place phase place idle) is done
+idle_step Closes setup numbers at call number message phase place (Ok next) old new answer idle over free is done =
+    let talk = idle_talk numbers call place next old new answer over.0 done in
     let none = idle_place phase place idle in
     let later : is_running next.1 ≡ false = through_idle next.1 over.1 in
     record {
-      goes = ap stands_at talk.now ∙ idle_place next.1 place later ∙ sym (after_none setup (pays told.orders) message (ap pays talk.orders ∙ free))
-          ∙ ap (λ (was : Option ℕ). after_message setup (pays told.orders) was message) (sym none);
+      goes = ap stands_at talk.now ∙ idle_place next.1 place later ∙ sym (after_none setup (pays answer.orders) message (ap pays talk.orders ∙ free))
+          ∙ ap (λ (was : Option ℕ). after_message setup (pays answer.orders) was message) (sym none);
       settles = λ closes place'.
           ap settles_of (talk.same place') ∙ sym (append-nil (settles_of (entries_at call old.lists place')))
           ∙ ap (λ (was : Option ℕ). settles_of (entries_at call old.lists place') ++ (if is_there was place' then report_in number call message else [])) (sym none);

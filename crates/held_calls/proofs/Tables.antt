@@ -114,20 +114,20 @@ pub begun_stands : (facts : CallFacts) (call now wanted least : ℕ) (route : Op
 begun_stands facts call now wanted least None not_yet = (tt, tt)
 begun_stands facts call now wanted least (Some route) not_yet = (tt, not_yet)
 
-pub told_stands : (facts : CallFacts) (number at : ℕ) (phase : Phase) (message : SsfMsg) → IsShown phase facts → StepStands facts (on_message phase number at message)
-told_stands facts number at (FirstAsk t) message shown = tt
-told_stands facts number at (Running t) (msg.InitialDp other calling called) shown = tt
-told_stands facts number at (Running t) (msg.EventReport event.Answer leg mode) shown = (tt, shown)
-told_stands facts number at (Running t) (msg.EventReport event leg mode) shown = (tt, shown.0)
-told_stands facts number at (Running t) (msg.ChargingReport active info) shown = (tt, shown)
-told_stands facts number at (Running t) msg.Ended shown = (tt, shown.0)
-told_stands facts number at (Settling t active since) message shown = tt
-told_stands facts number at (MoreAsk t) message shown = tt
-told_stands facts number at (Returning after) message shown = tt
-told_stands facts number at Ending (msg.InitialDp other calling called) shown = tt
-told_stands facts number at Ending (msg.EventReport event leg Interrupted) shown = (tt, tt)
-told_stands facts number at Ending (msg.EventReport event leg NotifyAndContinue) shown = (tt, tt)
-told_stands facts number at Ending (msg.EventReport event leg Transparent) shown = (tt, tt)
-told_stands facts number at Ending (msg.ChargingReport active info) shown = tt
-told_stands facts number at Ending msg.Ended shown = (tt, tt)
-told_stands facts number at Closed message shown = tt
+pub answer_stands : (facts : CallFacts) (number at : ℕ) (phase : Phase) (message : SsfMsg) → IsShown phase facts → StepStands facts (on_message phase number at message)
+answer_stands facts number at (FirstAsk t) message shown = tt
+answer_stands facts number at (Running t) (msg.InitialDp other calling called) shown = tt
+answer_stands facts number at (Running t) (msg.EventReport event.Answer leg mode) shown = (tt, shown)
+answer_stands facts number at (Running t) (msg.EventReport event leg mode) shown = (tt, shown.0)
+answer_stands facts number at (Running t) (msg.ChargingReport active info) shown = (tt, shown)
+answer_stands facts number at (Running t) msg.Ended shown = (tt, shown.0)
+answer_stands facts number at (Settling t active since) message shown = tt
+answer_stands facts number at (MoreAsk t) message shown = tt
+answer_stands facts number at (Returning after) message shown = tt
+answer_stands facts number at Ending (msg.InitialDp other calling called) shown = tt
+answer_stands facts number at Ending (msg.EventReport event leg Interrupted) shown = (tt, tt)
+answer_stands facts number at Ending (msg.EventReport event leg NotifyAndContinue) shown = (tt, tt)
+answer_stands facts number at Ending (msg.EventReport event leg Transparent) shown = (tt, tt)
+answer_stands facts number at Ending (msg.ChargingReport active info) shown = tt
+answer_stands facts number at Ending msg.Ended shown = (tt, tt)
+answer_stands facts number at Closed message shown = tt

@@ -30,14 +30,14 @@ after_message setup paid was Ended = None
 
 -- after an item and its answer
 abbrev pub after_item : Setup → ℕ → Option ℕ → Body → AnswerView → Option ℕ
-after_item setup call was (Ssf other message) told = if other == call then after_message setup (pays told.orders) was message else was
-after_item setup call was (Recharge account amount until) told = was
+after_item setup call was (Ssf other message) answer = if other == call then after_message setup (pays answer.orders) was message else was
+after_item setup call was (Recharge account amount until) answer = was
 
 -- after items and their answers
 abbrev pub goes_on_from : Setup → ℕ → Option ℕ → List Item → List AnswerView → Option ℕ
 goes_on_from setup call was [] answers = was
 goes_on_from setup call was (item ∷ items) [] = was
-goes_on_from setup call was (item ∷ items) (told ∷ answers) = goes_on_from setup call (after_item setup call was item.body told) items answers
+goes_on_from setup call was (item ∷ items) (answer ∷ answers) = goes_on_from setup call (after_item setup call was item.body answer) items answers
 
 -- the place of the account at which a call goes on after all items, if it does
 abbrev pub goes_on_at : Setup → ℕ → List Item → List AnswerView → Option ℕ
@@ -54,8 +54,8 @@ PaidCallsGoOn Shows =
 abbrev pub gathered : {X : Type 0} → (Option ℕ → Option ℕ → Item → List X) → Setup → ℕ → Option ℕ → List Item → List AnswerView → List X
 gathered comes setup call was [] answers = []
 gathered comes setup call was (item ∷ items) [] = []
-gathered comes setup call was (item ∷ items) (told ∷ answers) =
-    comes was (after_item setup call was item.body told) item ++ gathered comes setup call (after_item setup call was item.body told) items answers
+gathered comes setup call was (item ∷ items) (answer ∷ answers) =
+    comes was (after_item setup call was item.body answer) item ++ gathered comes setup call (after_item setup call was item.body answer) items answers
 
 -- ---- its reports
 
@@ -101,8 +101,8 @@ ended_in call was (Recharge account amount until) = None
 abbrev pub ended_from : Setup → ℕ → Option ℕ → List Item → List AnswerView → Option ℕ
 ended_from setup call was [] answers = None
 ended_from setup call was (item ∷ items) [] = None
-ended_from setup call was (item ∷ items) (told ∷ answers) =
-    option_or (ended_in call was item.body) (ended_from setup call (after_item setup call was item.body told) items answers)
+ended_from setup call was (item ∷ items) (answer ∷ answers) =
+    option_or (ended_in call was item.body) (ended_from setup call (after_item setup call was item.body answer) items answers)
 
 -- among all items
 abbrev pub ended_at : Setup → ℕ → List Item → List AnswerView → Option ℕ

@@ -21,8 +21,8 @@ use Rattle.workers_core.specs.Talks.{Showing}
 pub record IsAnsweredNext (Shows : ℕ → Showing) (setup : Setup) (number : ℕ) (before : List Post) (post : Post) (old new : Holding) : Type 0 where
   pub answers : List AnswerView
   pub begins : AreAnswered Shows setup (seat_numbers number setup) before answers (at_first setup) old
-  pub told : AnswerView
-  pub handles : IsRightlyHandled Shows setup (seat_numbers number setup) post old new told
+  pub answer : AnswerView
+  pub handles : IsRightlyHandled Shows setup (seat_numbers number setup) post old new answer
 
 -- a report of a call that goes on with what it was granted is settled at the call's account, with the number of its post, and nothing else is settled for it
 abbrev pub TakenReportsAreSettled : (ℕ → Showing) → Type 0

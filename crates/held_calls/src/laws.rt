@@ -7,7 +7,7 @@ ghost use Rattle.held_calls.specs.Laws.{EndedCallsAreReturned, TakenReportsAreSe
 ghost use Rattle.held_calls.specs.Runs.{RunCallsAreReturned, RunCallsThatEndAreReturned, RunReportsAreSettled};
 ghost use Rattle.workers_core.specs.Refusals.{RefusesAt};
 
-use account_core::answers_are_kindly;
+use account_core::answers_fit_their_operations;
 use runs_core::{run_calls_are_of_one_worker, run_closing_is_never_refused};
 use shared_account::{Shared, TurnAccount, calls_of_one_seat_are_alone};
 
@@ -87,7 +87,7 @@ pub fn run_calls_are_returned()
 pub fn run_calls_that_end_are_returned()
     ensures { RunCallsThatEndAreReturned }
 {
-    answers_are_kindly();
+    answers_fit_their_operations();
     run_closing_is_never_refused();
     run_calls_are_of_one_worker::<TurnAccount>();
     calls_of_one_seat_are_alone();

@@ -72,10 +72,10 @@ on_alike Closed number at one other alike = refl
 
 -- ---- what is done
 
-module _ (setup : Setup) (numbers : List ℕ) (number at : ℕ) (old new : Holding) (told : AnswerView) where
+module _ (setup : Setup) (numbers : List ℕ) (number at : ℕ) (old new : Holding) (answer : AnswerView) where
   -- what a verdict comes to
   abbrev Does : Verdict → Type 0
-  Does v = IsDone setup numbers at v old new told
+  Does v = IsDone setup numbers at v old new answer
 
   begins_as : (call : ℕ) (called dialled : Number) (home : Option ℕ) → digits_of called ≡ digits_of dialled → Does (begins call dialled home) → Does (begins call called home)
   begins_as call called dialled None same done = done

@@ -19,7 +19,7 @@ use Rattle.workers_core.specs.Workers.{ArePlaced}
 -- no ask was refused for any of these answers
 abbrev pub NoFault : List AnswerView → Type 0
 NoFault [] = Unit {0}
-NoFault (told ∷ answers) = (told.refused ≡ None) × NoFault answers
+NoFault (answer ∷ answers) = (answer.refused ≡ None) × NoFault answers
 
 verdict_alike : (setup : Setup) (talks also : ℕ → Option DialogueAt) (number at : ℕ) (body : Body) → ((call : ℕ) → talks call ≡ also call)
     → verdict_on setup talks number at body ≡ verdict_on setup also number at body
@@ -30,10 +30,10 @@ verdict_alike setup talks also number at (Recharge account amount until) same = 
 pub chain_begins : (Shows : ℕ → Showing) (setup : Setup) (numbers : List ℕ) (posts : List Post) (answers : List AnswerView) (old new : Holding)
     → AreAnswered Shows setup numbers posts answers old new → Begin old.lists new.lists
 chain_begins Shows setup numbers [] [] old new are = subst (λ (h : Holding). Begin old.lists h.lists) are (begin_itself old.lists)
-chain_begins Shows setup numbers [] (told ∷ answers) old new are = absurd are
+chain_begins Shows setup numbers [] (answer ∷ answers) old new are = absurd are
 chain_begins Shows setup numbers (post ∷ posts) [] old new are = absurd are
-chain_begins Shows setup numbers (post ∷ posts) (told ∷ answers) old new are =
-    begin_further old.lists are.0.lists new.lists (done_goes_on setup numbers post.at (verdict setup old.talks post) old are.0 told are.1.handled.done).begin
+chain_begins Shows setup numbers (post ∷ posts) (answer ∷ answers) old new are =
+    begin_further old.lists are.0.lists new.lists (done_goes_on setup numbers post.at (verdict setup old.talks post) old are.0 answer are.1.handled.done).begin
     (chain_begins Shows setup numbers posts answers are.0 new are.2)
 
 -- a chain that begins as another one
@@ -44,19 +44,19 @@ pub record ChainsAreAlike (answers longer : List AnswerView) (more : List Item) 
 
 module _ (opening_at : ℕ → ℕ) (until_at : ℕ → Option ℕ) (Shows Others : ℕ → Showing) (setup : Setup) (numbers : List ℕ) (one : IsProper setup.tariff) where
   -- two posts that say the same
-  once_alike : (post other : Post) (old new again last : Holding) (told also : AnswerView) (ends endings : List (List EntryData)) → ItemsAlike (item_of post) (item_of other)
-      → length old.lists ≡ length setup.accounts → ArePlaced (length setup.accounts) old.talks → HoldAlike old again → told.number ≡ post.number → also.number ≡ other.number
-      → told.refused ≡ None → also.refused ≡ None → Begin new.lists ends → AreLegal opening_at until_at (length setup.accounts) ends
+  once_alike : (post other : Post) (old new again last : Holding) (answer also : AnswerView) (ends endings : List (List EntryData)) → ItemsAlike (item_of post) (item_of other)
+      → length old.lists ≡ length setup.accounts → ArePlaced (length setup.accounts) old.talks → HoldAlike old again → answer.number ≡ post.number → also.number ≡ other.number
+      → answer.refused ≡ None → also.refused ≡ None → Begin new.lists ends → AreLegal opening_at until_at (length setup.accounts) ends
       → Begin last.lists endings → AreLegal opening_at until_at (length setup.accounts) endings
-      → IsDone setup numbers post.at (verdict setup old.talks post) old new told → IsDone setup numbers other.at (verdict setup again.talks other) again last also
-      → AreAlike told also new last
-  once_alike post other old new again last told also ends endings is many placed hold number number_too none none_too begin legal begin_too legal_too done done_too =
+      → IsDone setup numbers post.at (verdict setup old.talks post) old new answer → IsDone setup numbers other.at (verdict setup again.talks other) again last also
+      → AreAlike answer also new last
+  once_alike post other old new again last answer also ends endings is many placed hold number number_too none none_too begin legal begin_too legal_too done done_too =
       let V : Verdict → Type 0 = λ v. IsDone setup numbers other.at v again last also in
       let N : ℕ → Type 0 = λ n. IsDone setup numbers other.at (verdict_on setup old.talks n other.at other.body) again last also in
       let A : ℕ → Type 0 = λ a. IsDone setup numbers a (verdict_on setup old.talks post.number a other.body) again last also in
       let talks = subst V (sym (verdict_alike setup old.talks again.talks other.number other.at other.body hold.talks)) done_too in
       let there = subst A (sym is.at) (subst N (sym is.number) talks) in
-      done_alike opening_at until_at setup numbers post (verdict setup old.talks post) old new again last told also ends endings one many placed
+      done_alike opening_at until_at setup numbers post (verdict setup old.talks post) old new again last answer also ends endings one many placed
       (means_on setup old.talks post.number post.at post.body) hold (number ∙ is.number ∙ sym number_too) none none_too begin legal begin_too legal_too done
       (done_as setup numbers post.number post.at again last also old.talks post.body other.body is.body there)
 
@@ -75,23 +75,23 @@ module _ (opening_at : ℕ → ℕ) (until_at : ℕ → Option ℕ) (Shows Other
       nothing_left : (others : List Post) (longer : List AnswerView) (again last : Holding) → map item_of others ≡ [] → AreAnswered Others setup numbers others longer again last
           → (longer ≡ []) × (again ≡ last)
       nothing_left [] [] again last is too = (refl, too)
-      nothing_left [] (told ∷ longer) again last is too = absurd too
+      nothing_left [] (answer ∷ longer) again last is too = absurd too
       nothing_left (other ∷ others) longer again last is too = absurd (cc)
-  chains_alike [] others more (told ∷ answers) longer old new again last is many placed hold none none_too legal legal_too are too = absurd are
+  chains_alike [] others more (answer ∷ answers) longer old new again last is many placed hold none none_too legal legal_too are too = absurd are
   chains_alike (post ∷ posts) others more [] longer old new again last is many placed hold none none_too legal legal_too are too = absurd are
-  chains_alike (post ∷ posts) [] more (told ∷ answers) longer old new again last is many placed hold none none_too legal legal_too are too = absurd is
-  chains_alike (post ∷ posts) (other ∷ others) more (told ∷ answers) [] old new again last is many placed hold none none_too legal legal_too are too = absurd too
-  chains_alike (post ∷ posts) (other ∷ others) more (told ∷ answers) (also ∷ longer) old new again last is many placed hold none none_too legal legal_too are too =
+  chains_alike (post ∷ posts) [] more (answer ∷ answers) longer old new again last is many placed hold none none_too legal legal_too are too = absurd is
+  chains_alike (post ∷ posts) (other ∷ others) more (answer ∷ answers) [] old new again last is many placed hold none none_too legal legal_too are too = absurd too
+  chains_alike (post ∷ posts) (other ∷ others) more (answer ∷ answers) (also ∷ longer) old new again last is many placed hold none none_too legal legal_too are too =
       let between = are.0 in
       let between_too = too.0 in
-      let alike = once_alike post other old between again between_too told also new.lists last.lists is.0 many placed hold are.1.handled.number too.1.handled.number none.0 none_too.0
+      let alike = once_alike post other old between again between_too answer also new.lists last.lists is.0 many placed hold are.1.handled.number too.1.handled.number none.0 none_too.0
       (chain_begins Shows setup numbers posts answers between new are.2) legal (chain_begins Others setup numbers others longer between_too last too.2) legal_too
       are.1.handled.done too.1.handled.done in
-      let goes = done_goes_on setup numbers post.at (verdict setup old.talks post) old between told are.1.handled.done in
+      let goes = done_goes_on setup numbers post.at (verdict setup old.talks post) old between answer are.1.handled.done in
       let rest = chains_alike posts others more answers longer between new between_too last is.1 (goes.many ∙ many)
-      (placed_after setup numbers post old between told placed are.1.handled.done) alike.hold none.1 none_too.1 legal legal_too are.2 too.2 in
+      (placed_after setup numbers post old between answer placed are.1.handled.done) alike.hold none.1 none_too.1 legal legal_too are.2 too.2 in
       record {
         rest = rest.rest;
-        answers_are = ap (λ (t : AnswerView). t ∷ longer) (sym alike.told_is) ∙ ap (λ (l : List AnswerView). told ∷ l) rest.answers_are;
+        answers_are = ap (λ (t : AnswerView). t ∷ longer) (sym alike.answer_is) ∙ ap (λ (l : List AnswerView). answer ∷ l) rest.answers_are;
         same = rest.same;
       }

@@ -70,12 +70,12 @@ go_on_same old new same = record { begin = begin_same old new same; many = ap le
 go_on_grown : (old new : List (List EntryData)) (at : ℕ) (entries : List EntryData) → new ≡ grown old at entries → GoOn old new
 go_on_grown old new at entries same = record { begin = begin_grown old new at entries same; many = ap length same ∙ grown_many old at entries }
 
-pub done_goes_on : (setup : Setup) (numbers : List ℕ) (at : ℕ) (v : Verdict) (old new : Holding) (told : AnswerView) → IsDone setup numbers at v old new told → GoOn old.lists new.lists
-done_goes_on setup numbers at Strays old new told done = go_on_same old.lists new.lists done.lists
-done_goes_on setup numbers at Rejects old new told done = go_on_same old.lists new.lists done.lists
-done_goes_on setup numbers at (Recharges place amount until) old new told done = go_on_grown old.lists new.lists place _ done.lists
-done_goes_on setup numbers at (Begins call place called) old new told done = go_on_grown old.lists new.lists place _ done.talked.lists
-done_goes_on setup numbers at (GoesOn call place said phase) old new told done = go_on_grown old.lists new.lists place _ done.lists
+pub done_goes_on : (setup : Setup) (numbers : List ℕ) (at : ℕ) (v : Verdict) (old new : Holding) (answer : AnswerView) → IsDone setup numbers at v old new answer → GoOn old.lists new.lists
+done_goes_on setup numbers at Strays old new answer done = go_on_same old.lists new.lists done.lists
+done_goes_on setup numbers at Rejects old new answer done = go_on_same old.lists new.lists done.lists
+done_goes_on setup numbers at (Recharges place amount until) old new answer done = go_on_grown old.lists new.lists place _ done.lists
+done_goes_on setup numbers at (Begins call place called) old new answer done = go_on_grown old.lists new.lists place _ done.talked.lists
+done_goes_on setup numbers at (GoesOn call place said phase) old new answer done = go_on_grown old.lists new.lists place _ done.lists
 
 -- ---- alike
 
@@ -85,8 +85,8 @@ pub record HoldAlike (one other : Holding) : Type 0 where
   pub talks : (call : ℕ) → one.talks call ≡ other.talks call
 
 -- two answers tell the same, and what the workers hold then is the same
-pub record AreAlike (told also : AnswerView) (new other : Holding) : Type 0 where
-  pub told_is : told ≡ also
+pub record AreAlike (answer also : AnswerView) (new other : Holding) : Type 0 where
+  pub answer_is : answer ≡ also
   pub hold : HoldAlike new other
 
 abbrev at_phase : ℕ → Phase → DialogueAt
@@ -95,9 +95,9 @@ at_phase place phase = record { phase = phase; place = place }
 abbrev view : ℕ → List Order → Bool → Option AccountFault → AnswerView
 view number orders stray refused = record { number = number; orders = orders; stray = stray; refused = refused }
 
-told_alike : (told also : AnswerView) → told.number ≡ also.number → told.orders ≡ also.orders → told.stray ≡ also.stray → told.refused ≡ also.refused → told ≡ also
-told_alike told also number orders stray refused =
-    let same : view told.number told.orders told.stray told.refused ≡ view also.number also.orders also.stray also.refused = rw (number, orders, stray, refused) refl in same
+answer_alike : (answer also : AnswerView) → answer.number ≡ also.number → answer.orders ≡ also.orders → answer.stray ≡ also.stray → answer.refused ≡ also.refused → answer ≡ also
+answer_alike answer also number orders stray refused =
+    let same : view answer.number answer.orders answer.stray answer.refused ≡ view also.number also.orders also.stray also.refused = rw (number, orders, stray, refused) refl in same
 
 stay_alike : (old new again other : ℕ → Option DialogueAt) → ((call : ℕ) → old call ≡ again call) → Stay old new → Stay again other → (call : ℕ) → new call ≡ other call
 stay_alike old new again other same stay too call = stay call ∙ same call ∙ sym (too call)
@@ -113,11 +113,11 @@ module _ (opening_at : ℕ → ℕ) (until_at : ℕ → Option ℕ) (count : ℕ
   AreLegal ends = (place : ℕ) → place < count → IsLegal (opening_at place) (until_at place) (slice_index_or ends place [])
 
   -- what the asks of a talk have entered
-  entered : (numbers : List ℕ) (place : ℕ) (first : Says × Phase) (old new : Holding) (told : AnswerView) (gots : List Got) (ends : List (List EntryData))
-      → length old.lists ≡ count → place < count → AllAsk first gots → told.refused ≡ last_fault gots → told.refused ≡ None
+  entered : (numbers : List ℕ) (place : ℕ) (first : Says × Phase) (old new : Holding) (answer : AnswerView) (gots : List Got) (ends : List (List EntryData))
+      → length old.lists ≡ count → place < count → AllAsk first gots → answer.refused ≡ last_fault gots → answer.refused ≡ None
       → new.lists ≡ grown old.lists place (entries_of (slice_index_or numbers place 0) first gots) → Begin new.lists ends → AreLegal ends
       → AreEntered (opening_at place) (until_at place) (slice_index_or numbers place 0) first (slice_index_or old.lists place []) (slice_index_or ends place []) gots
-  entered numbers place first old new told gots ends many within asked refused none lists begin legal =
+  entered numbers place first old new answer gots ends many within asked refused none lists begin legal =
       let here : slice_index_or new.lists place [] ≡ slice_index_or old.lists place [] ++ entries_of (slice_index_or numbers place 0) first gots =
       ap (λ (l : List (List EntryData)). slice_index_or l place []) lists ∙ grown_here old.lists place (entries_of (slice_index_or numbers place 0) first gots) (omega (arith, many, within)) in
       let B : List EntryData → Type 0 = λ h. IsPrefix h (slice_index_or ends place []) in
@@ -133,17 +133,17 @@ module _ (opening_at : ℕ → ℕ) (until_at : ℕ → Option ℕ) (count : ℕ
   lists_alike place seat first old new again other gots others same same_gots is too =
       is ∙ ap (λ (l : List (List EntryData)). grown l place (entries_of seat first gots)) same ∙ ap (λ (g : List Got). grown again place (entries_of seat first g)) same_gots ∙ sym too
 
-  talked_alike : (numbers : List ℕ) (call place : ℕ) (first : Says × Phase) (old new again other : Holding) (told also : AnswerView) (ends endings : List (List EntryData))
-      → length old.lists ≡ count → place < count → HoldAlike old again → told.number ≡ also.number → told.refused ≡ None → also.refused ≡ None
+  talked_alike : (numbers : List ℕ) (call place : ℕ) (first : Says × Phase) (old new again other : Holding) (answer also : AnswerView) (ends endings : List (List EntryData))
+      → length old.lists ≡ count → place < count → HoldAlike old again → answer.number ≡ also.number → answer.refused ≡ None → also.refused ≡ None
       → Begin new.lists ends → AreLegal ends → Begin other.lists endings → AreLegal endings
-      → IsTalked numbers call place first old new told → IsTalked numbers call place first again other also → AreAlike told also new other
-  talked_alike numbers call place first old new again other told also ends endings many within hold number none none_too begin legal begin_too legal_too is too =
+      → IsTalked numbers call place first old new answer → IsTalked numbers call place first again other also → AreAlike answer also new other
+  talked_alike numbers call place first old new again other answer also ends endings many within hold number none none_too begin legal begin_too legal_too is too =
       let seat = slice_index_or numbers place 0 in
       let o = opening_at place in
       let u = until_at place in
       let mine = slice_index_or old.lists place [] in
       let mine_too = slice_index_or again.lists place [] in
-      let here = entered numbers place first old new told is.gots ends many within is.asked is.refused none is.lists begin legal in
+      let here = entered numbers place first old new answer is.gots ends many within is.asked is.refused none is.lists begin legal in
       let there = entered numbers place first again other also too.gots endings (sym (ap length hold.lists) ∙ many) within too.asked too.refused none_too too.lists begin_too legal_too in
       let E : List EntryData → Type 0 = λ m. AreEntered o u seat first m (slice_index_or endings place []) too.gots in
       let there_same = subst E (ap (λ (l : List (List EntryData)). slice_index_or l place []) (sym hold.lists)) there in
@@ -152,7 +152,7 @@ module _ (opening_at : ℕ → ℕ) (until_at : ℕ → Option ℕ) (count : ℕ
       let same = same_gots o u seat first mine (slice_index_or ends place []) (slice_index_or endings place []) is.gots too.gots here there_same rests rests_too in
       let last : (is.last, is.phase) ≡ (too.last, too.phase) = sym is.talk ∙ ap (talked first) same ∙ too.talk in
       record {
-        told_is = told_alike told also number (is.orders ∙ ap (λ (p : Says × Phase). orders_sent_by p.0) last ∙ sym too.orders) (is.stray ∙ sym too.stray) (none ∙ sym none_too);
+        answer_is = answer_alike answer also number (is.orders ∙ ap (λ (p : Says × Phase). orders_sent_by p.0) last ∙ sym too.orders) (is.stray ∙ sym too.stray) (none ∙ sym none_too);
         hold = record {
           lists = lists_alike place seat first old.lists new.lists again.lists other.lists is.gots too.gots hold.lists same is.lists too.lists;
           talks = now_alike call (record { phase = is.phase; place = place }) (record { phase = too.phase; place = place }) old.talks new.talks again.talks other.talks hold.talks
@@ -160,30 +160,30 @@ module _ (opening_at : ℕ → ℕ) (until_at : ℕ → Option ℕ) (count : ℕ
         };
       }
 
-  recharged_alike : (numbers : List ℕ) (place amount : ℕ) (until : Option ℕ) (old new again other : Holding) (told also : AnswerView) (ends endings : List (List EntryData))
-      → length old.lists ≡ count → place < count → HoldAlike old again → told.number ≡ also.number → told.refused ≡ None → also.refused ≡ None
+  recharged_alike : (numbers : List ℕ) (place amount : ℕ) (until : Option ℕ) (old new again other : Holding) (answer also : AnswerView) (ends endings : List (List EntryData))
+      → length old.lists ≡ count → place < count → HoldAlike old again → answer.number ≡ also.number → answer.refused ≡ None → also.refused ≡ None
       → Begin new.lists ends → AreLegal ends → Begin other.lists endings → AreLegal endings
-      → IsRecharged numbers place amount until old new told → IsRecharged numbers place amount until again other also → AreAlike told also new other
-  recharged_alike numbers place amount until old new again other told also ends endings many within hold number none none_too begin legal begin_too legal_too is too =
+      → IsRecharged numbers place amount until old new answer → IsRecharged numbers place amount until again other also → AreAlike answer also new other
+  recharged_alike numbers place amount until old new again other answer also ends endings many within hold number none none_too begin legal begin_too legal_too is too =
       let seat = slice_index_or numbers place 0 in
       let first : Says × Phase = (Asks (Credits amount until), Closed) in
-      let here = entered numbers place first old new told (is.got ∷ []) ends many within (refl, tt) is.refused none is.lists begin legal in
+      let here = entered numbers place first old new answer (is.got ∷ []) ends many within (refl, tt) is.refused none is.lists begin legal in
       let there = entered numbers place first again other also (too.got ∷ []) endings (sym (ap length hold.lists) ∙ many) within (refl, tt) too.refused none_too too.lists begin_too legal_too in
       let E : List EntryData → Type 0 = λ m. AreEntered (opening_at place) (until_at place) seat first m (slice_index_or endings place []) (too.got ∷ []) in
       let there_same = subst E (ap (λ (l : List (List EntryData)). slice_index_or l place []) (sym hold.lists)) there in
       let same = same_got (opening_at place) (until_at place) seat first (slice_index_or old.lists place []) (slice_index_or ends place []) (slice_index_or endings place []) is.got too.got [] here there_same in
       record {
-        told_is = told_alike told also number (is.orders ∙ sym too.orders) (is.stray ∙ sym too.stray) (none ∙ sym none_too);
+        answer_is = answer_alike answer also number (is.orders ∙ sym too.orders) (is.stray ∙ sym too.stray) (none ∙ sym none_too);
         hold = record {
           lists = lists_alike place seat first old.lists new.lists again.lists other.lists (is.got ∷ []) (too.got ∷ []) hold.lists (ap (λ (g : Got). g ∷ []) same) is.lists too.lists;
           talks = stay_alike old.talks new.talks again.talks other.talks hold.talks is.talks too.talks;
         };
       }
 
-  unasked_alike : (orders : List Order) (stray : Bool) (old new again other : Holding) (told also : AnswerView) → HoldAlike old again → told.number ≡ also.number
-      → IsUnasked orders stray old new told → IsUnasked orders stray again other also → AreAlike told also new other
-  unasked_alike orders stray old new again other told also hold number is too = record {
-    told_is = told_alike told also number (is.orders_are ∙ sym too.orders_are) (is.stray_is ∙ sym too.stray_is) (is.refused ∙ sym too.refused);
+  unasked_alike : (orders : List Order) (stray : Bool) (old new again other : Holding) (answer also : AnswerView) → HoldAlike old again → answer.number ≡ also.number
+      → IsUnasked orders stray old new answer → IsUnasked orders stray again other also → AreAlike answer also new other
+  unasked_alike orders stray old new again other answer also hold number is too = record {
+    answer_is = answer_alike answer also number (is.orders_are ∙ sym too.orders_are) (is.stray_is ∙ sym too.stray_is) (is.refused ∙ sym too.refused);
     hold = record {
       lists = is.lists ∙ hold.lists ∙ sym too.lists;
       talks = stay_alike old.talks new.talks again.talks other.talks hold.talks is.talks too.talks;
@@ -191,25 +191,25 @@ module _ (opening_at : ℕ → ℕ) (until_at : ℕ → Option ℕ) (count : ℕ
   }
 
 -- a post, by the verdict on it
-pub done_alike : (opening_at : ℕ → ℕ) (until_at : ℕ → Option ℕ) (setup : Setup) (numbers : List ℕ) (post : Post) (v : Verdict) (old new again other : Holding) (told also : AnswerView)
+pub done_alike : (opening_at : ℕ → ℕ) (until_at : ℕ → Option ℕ) (setup : Setup) (numbers : List ℕ) (post : Post) (v : Verdict) (old new again other : Holding) (answer also : AnswerView)
     (ends endings : List (List EntryData)) → IsProper setup.tariff → length old.lists ≡ length setup.accounts → ArePlaced (length setup.accounts) old.talks
-    → Means setup old.talks post.number post.at post.body v → HoldAlike old again → told.number ≡ also.number → told.refused ≡ None → also.refused ≡ None
+    → Means setup old.talks post.number post.at post.body v → HoldAlike old again → answer.number ≡ also.number → answer.refused ≡ None → also.refused ≡ None
     → Begin new.lists ends → AreLegal opening_at until_at (length setup.accounts) ends → Begin other.lists endings → AreLegal opening_at until_at (length setup.accounts) endings
-    → IsDone setup numbers post.at v old new told → IsDone setup numbers post.at v again other also → AreAlike told also new other
-done_alike opening_at until_at setup numbers post Strays old new again other told also ends endings one many placed means hold number none none_too begin legal begin_too legal_too is too =
-    unasked_alike opening_at until_at (length setup.accounts) [] true old new again other told also hold number is too
-done_alike opening_at until_at setup numbers post Rejects old new again other told also ends endings one many placed means hold number none none_too begin legal begin_too legal_too is too =
-    unasked_alike opening_at until_at (length setup.accounts) (Release 21 ∷ []) false old new again other told also hold number is too
-done_alike opening_at until_at setup numbers post (Recharges place amount until) old new again other told also ends endings one many placed means hold number none none_too begin legal begin_too legal_too is too =
-    recharged_alike opening_at until_at (length setup.accounts) numbers place amount until old new again other told also ends endings many (at_place setup means.account place means.at).0 hold number none none_too
+    → IsDone setup numbers post.at v old new answer → IsDone setup numbers post.at v again other also → AreAlike answer also new other
+done_alike opening_at until_at setup numbers post Strays old new again other answer also ends endings one many placed means hold number none none_too begin legal begin_too legal_too is too =
+    unasked_alike opening_at until_at (length setup.accounts) [] true old new again other answer also hold number is too
+done_alike opening_at until_at setup numbers post Rejects old new again other answer also ends endings one many placed means hold number none none_too begin legal begin_too legal_too is too =
+    unasked_alike opening_at until_at (length setup.accounts) (Release 21 ∷ []) false old new again other answer also hold number is too
+done_alike opening_at until_at setup numbers post (Recharges place amount until) old new again other answer also ends endings one many placed means hold number none none_too begin legal begin_too legal_too is too =
+    recharged_alike opening_at until_at (length setup.accounts) numbers place amount until old new again other answer also ends endings many (at_place setup means.account place means.at).0 hold number none none_too
     begin legal begin_too legal_too is too
-done_alike opening_at until_at setup numbers post (Begins call place called) old new again other told also ends endings one many placed means hold number none none_too begin legal begin_too legal_too is too =
+done_alike opening_at until_at setup numbers post (Begins call place called) old new again other answer also ends endings one many placed means hold number none none_too begin legal begin_too legal_too is too =
     let first = begins_alike setup.tariff (digits_of called) call post.at setup.service.wanted setup.service.least too.route is.route one too.routed is.routed in
     let T : Says × Phase → Type 0 = λ p. IsTalked numbers call place p again other also in
-    talked_alike opening_at until_at (length setup.accounts) numbers call place (on_begin call post.at setup.service.wanted setup.service.least is.route) old new again other told also ends endings
+    talked_alike opening_at until_at (length setup.accounts) numbers call place (on_begin call post.at setup.service.wanted setup.service.least is.route) old new again other answer also ends endings
     many means.within hold number none none_too begin legal begin_too legal_too is.talked (subst T first too.talked)
-done_alike opening_at until_at setup numbers post (GoesOn call place said phase) old new again other told also ends endings one many placed means hold number none none_too begin legal begin_too legal_too is too =
+done_alike opening_at until_at setup numbers post (GoesOn call place said phase) old new again other answer also ends endings one many placed means hold number none none_too begin legal begin_too legal_too is too =
     let its = standing_so (λ s. IsPlaced (length setup.accounts) call s) means.standing (old.talks call) means.stands (placed call) in
     let L : ℕ → Type 0 = λ p. p < length setup.accounts in
-    talked_alike opening_at until_at (length setup.accounts) numbers call place (said, phase) old new again other told also ends endings
+    talked_alike opening_at until_at (length setup.accounts) numbers call place (said, phase) old new again other answer also ends endings
     many (subst L means.same its.placed) hold number none none_too begin legal begin_too legal_too is too

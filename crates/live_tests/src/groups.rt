@@ -18,7 +18,7 @@ const SIZES: [usize; 5] = [5, 3, 1, 4, 1];
 const ANSWERED: [(usize, usize); 4] = [(0, 0), (2, 8), (3, 9), (6, 13)];
 
 /// What is printed of the first lines of the talk.
-fn told(alloc: Global, lines: usize) -> Result<String, Fail> {
+fn seen(alloc: Global, lines: usize) -> Result<String, Fail> {
     let mut text = String::new(alloc);
     for (_, rows) in TALK.iter().take(lines) {
         text.push_str(rows)?;
@@ -85,7 +85,7 @@ fn bursts_of(alloc: Global, sizes: &[usize]) -> Result<Vec<(Vec<u8>, usize)>, Fa
     let mut bursts = Vec::new(alloc);
     let mut first: usize = 0;
     for size in sizes {
-        let due = told(alloc, first)?.len();
+        let due = seen(alloc, first)?.len();
         bursts.push((lines_of(alloc, first, *size)?, due))?;
         first = first.saturating_add(*size);
     }
@@ -130,7 +130,7 @@ fn flushes_lines_together_that_come_together(rt: HostRuntime) -> Result<(), Fail
     )?;
     assert_eq!(rt; run.fault, None);
     assert_eq!(rt; run.given.len(), 7);
-    assert_eq!(rt; output.text.as_slice(), told(alloc, TALK.len())?.as_bytes());
+    assert_eq!(rt; output.text.as_slice(), seen(alloc, TALK.len())?.as_bytes());
     assert_eq!(rt; log.text.as_slice(), LOGGED.as_bytes());
     assert_eq!(rt; (output.writes, output.flushes), (5, 5));
     assert_eq!(rt; (log.writes, log.flushes), (4, 4));
@@ -161,7 +161,7 @@ fn a_log_that_fails_among_lines_answers_none_of_them(rt: HostRuntime) -> Result<
             assert!(rt; false, "{} given after {calls}", run.given.len());
             return Ok(());
         };
-        let rows = told(alloc, *lines)?;
+        let rows = seen(alloc, *lines)?;
         assert_eq!(rt; output.text.as_slice(), rows.as_bytes(), "after {calls}");
         assert!(rt; LOGGED.as_bytes().starts_with(log.text.as_slice()));
         assert!(rt; logged.get() <= log.text.len());
@@ -181,7 +181,7 @@ fn an_input_that_fails_behind_lines_answers_them_first(rt: HostRuntime) -> Resul
         let lines = log.text.iter().filter(|byte| **byte == b'\n').count();
         assert_eq!(rt; run.fault, Some(LiveFault::Input), "after {looks}");
         assert_eq!(rt; run.given.len(), lines, "after {looks}");
-        let rows = told(alloc, looks)?;
+        let rows = seen(alloc, looks)?;
         assert_eq!(rt; output.text.as_slice(), rows.as_bytes(), "after {looks}");
         assert_eq!(rt; printed.get(), rows.len(), "after {looks}");
         assert_eq!(rt; logged.get(), log.text.len(), "after {looks}");

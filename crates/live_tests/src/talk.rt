@@ -133,11 +133,11 @@ impl BufRead for Switch<'_> {
 
     fn consume(&mut self, amount: usize) {
         self.at = self.at.saturating_add(amount);
-        if let Some((line, told)) = self.talk.get(self.given) {
+        if let Some((line, seen)) = self.talk.get(self.given) {
             if self.at >= line.len() {
                 self.at = 0;
                 self.given = self.given.saturating_add(1);
-                self.due = self.due.saturating_add(told.len());
+                self.due = self.due.saturating_add(seen.len());
             }
         }
     }
@@ -252,7 +252,7 @@ pub(crate) fn set_up_seven(alloc: Global) -> Result<RunSetup, Fail> {
 }
 
 /// What is printed of the talk.
-fn told(alloc: Global) -> Result<String, Fail> {
+fn seen(alloc: Global) -> Result<String, Fail> {
     let mut text = String::new(alloc);
     for (_, rows) in TALK {
         write!(text, "{rows}")?;
@@ -278,7 +278,7 @@ fn answers_each_line_before_it_reads_the_next(rt: HostRuntime) -> Result<(), Fai
         Replay::NONE,
     )?;
     assert_eq!(rt; run.fault, None);
-    assert_eq!(rt; output.text.as_slice(), told(alloc)?.as_bytes());
+    assert_eq!(rt; output.text.as_slice(), seen(alloc)?.as_bytes());
     assert_eq!(rt; log.text.as_slice(), LOGGED.as_bytes());
     assert_eq!(rt; logged.get(), LOGGED.len());
     assert_eq!(rt; run.given.len(), 7);
@@ -289,7 +289,7 @@ fn answers_each_line_before_it_reads_the_next(rt: HostRuntime) -> Result<(), Fai
 fn a_failed_log_ends_it(rt: HostRuntime) -> Result<(), Fail> {
     let alloc = rt.alloc();
     let setup = set_up_seven(alloc)?;
-    let told = told(alloc)?;
+    let seen = seen(alloc)?;
     for calls in 0..14 {
         let (printed, logged) = (Cell::new(0), Cell::new(0));
         let talk = Switch::new(&printed);
@@ -306,7 +306,7 @@ fn a_failed_log_ends_it(rt: HostRuntime) -> Result<(), Fail> {
         )?;
         assert_eq!(rt; run.fault, Some(LiveFault::Log), "after {calls}");
         assert_eq!(rt; run.given.len(), calls / 2, "after {calls}");
-        assert!(rt; told.as_bytes().starts_with(output.text.as_slice()));
+        assert!(rt; seen.as_bytes().starts_with(output.text.as_slice()));
         assert!(rt; LOGGED.as_bytes().starts_with(log.text.as_slice()));
     }
     Ok(())
@@ -316,7 +316,7 @@ fn a_failed_log_ends_it(rt: HostRuntime) -> Result<(), Fail> {
 fn a_failed_output_ends_it(rt: HostRuntime) -> Result<(), Fail> {
     let alloc = rt.alloc();
     let setup = set_up_seven(alloc)?;
-    let told = told(alloc)?;
+    let seen = seen(alloc)?;
     for calls in 0..24 {
         let (printed, logged) = (Cell::new(0), Cell::new(0));
         let talk = Switch::new(&printed);
@@ -334,7 +334,7 @@ fn a_failed_output_ends_it(rt: HostRuntime) -> Result<(), Fail> {
         let lines = log.text.iter().filter(|byte| **byte == b'\n').count();
         assert_eq!(rt; run.fault, Some(LiveFault::Output), "after {calls}");
         assert_eq!(rt; run.given.len(), lines, "after {calls}");
-        assert!(rt; told.as_bytes().starts_with(output.text.as_slice()));
+        assert!(rt; seen.as_bytes().starts_with(output.text.as_slice()));
         assert!(rt; LOGGED.as_bytes().starts_with(log.text.as_slice()));
     }
     Ok(())

@@ -39,9 +39,9 @@ by_then : (switched : Option ℕ) (s moment last : ℕ) → (switched ≡ Some s
 by_then switched s moment last (inl was) sooner behind = sooner was
 by_then switched s moment last (inr order) sooner behind = le_trans behind order
 
-told_later : (meter after : Meter) (times : Elapsed) → Later meter after → (times ≡ no_times) ⊎ KnowsTimes meter times → (times ≡ no_times) ⊎ KnowsTimes after times
-told_later meter after times later (inl none) = inl none
-told_later meter after times later (inr on_message) = inr (record {
+known_times_later : (meter after : Meter) (times : Elapsed) → Later meter after → (times ≡ no_times) ⊎ KnowsTimes meter times → (times ≡ no_times) ⊎ KnowsTimes after times
+known_times_later meter after times later (inl none) = inl none
+known_times_later meter after times later (inr on_message) = inr (record {
   answer = on_message.answer;
   switch = on_message.switch;
   moment = on_message.moment;
@@ -59,7 +59,7 @@ covered_later meter after queued kept later covered = record {
   covers = rw later.same_granted covered.covers;
   within_day = covered.within_day;
   single = single_later meter after covered.plan queued later covered.single;
-  agrees = told_later meter after kept.times later covered.agrees;
+  agrees = known_times_later meter after kept.times later covered.agrees;
   rated = λ awaited. covered.rated (sym later.same_awaited ∙ awaited);
   unforfeited = covered.unforfeited;
 }
@@ -84,9 +84,9 @@ rest_later call meter after queued standing phase later rest = record {
 
 -- ---- an order is taken or refused
 
-told_taken : (meter after : Meter) (paid : Paid) (times : Elapsed) → TakesPeriod paid meter after → (times ≡ no_times) ⊎ KnowsTimes meter times → (times ≡ no_times) ⊎ KnowsTimes after times
-told_taken meter after paid times takes (inl none) = inl none
-told_taken meter after paid times takes (inr on_message) = inr (record {
+known_times_taken : (meter after : Meter) (paid : Paid) (times : Elapsed) → TakesPeriod paid meter after → (times ≡ no_times) ⊎ KnowsTimes meter times → (times ≡ no_times) ⊎ KnowsTimes after times
+known_times_taken meter after paid times takes (inl none) = inl none
+known_times_taken meter after paid times takes (inr on_message) = inr (record {
   answer = on_message.answer;
   switch = on_message.switch;
   moment = on_message.moment;
@@ -108,7 +108,7 @@ covered_taken meter after paid kept takes covered = record {
   covers = rw takes.more_granted (omega (arith, covered.covers));
   within_day = covered.within_day;
   single = tt;
-  agrees = told_taken meter after paid kept.times takes covered.agrees;
+  agrees = known_times_taken meter after paid kept.times takes covered.agrees;
   rated = λ awaited. rated_taken meter.awaited (is_some paid.switch) (is_some covered.plan.after ≡ true) (takes.ordered awaited) covered.rated covered.single.1;
   unforfeited = covered.unforfeited;
 }
@@ -120,7 +120,7 @@ covered_refused meter after paid kept later covered = record {
   covers = rw later.same_granted (omega (arith, covered.covers));
   within_day = covered.within_day;
   single = tt;
-  agrees = told_later meter after kept.times later covered.agrees;
+  agrees = known_times_later meter after kept.times later covered.agrees;
   rated = λ awaited. covered.rated (sym later.same_awaited ∙ awaited);
   unforfeited = covered.unforfeited;
 }
@@ -177,24 +177,24 @@ event_fits call meter queued kept t event.Answer mode rests = nothing_queued cal
 event_fits call meter queued kept t event.Disconnect mode rests = rests.0
 event_fits call meter queued kept t event.Abandon mode rests = rests.0
 
-told_fits : (call number moment now : ℕ) (meter after : Meter) (queued : List Paid) (kept : CallFacts) (phase : Phase) (message : SsfMsg) → IsResting call meter queued kept phase
+known_fits : (call number moment now : ℕ) (meter after : Meter) (queued : List Paid) (kept : CallFacts) (phase : Phase) (message : SsfMsg) → IsResting call meter queued kept phase
     → meters.MetersItem meter now (item.Msg message) after → FitsThen call after queued kept phase (on_message phase number moment message)
-told_fits call number moment now meter after queued kept (FirstAsk t) message rests sends = tt
-told_fits call number moment now meter after queued kept (Running t) (msg.InitialDp id calling called) rests later = resting_later call meter after queued kept (Running t) later rests
-told_fits call number moment now meter after queued kept (Running t) (msg.EventReport e leg mode) rests later =
+known_fits call number moment now meter after queued kept (FirstAsk t) message rests sends = tt
+known_fits call number moment now meter after queued kept (Running t) (msg.InitialDp id calling called) rests later = resting_later call meter after queued kept (Running t) later rests
+known_fits call number moment now meter after queued kept (Running t) (msg.EventReport e leg mode) rests later =
     event_fits call after queued kept t e mode (resting_later call meter after queued kept (Running t) later rests)
-told_fits call number moment now meter after queued kept (Running t) (msg.ChargingReport active info) rests reports =
+known_fits call number moment now meter after queued kept (Running t) (msg.ChargingReport active info) rests reports =
     let settles = every_report_settles meter after queued kept now active info rests.1 reports in
     record { ours = rests.0; its_call = rests.0; accepted = settles.accepted; goes_on = settles.goes_on }
-told_fits call number moment now meter after queued kept (Running t) msg.Ended rests later = rests.0
-told_fits call number moment now meter after queued kept (Settling t active since) message rests sends = tt
-told_fits call number moment now meter after queued kept (MoreAsk t) message rests sends = tt
-told_fits call number moment now meter after queued kept (Returning then) message rests sends = tt
-told_fits call number moment now meter after queued kept Ending (msg.InitialDp id calling called) rests sends = tt
-told_fits call number moment now meter after queued kept Ending (msg.EventReport e leg mode) rests sends = sequel_fits call after queued kept (going_on mode)
-told_fits call number moment now meter after queued kept Ending (msg.ChargingReport active info) rests sends = tt
-told_fits call number moment now meter after queued kept Ending msg.Ended rests sends = tt
-told_fits call number moment now meter after queued kept Closed message rests sends = tt
+known_fits call number moment now meter after queued kept (Running t) msg.Ended rests later = rests.0
+known_fits call number moment now meter after queued kept (Settling t active since) message rests sends = tt
+known_fits call number moment now meter after queued kept (MoreAsk t) message rests sends = tt
+known_fits call number moment now meter after queued kept (Returning then) message rests sends = tt
+known_fits call number moment now meter after queued kept Ending (msg.InitialDp id calling called) rests sends = tt
+known_fits call number moment now meter after queued kept Ending (msg.EventReport e leg mode) rests sends = sequel_fits call after queued kept (going_on mode)
+known_fits call number moment now meter after queued kept Ending (msg.ChargingReport active info) rests sends = tt
+known_fits call number moment now meter after queued kept Ending msg.Ended rests sends = tt
+known_fits call number moment now meter after queued kept Closed message rests sends = tt
 
 pub heard : (call number moment now : ℕ) (meter after : Meter) (queued : List Paid) (standing : Option CallFacts) (old new : Phase) (said : Says) (message : SsfMsg)
     → on_message old number moment message ≡ Ok (said, new) → IsAtRest call meter queued standing old → meters.MetersItem meter now (item.Msg message) after
@@ -202,7 +202,7 @@ pub heard : (call number moment now : ℕ) (meter after : Meter) (queued : List 
 heard call number moment now meter after queued standing old new said message is rest sends = record {
   kept = rest.kept;
   stands = rest.stands;
-  fits = rw is at (told_fits call number moment now meter after queued rest.kept old message rest.fits sends);
+  fits = rw is at (known_fits call number moment now meter after queued rest.kept old message rest.fits sends);
 }
 
 pub unheard : (call number moment now : ℕ) (meter after : Meter) (queued : List Paid) (standing : Option CallFacts) (old new : Phase) (message : SsfMsg) (fault : DialogueFault)
@@ -212,7 +212,7 @@ unheard call number moment now meter after queued standing old new message fault
     rw (append-nil queued, same) (record {
       kept = rest.kept;
       stands = rest.stands;
-      fits = rw is at (told_fits call number moment now meter after queued rest.kept old message rest.fits sends);
+      fits = rw is at (known_fits call number moment now meter after queued rest.kept old message rest.fits sends);
     })
 
 -- ---- operations are on their way

@@ -59,12 +59,12 @@ same_follow : (b : Bool) (answer switch moment now : ℕ) → moment ≤ now →
 same_follow true answer switch moment now behind = record { before = omega arith; after = omega arith; stays = λ switched. (refl, refl) }
 same_follow false answer switch moment now behind = record { before = omega arith; after = omega arith; stays = λ switched. (refl, refl) }
 
-told_follow : (answer moment now : ℕ) (switch came : Option ℕ) → moment ≤ now → ((s : ℕ) → switch ≡ Some s → came ≡ Some s)
+known_times_follow : (answer moment now : ℕ) (switch came : Option ℕ) → moment ≤ now → ((s : ℕ) → switch ≡ Some s → came ≡ Some s)
     → ((s : ℕ) → switch ≡ None → came ≡ Some s → moment ≤ s) → Follows (times_at answer switch moment) (times_at answer came now)
-told_follow answer moment now None None behind same later = record { before = omega arith; after = omega arith; stays = λ switched. absurd (cc) }
-told_follow answer moment now None (Some s) behind same later = switch_follows (nat_le s answer) answer s moment now refl (later s refl refl)
-told_follow answer moment now (Some s) None behind same later = let no = same s refl in absurd (cc)
-told_follow answer moment now (Some s) (Some r) behind same later =
+known_times_follow answer moment now None None behind same later = record { before = omega arith; after = omega arith; stays = λ switched. absurd (cc) }
+known_times_follow answer moment now None (Some s) behind same later = switch_follows (nat_le s answer) answer s moment now refl (later s refl refl)
+known_times_follow answer moment now (Some s) None behind same later = let no = same s refl in absurd (cc)
+known_times_follow answer moment now (Some s) (Some r) behind same later =
     let is : r ≡ s = let some = same s refl in cc in
     rw is (same_follow (nat_le s answer) answer s moment now behind)
 
@@ -135,12 +135,12 @@ accepts kept info plan new unforfeited is_plan read lawful = rw (unforfeited, is
 
 -- ---- of a covered call
 
-told_at : (meter : Meter) (times : Elapsed) (answer now : ℕ) → (times ≡ no_times) ⊎ KnowsTimes meter times → meter.answered ≡ Some answer → meter.last ≤ now
+known_times_at : (meter : Meter) (times : Elapsed) (answer now : ℕ) → (times ≡ no_times) ⊎ KnowsTimes meter times → meter.answered ≡ Some answer → meter.last ≤ now
     → Follows times (times_at answer meter.switched now)
-told_at meter times answer now (inl none) answered last = rw none (none_follow (times_at answer meter.switched now))
-told_at meter times answer now (inr told) answered last =
-    let same : told.answer ≡ answer = let some : Some told.answer ≡ Some answer = sym told.was_answered ∙ answered in cc in
-    rw (told.are, same) (told_follow answer told.moment now told.switch meter.switched (le_trans told.behind last) told.same_switch told.later_switch)
+known_times_at meter times answer now (inl none) answered last = rw none (none_follow (times_at answer meter.switched now))
+known_times_at meter times answer now (inr known_times) answered last =
+    let same : known_times.answer ≡ answer = let some : Some known_times.answer ≡ Some answer = sym known_times.was_answered ∙ answered in cc in
+    rw (known_times.are, same) (known_times_follow answer known_times.moment now known_times.switch meter.switched (le_trans known_times.behind last) known_times.same_switch known_times.later_switch)
 
 -- what is queued is nothing, as a period is pending
 none_queued : (meter : Meter) (plan : Rates) (queued : List Paid) → IsSingle meter plan queued → meter.pending ≡ true → queued ≡ []
@@ -195,7 +195,7 @@ every_report_settles meter after queued kept now active info covered reports =
     let covers : meter.granted ≤ kept.granted = omega (arith, covered.covers) in
     let came : (s : ℕ) → meter.switched ≡ Some s → is_some covered.plan.after ≡ true =
     λ s is. covered.rated (sym reports.later.same_awaited ∙ (reports.later.came s (reports.same_switch ∙ is)).1) in
-    let follows : Follows kept.times new = told_at meter kept.times answer now covered.agrees reports.was_answered reports.last in
+    let follows : Follows kept.times new = known_times_at meter kept.times answer now covered.agrees reports.was_answered reports.last in
     let day : now ≤ answer + 864000 = omega (arith, covers, covered.within_day, reports.within) in
     let read : times_read kept.times info ≡ Some new = rw reports.exact (read_at kept.times answer now meter.switched reports.behind day follows) in
     let total : new.before + new.after ≡ now - answer = total_at answer now meter.switched reports.behind in

@@ -27,14 +27,14 @@ use Rattle.table_core.specs.declared.fault.RowFault.{RowFault}
 use Rattle.tariff_core.specs.Bands.{Band}
 use Rattle.tariff_core.specs.Rates.{Rates}
 use Rattle.tariff_core.specs.Times.{Elapsed}
-use Rattle.prepaid_command.specs.Answers.{Answers, IsAnswer, IsAnswerTo, IsAuditOfTable, IsFiledRun, IsSaidOrReported, IsToldAudit, IsToldQuote, IsToldRun, Written, price_of_input, replay_of_input}
+use Rattle.prepaid_command.specs.Answers.{Answers, IsAnswer, IsAnswerTo, IsAuditOfTable, IsFiledRun, IsSaidOrReported, IsAuditPrinted, IsQuotePrinted, IsRunPrinted, Written, price_of_input, replay_of_input}
 use Rattle.prepaid_command.specs.Explanations.{IsAdded, IsOfWords, IsSaidBehind, IsSaidBy, IsSaidOfFault, has_parts, slip_of}
 use Rattle.prepaid_command.specs.Faults.{GivesAnswer, GivesOne, meaning_in, meaning_of_part, of_run, of_run_input, of_words}
 use Rattle.prepaid_command.specs.Input.{sized, sized_as}
 use Rattle.prepaid_command.specs.PriceLines.{price_lines}
 use Rattle.prepaid_command.specs.Reports.{table_reports_of}
 use Rattle.prepaid_command.specs.Replays.{replayed}
-use Rattle.prepaid_command.specs.Tellings.{Telling, plain, telling_of_files, telling_of_run}
+use Rattle.prepaid_command.specs.Printouts.{Printout, plain, printout_of_files, printout_of_run}
 use Rattle.prepaid_command.specs.declared.fault.Fault.{Fault}
 use Rattle.prepaid_command.specs.declared.fault.Fault.TheVariants as fault
 use Rattle.prepaid_command.specs.declared.fault.Part.TheVariants as part
@@ -80,12 +80,12 @@ part_of : (meaning : Result (List Band) InputFault) → IfErr (meaning_of_part m
 part_of (Ok bands) = tt
 part_of (Err why) = run_input_of why
 
-quote_by : (wish : QuoteWish) (meaning : Result (List Band) Fault) (answer : Result Telling Fault) → IfErr meaning IsOfInput
-    → MatchResult meaning (λ bands. IsToldQuote bands wish answer) (λ why. answer ≡ Err why) → IfErr answer IsOfInput
-quote_by wish (Ok bands) answer of_meaning told = rw told.told tt
+quote_by : (wish : QuoteWish) (meaning : Result (List Band) Fault) (answer : Result Printout Fault) → IfErr meaning IsOfInput
+    → MatchResult meaning (λ bands. IsQuotePrinted bands wish answer) (λ why. answer ≡ Err why) → IfErr answer IsOfInput
+quote_by wish (Ok bands) answer of_meaning ending = rw ending.ending tt
 quote_by wish (Err why) answer of_meaning is = rw is of_meaning
 
-pub quote_of : (wish : QuoteWish) (input : List ℕ) (answer : Result Telling Fault) → IsAnswerTo (Quotes wish) input answer → IfErr answer IsOfInput
+pub quote_of : (wish : QuoteWish) (input : List ℕ) (answer : Result Printout Fault) → IsAnswerTo (Quotes wish) input answer → IfErr answer IsOfInput
 quote_of wish input answer is =
     quote_by wish (and_then (sized input) (λ text. meaning_of_part (tariff_in text))) answer
     (after_of (sized input) (λ text. meaning_of_part (tariff_in text)) (sized_of input) (λ text. part_of (tariff_in text))) is
@@ -94,12 +94,12 @@ books_of_part : {X : Type 0} (read : Result X RowFault) → IfErr (meaning_in pa
 books_of_part (Ok x) = tt
 books_of_part (Err why) = tt
 
-audit_by : (ask : AuditAsk) (text : List ℕ) (meaning : Result Books Fault) (answer : Result Telling Fault) → IfErr meaning IsOfInput
-    → MatchResult meaning (λ books. IsToldAudit ask text books answer) (λ why. answer ≡ Err why) → IfErr answer IsOfInput
-audit_by ask text (Ok books) answer of_meaning told = rw told.told tt
+audit_by : (ask : AuditAsk) (text : List ℕ) (meaning : Result Books Fault) (answer : Result Printout Fault) → IfErr meaning IsOfInput
+    → MatchResult meaning (λ books. IsAuditPrinted ask text books answer) (λ why. answer ≡ Err why) → IfErr answer IsOfInput
+audit_by ask text (Ok books) answer of_meaning ending = rw ending.ending tt
 audit_by ask text (Err why) answer of_meaning is = rw is of_meaning
 
-audit_in : (ask : AuditAsk) (text : Result (List ℕ) Fault) (answer : Result Telling Fault) → IfErr text IsOfInput
+audit_in : (ask : AuditAsk) (text : Result (List ℕ) Fault) (answer : Result Printout Fault) → IfErr text IsOfInput
     → MatchResult text (λ table. IsAuditOfTable ask table answer) (λ why. answer ≡ Err why) → IfErr answer IsOfInput
 audit_in ask (Ok table) answer of_text is =
     let meaning = books_of (most_rows ask.size) (rows_of table) in audit_by ask table (meaning_in part.Book meaning) answer (books_of_part meaning) is
@@ -109,15 +109,15 @@ sized_as_of : (size : BookSize) (input : List ℕ) → IfErr (sized_as size inpu
 sized_as_of size.Short input = sized_of input
 sized_as_of size.Long input = tt
 
-pub audit_of : (ask : AuditAsk) (input : List ℕ) (answer : Result Telling Fault) → IsAnswerTo (Audits ask) input answer → IfErr answer IsOfInput
+pub audit_of : (ask : AuditAsk) (input : List ℕ) (answer : Result Printout Fault) → IsAnswerTo (Audits ask) input answer → IfErr answer IsOfInput
 audit_of ask input answer is = audit_in ask (sized_as ask.size input) answer (sized_as_of ask.size input) is
 
 -- ---- what is asked for
 
 -- an answer to what the words ask for
-answers : (words : List (List ℕ)) (wish : Wish) (input : List ℕ) → ((answer : Result Telling Fault) → IsAnswerTo wish input answer → IfErr answer IsOfInput)
-    → (answer : Result Telling Fault) → AsksFor words wish → GivesOne (IsAnswerTo wish input) answer → IsAnswer words input answer
-answers words wish input of_input (Ok telling) asked is = inr (record { wish = wish; asked = asked; answered = is })
+answers : (words : List (List ℕ)) (wish : Wish) (input : List ℕ) → ((answer : Result Printout Fault) → IsAnswerTo wish input answer → IfErr answer IsOfInput)
+    → (answer : Result Printout Fault) → AsksFor words wish → GivesOne (IsAnswerTo wish input) answer → IsAnswer words input answer
+answers words wish input of_input (Ok printout) asked is = inr (record { wish = wish; asked = asked; answered = is })
 answers words wish input of_input (Err fault.Arguments) asked is = absurd (of_input (Err fault.Arguments) is)
 answers words wish input of_input (Err fault.Config) asked is = absurd (of_input (Err fault.Config) is)
 answers words wish input of_input (Err fault.TooLong) asked is = record { wish = wish; asked = asked; answered = is }
@@ -136,7 +136,7 @@ answers words wish input of_input (Err (fault.Run run.Channel)) asked is = recor
 answers words wish input of_input (Err (fault.Run run.Thread)) asked is = record { wish = wish; asked = asked; answered = is }
 
 -- an answer that is a function of its input is one that is meant
-gives_one : {X : Type 0} (view : X → Telling) (result : Result X Fault) (meaning : Result Telling Fault) → GivesAnswer view result meaning
+gives_one : {X : Type 0} (view : X → Printout) (result : Result X Fault) (meaning : Result Printout Fault) → GivesAnswer view result meaning
     → GivesOne (λ answer. meaning ≡ answer) (result_map_both view (λ why. why) result)
 gives_one view (Ok x) meaning gives = gives
 gives_one view (Err fault.Arguments) meaning gives = gives
@@ -172,38 +172,38 @@ replay_of opening limit input =
     after_of (sized input) (λ text. and_then (meaning_in part.Ops (replayed opening limit (rows_of text))) (λ lines. Ok (plain lines))) (sized_of input)
     (λ text. lines_by (replayed opening limit (rows_of text)))
 
-told_run : (made : Result RunSaid RunError) → IfErr (result_map_both telling_of_run of_run made) IsOfInput
-told_run (Ok said) = tt
-told_run (Err (error.Input why)) = run_input_of why
-told_run (Err (error.Run why)) = tt
+ending_run : (made : Result RunSaid RunError) → IfErr (result_map_both printout_of_run of_run made) IsOfInput
+ending_run (Ok said) = tt
+ending_run (Err (error.Input why)) = run_input_of why
+ending_run (Err (error.Run why)) = tt
 
-run_by : (ask : RunAsk) (text : Result (List ℕ) Fault) (answer : Result Telling Fault) → IfErr text IsOfInput
-    → MatchResult text (λ read. IsToldRun ask read answer) (λ why. answer ≡ Err why) → IfErr answer IsOfInput
-run_by ask (Ok text) answer of_text is = rw is.told (told_run is.made)
+run_by : (ask : RunAsk) (text : Result (List ℕ) Fault) (answer : Result Printout Fault) → IfErr text IsOfInput
+    → MatchResult text (λ read. IsRunPrinted ask read answer) (λ why. answer ≡ Err why) → IfErr answer IsOfInput
+run_by ask (Ok text) answer of_text is = rw is.ending (ending_run is.made)
 run_by ask (Err why) answer of_text is = rw is of_text
 
-pub run_of : (ask : RunAsk) (input : List ℕ) (answer : Result Telling Fault) → IsAnswerTo (Runs ask) input answer → IfErr answer IsOfInput
+pub run_of : (ask : RunAsk) (input : List ℕ) (answer : Result Printout Fault) → IsAnswerTo (Runs ask) input answer → IfErr answer IsOfInput
 run_of ask input answer is = run_by ask (sized input) answer (sized_of input) is
 
-filed_run_by : (made : Result TablesSaid RunError) (answer : Result Telling Fault)
-    → MatchResult made (λ tables. (answer ≡ Ok (telling_of_files tables)) ⊎ (answer ≡ Err fault.Into)) (λ why. answer ≡ Err (of_run why)) → IfErr answer IsOfInput
+filed_run_by : (made : Result TablesSaid RunError) (answer : Result Printout Fault)
+    → MatchResult made (λ tables. (answer ≡ Ok (printout_of_files tables)) ⊎ (answer ≡ Err fault.Into)) (λ why. answer ≡ Err (of_run why)) → IfErr answer IsOfInput
 filed_run_by (Ok tables) answer (inl is) = rw is tt
 filed_run_by (Ok tables) answer (inr is) = rw is tt
 filed_run_by (Err (error.Input why)) answer is = rw is (run_input_of why)
 filed_run_by (Err (error.Run why)) answer is = rw is tt
 
-filed_by : (ask : RunAsk) (text : Result (List ℕ) Fault) (answer : Result Telling Fault) → IfErr text IsOfInput
+filed_by : (ask : RunAsk) (text : Result (List ℕ) Fault) (answer : Result Printout Fault) → IfErr text IsOfInput
     → MatchResult text (λ read. IsFiledRun ask read answer) (λ why. answer ≡ Err why) → IfErr answer IsOfInput
-filed_by ask (Ok text) answer of_text is = filed_run_by is.made answer is.told
+filed_by ask (Ok text) answer of_text is = filed_run_by is.made answer is.ending
 filed_by ask (Err why) answer of_text is = rw is of_text
 
-pub filed_of : (ask : RunAsk) (folder input : List ℕ) (answer : Result Telling Fault) → IsAnswerTo (RunsInto ask folder) input answer → IfErr answer IsOfInput
+pub filed_of : (ask : RunAsk) (folder input : List ℕ) (answer : Result Printout Fault) → IsAnswerTo (RunsInto ask folder) input answer → IfErr answer IsOfInput
 filed_of ask folder input answer is = filed_by ask (sized input) answer (sized_of input) is
 
 -- ---- and is told
 
 -- what is said over an input that was kept is said over the input
-said_over : {V W X : Type 0} (words : List (List ℕ)) (items : V → List ℕ) (text_of : W → List ℕ) (view : X → Telling) (known : Option (List ℕ)) (kept : Option V) (more : Option W)
+said_over : {V W X : Type 0} (words : List (List ℕ)) (items : V → List ℕ) (text_of : W → List ℕ) (view : X → Printout) (known : Option (List ℕ)) (kept : Option V) (more : Option W)
     (answer : Result X Fault) (wish : Wish) → AsksFor words wish → IfSome known (λ text. IfSome kept (λ bytes. items bytes ≡ text))
     → IfNone kept (IfErr answer (λ why. IfSome more (λ m. slip_of (has_parts wish) why ≡ None)))
     → IfSome kept (λ bytes. IfErr answer (λ why. IfSome more (λ said. IsSaidOfFault (has_parts wish) (items bytes) why (text_of said))))
@@ -216,17 +216,17 @@ said_over words items text_of view (Some text) (Some bytes) (Some m) (Err why) w
     inl (record { wish = wish; asked = asked; said = subst (λ (t : List ℕ). IsSaidOfFault (has_parts wish) t why (text_of m)) same said })
 
 -- nothing is said behind an answer of another command
-pub none_added : {W X : Type 0} (words : List (List ℕ)) (text_of : W → List ℕ) (view : X → Telling) (known : Option (List ℕ)) (more : Option W) (answer : Result X Fault)
-    → IfOk answer (λ x. more ≡ None) → IfSome known (λ text. IfOk (result_map_both view (λ why. why) answer) (λ telling. IfSome (option_map text_of more) (λ said. IsAdded words text said)))
+pub none_added : {W X : Type 0} (words : List (List ℕ)) (text_of : W → List ℕ) (view : X → Printout) (known : Option (List ℕ)) (more : Option W) (answer : Result X Fault)
+    → IfOk answer (λ x. more ≡ None) → IfSome known (λ text. IfOk (result_map_both view (λ why. why) answer) (λ printout. IfSome (option_map text_of more) (λ said. IsAdded words text said)))
 none_added words text_of view None more answer none = tt
 none_added words text_of view (Some text) more (Ok x) none = rw none tt
 none_added words text_of view (Some text) more (Err why) none = tt
 
 -- what is said behind an answer of a run, over an input that was kept, is said over the input
-pub run_added : {V W X : Type 0} (words : List (List ℕ)) (items : V → List ℕ) (text_of : W → List ℕ) (view : X → Telling) (known : Option (List ℕ)) (kept : Option V) (more : Option W)
+pub run_added : {V W X : Type 0} (words : List (List ℕ)) (items : V → List ℕ) (text_of : W → List ℕ) (view : X → Printout) (known : Option (List ℕ)) (kept : Option V) (more : Option W)
     (answer : Result X Fault) (wish : Wish) → AsksFor words wish → has_parts wish ≡ true → IfSome known (λ text. IfSome kept (λ bytes. items bytes ≡ text))
     → IfNone kept (IfOk answer (λ x. more ≡ None)) → IfSome kept (λ bytes. IfOk answer (λ x. IfSome more (λ m. IsSaidBehind (items bytes) (text_of m))))
-    → IfSome known (λ text. IfOk (result_map_both view (λ why. why) answer) (λ telling. IfSome (option_map text_of more) (λ said. IsAdded words text said)))
+    → IfSome known (λ text. IfOk (result_map_both view (λ why. why) answer) (λ printout. IfSome (option_map text_of more) (λ said. IsAdded words text said)))
 run_added words items text_of view None kept more answer wish asked run same none said = tt
 run_added words items text_of view (Some text) kept more (Err why) wish asked run same none said = tt
 run_added words items text_of view (Some text) None more (Ok x) wish asked run same none said = rw none tt
@@ -237,12 +237,12 @@ run_added words items text_of view (Some text) (Some bytes) (Some m) (Ok x) wish
 none_said : {W : Type 0} (text_of : W → List ℕ) (more : Option W) → more ≡ None → option_map text_of more ≡ None
 none_said text_of more is = rw is refl
 
-answered_known : (words : List (List ℕ)) (known : Option (List ℕ)) (wish : Wish) → ((input : List ℕ) (answer : Result Telling Fault) → IsAnswerTo wish input answer → IfErr answer IsOfInput)
-    → (answer : Result Telling Fault) → AsksFor words wish → IfSome known (λ input. GivesOne (IsAnswerTo wish input) answer) → IfSome known (λ input. IsAnswer words input answer)
+answered_known : (words : List (List ℕ)) (known : Option (List ℕ)) (wish : Wish) → ((input : List ℕ) (answer : Result Printout Fault) → IsAnswerTo wish input answer → IfErr answer IsOfInput)
+    → (answer : Result Printout Fault) → AsksFor words wish → IfSome known (λ input. GivesOne (IsAnswerTo wish input) answer) → IfSome known (λ input. IsAnswer words input answer)
 answered_known words None wish of_input answer asked is = tt
 answered_known words (Some input) wish of_input answer asked is = answers words wish input (of_input input) answer asked is
 
-pub gives_known : {X : Type 0} (view : X → Telling) (known : Option (List ℕ)) (result : Result X Fault) (meaning : List ℕ → Result Telling Fault)
+pub gives_known : {X : Type 0} (view : X → Printout) (known : Option (List ℕ)) (result : Result X Fault) (meaning : List ℕ → Result Printout Fault)
     → IfSome known (λ input. GivesAnswer view result (meaning input)) → IfSome known (λ input. GivesOne (λ answer. meaning input ≡ answer) (result_map_both view (λ why. why) result))
 gives_known view None result meaning gives = tt
 gives_known view (Some input) result meaning gives = gives_one view result (meaning input) gives
@@ -252,30 +252,30 @@ said_of_words : (words : List (List ℕ)) (input : List ℕ) (fault : Fault) (mo
 said_of_words words input fault None is = tt
 said_of_words words input fault (Some text) is = inr is
 
-module _ {V W X : Type 0} (items : V → List ℕ) (text_of : W → List ℕ) (view : X → Telling) (words : List (List ℕ)) (status : ℕ) (old new : Written) (known : Option (List ℕ))
-    (kept : Option V) (more : Option W) (told_answer answer : Result X Fault) (explaining : Bool) where
+module _ {V W X : Type 0} (items : V → List ℕ) (text_of : W → List ℕ) (view : X → Printout) (words : List (List ℕ)) (status : ℕ) (old new : Written) (known : Option (List ℕ))
+    (kept : Option V) (more : Option W) (ending_answer answer : Result X Fault) (explaining : Bool) where
   -- an answer to a wish, or its fault and what is said of that
-  pub wished : (wish : Wish) → ((input : List ℕ) (answer : Result Telling Fault) → IsAnswerTo wish input answer → IfErr answer IsOfInput) → AsksFor words wish
-      → IfSome known (λ input. GivesOne (IsAnswerTo wish input) (result_map_both view (λ why. why) answer)) → told_answer ≡ answer → explaining ≡ explains words
+  pub wished : (wish : Wish) → ((input : List ℕ) (answer : Result Printout Fault) → IsAnswerTo wish input answer → IfErr answer IsOfInput) → AsksFor words wish
+      → IfSome known (λ input. GivesOne (IsAnswerTo wish input) (result_map_both view (λ why. why) answer)) → ending_answer ≡ answer → explaining ≡ explains words
       → (explaining ≡ false → more ≡ None) → IfSome known (λ text. IfSome kept (λ bytes. items bytes ≡ text))
       → IfNone kept (IfErr answer (λ why. IfSome more (λ m. slip_of (has_parts wish) why ≡ None)))
       → IfSome kept (λ bytes. IfErr answer (λ why. IfSome more (λ said. IsSaidOfFault (has_parts wish) (items bytes) why (text_of said))))
-      → IfSome known (λ text. IfOk (result_map_both view (λ why. why) answer) (λ telling. IfSome (option_map text_of more) (λ said. IsAdded words text said)))
-      → IsSaidOrReported (option_map text_of more) (result_map_both view (λ why. why) told_answer) status old new → Answers words known status old new
-  wished wish of_input asked is same_answer explains_is only same none said added told = record {
+      → IfSome known (λ text. IfOk (result_map_both view (λ why. why) answer) (λ printout. IfSome (option_map text_of more) (λ said. IsAdded words text said)))
+      → IsSaidOrReported (option_map text_of more) (result_map_both view (λ why. why) ending_answer) status old new → Answers words known status old new
+  wished wish of_input asked is same_answer explains_is only same none said added ending = record {
     answer = result_map_both view (λ why. why) answer;
     answered = answered_known words known wish of_input (result_map_both view (λ why. why) answer) asked is;
     more = option_map text_of more;
     only = λ off. none_said text_of more (only (explains_is ∙ off));
     said = said_over words items text_of view known kept more answer wish asked same none said;
     added = added;
-    told = subst (λ (a : Result X Fault). IsSaidOrReported (option_map text_of more) (result_map_both view (λ why. why) a) status old new) same_answer told;
+    ending = subst (λ (a : Result X Fault). IsSaidOrReported (option_map text_of more) (result_map_both view (λ why. why) a) status old new) same_answer ending;
   }
 
-pub price_wished : (plan : Rates) (input : List ℕ) (answer : Result Telling Fault) → IsAnswerTo (Prices plan) input answer → IfErr answer IsOfInput
+pub price_wished : (plan : Rates) (input : List ℕ) (answer : Result Printout Fault) → IsAnswerTo (Prices plan) input answer → IfErr answer IsOfInput
 price_wished plan input answer is = rw (← is) (price_of plan input)
 
-pub replay_wished : (opening limit : ℕ) (input : List ℕ) (answer : Result Telling Fault) → IsAnswerTo (Replays opening limit) input answer → IfErr answer IsOfInput
+pub replay_wished : (opening limit : ℕ) (input : List ℕ) (answer : Result Printout Fault) → IsAnswerTo (Replays opening limit) input answer → IfErr answer IsOfInput
 replay_wished opening limit input answer is = rw (← is) (replay_of opening limit input)
 
 about_texts : {W : Type 0} (text_of : W → List ℕ) (P : Type 0) (more : Option W) → IfSome more (λ said. P) → IfSome (option_map text_of more) (λ said. P)
@@ -284,40 +284,40 @@ about_texts text_of P (Some m) is = is
 
 module _ (words : List (List ℕ)) (status : ℕ) (old new : Written) where
   -- the help or the version
-  pub helped : (known : Option (List ℕ)) (telling : Telling) (text : List ℕ) → AsksHelp words ⊎ AsksVersion words → telling ≡ plain text → IsSaidOrReported None (Ok telling) status old new
+  pub helped : (known : Option (List ℕ)) (printout : Printout) (text : List ℕ) → AsksHelp words ⊎ AsksVersion words → printout ≡ plain text → IsSaidOrReported None (Ok printout) status old new
       → Answers words known status old new
-  helped None telling text asked is told = record { answer = Ok telling; answered = tt; more = None; only = λ off. refl; said = tt; added = tt; told = told }
-  helped (Some input) telling text asked is told =
-      record { answer = Ok telling; answered = inl (asked, ap (λ t. t.passes) is); more = None; only = λ off. refl; said = tt; added = tt; told = told }
+  helped None printout text asked is ending = record { answer = Ok printout; answered = tt; more = None; only = λ off. refl; said = tt; added = tt; ending = ending }
+  helped (Some input) printout text asked is ending =
+      record { answer = Ok printout; answered = inl (asked, ap (λ t. t.passes) is); more = None; only = λ off. refl; said = tt; added = tt; ending = ending }
 
   -- words that are refused, and what is said of them
   pub refused : (known more : Option (List ℕ)) (why : WordsFault) (fault : Fault) → IsRead words (Err why) → fault ≡ of_words why → (explains words ≡ false → more ≡ None)
       → (IfSome more (λ said. IsOfWords fault)) → IsSaidOrReported more (Err fault) status old new → Answers words known status old new
-  refused None more why fault read is only of_words told = record { answer = Err fault; answered = tt; more = more; only = only; said = tt; added = tt; told = told }
-  refused (Some input) more why fault read is only of_words told = record {
+  refused None more why fault read is only of_words ending = record { answer = Err fault; answered = tt; more = more; only = only; said = tt; added = tt; ending = ending }
+  refused (Some input) more why fault read is only of_words ending = record {
     answer = Err fault;
     answered = subst (λ (w : Fault). IsAnswer words input (Err w)) (sym is) (refused_words words input why read);
     more = more;
     only = only;
     said = said_of_words words input fault more of_words;
     added = tt;
-    told = told;
+    ending = ending;
   }
 
-module _ {W X : Type 0} (text_of : W → List ℕ) (view : X → Telling) (words : List (List ℕ)) (status : ℕ) (old new : Written) (known : Option (List ℕ)) (more : Option W)
-    (told_answer : Result X Fault) where
+module _ {W X : Type 0} (text_of : W → List ℕ) (view : X → Printout) (words : List (List ℕ)) (status : ℕ) (old new : Written) (known : Option (List ℕ)) (more : Option W)
+    (ending_answer : Result X Fault) where
   -- the same, as the code tells it
-  pub helped_plainly : (answer : X) (text : List ℕ) → AsksHelp words ⊎ AsksVersion words → view answer ≡ plain text → told_answer ≡ Ok answer → more ≡ None
-      → IsSaidOrReported (option_map text_of more) (result_map_both view (λ why. why) told_answer) status old new → Answers words known status old new
-  helped_plainly answer text asked is answer_is none told =
+  pub helped_plainly : (answer : X) (text : List ℕ) → AsksHelp words ⊎ AsksVersion words → view answer ≡ plain text → ending_answer ≡ Ok answer → more ≡ None
+      → IsSaidOrReported (option_map text_of more) (result_map_both view (λ why. why) ending_answer) status old new → Answers words known status old new
+  helped_plainly answer text asked is answer_is none ending =
       let said : IsSaidOrReported (option_map text_of more) (Ok (view answer)) status old new =
-      subst (λ (a : Result X Fault). IsSaidOrReported (option_map text_of more) (result_map_both view (λ why. why) a) status old new) answer_is told in
+      subst (λ (a : Result X Fault). IsSaidOrReported (option_map text_of more) (result_map_both view (λ why. why) a) status old new) answer_is ending in
       helped words status old new known (view answer) text asked is (subst (λ (m : Option W). IsSaidOrReported (option_map text_of m) (Ok (view answer)) status old new) none said)
 
-  pub refused_words_told : (explaining : Bool) (why : WordsFault) → IsRead words (Err why) → told_answer ≡ Err (of_words why) → explaining ≡ explains words
+  pub refused_words_printed : (explaining : Bool) (why : WordsFault) → IsRead words (Err why) → ending_answer ≡ Err (of_words why) → explaining ≡ explains words
       → (explaining ≡ false → more ≡ None) → IfSome more (λ said. IsOfWords (of_words why))
-      → IsSaidOrReported (option_map text_of more) (result_map_both view (λ why. why) told_answer) status old new → Answers words known status old new
-  refused_words_told explaining why read answer_is explains_is only about told =
+      → IsSaidOrReported (option_map text_of more) (result_map_both view (λ why. why) ending_answer) status old new → Answers words known status old new
+  refused_words_printed explaining why read answer_is explains_is only about ending =
       refused words status old new known (option_map text_of more) why (of_words why) read refl (λ off. none_said text_of more (only (explains_is ∙ off)))
       (about_texts text_of (IsOfWords (of_words why)) more about)
-      (subst (λ (a : Result X Fault). IsSaidOrReported (option_map text_of more) (result_map_both view (λ why. why) a) status old new) answer_is told)
+      (subst (λ (a : Result X Fault). IsSaidOrReported (option_map text_of more) (result_map_both view (λ why. why) a) status old new) answer_is ending)

@@ -60,5 +60,5 @@ either_may_come true = tt
 either_may_come false = tt
 
 -- what tells that an input failed may come at any input
-pub failed_may_come : (why : ErrorKind) (told : Fault) → told ≡ failed_input why → FaultMayAlwaysCome told
-failed_may_come why told is = rw is (either_may_come (is_out_of_memory why))
+pub failed_may_come : (why : ErrorKind) (ending : Fault) → ending ≡ failed_input why → FaultMayAlwaysCome ending
+failed_may_come why ending is = rw is (either_may_come (is_out_of_memory why))

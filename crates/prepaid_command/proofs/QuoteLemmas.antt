@@ -6,10 +6,10 @@ use Rattle.run_texts.specs.Inputs.{tariff_in}
 use Rattle.prepaid_command.specs.Answers.{IsQuoteOfInput}
 use Rattle.prepaid_command.specs.Input.{sized}
 use Rattle.prepaid_command.specs.Quotes.{IsQuoteText}
-use Rattle.prepaid_command.specs.Tellings.{Telling, plain}
+use Rattle.prepaid_command.specs.Printouts.{Printout, plain}
 
 -- the quote of the tariff that an input says is told
-pub quoted : (wish : QuoteWish) (input bytes text : List ℕ) (bands : List Band) (telling : Telling) → sized input ≡ Ok bytes → tariff_in bytes ≡ Ok bands
-    → IsQuoteText bands wish text → telling ≡ plain text → IsQuoteOfInput wish input (Ok telling)
-quoted wish input bytes text bands telling is_input is_tariff is_text told =
-    rw (is_input, is_tariff) (record { text = text; is_text = is_text; told = ap (λ t. Ok t) told })
+pub quoted : (wish : QuoteWish) (input bytes text : List ℕ) (bands : List Band) (printout : Printout) → sized input ≡ Ok bytes → tariff_in bytes ≡ Ok bands
+    → IsQuoteText bands wish text → printout ≡ plain text → IsQuoteOfInput wish input (Ok printout)
+quoted wish input bytes text bands printout is_input is_tariff is_text ending =
+    rw (is_input, is_tariff) (record { text = text; is_text = is_text; ending = ap (λ t. Ok t) ending })

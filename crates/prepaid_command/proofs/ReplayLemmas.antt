@@ -15,7 +15,7 @@ use Rattle.entry_rows.specs.Versions.{version_at}
 use Rattle.table_core.specs.Rows.{Fields}
 use Rattle.table_core.specs.Tables.{width_at}
 use Rattle.prepaid_command.specs.Asks.{SeatAsk, asks_headers}
-use Rattle.prepaid_command.specs.ReplayLines.{told_line}
+use Rattle.prepaid_command.specs.ReplayLines.{response_line}
 use Rattle.prepaid_command.specs.Replays.{history_after, line_of_ask, replay_lines}
 
 -- a row that is as wide as its header has the columns of the header's version
@@ -64,8 +64,8 @@ none_replayed opening until limit = record { opened = refl; lasting = refl; limi
 -- ---- one operation
 
 -- what the answer to an ask does to the lines and to the history
-pub record IsStep (old new : Ledger) (ask : SeatAsk) (told : Result Reply AccountFault) : Type 0 where
-  pub line : told_line told ≡ line_of_ask old.opening old.until old.limit (reverse old.history) ask
+pub record IsStep (old new : Ledger) (ask : SeatAsk) (ending : Result Reply AccountFault) : Type 0 where
+  pub line : response_line ending ≡ line_of_ask old.opening old.until old.limit (reverse old.history) ask
   pub history : reverse new.history ≡ history_after old.opening old.until old.limit (reverse old.history) ask
   pub opening : new.opening ≡ old.opening
   pub until : new.until ≡ old.until
@@ -82,11 +82,11 @@ refused_step ledger seat asked why (inl refused) memory = record { line = rw ref
 refused_step ledger seat asked why (inr refused) memory = absurd (memory refused.1)
 
 module _ (old new : Teller) (ledger : Ledger) (is : IsTellerOf ledger old) (seat : ℕ) (asked : Asked) where
-  pub step : (told : Result Reply AccountFault)
-      → IfOk told (λ reply. (l : Ledger) → IsTellerOf l old → reply ≡ answer_of l asked)
-      → OnOk told ((l : Ledger) → IsTellerOf l old → refusal_of l asked ≡ None)
-      → IfErr told (λ why. (l : Ledger) → IsTellerOf l old → IsRefusal l asked why)
-      → told ≢ Err fault.OutOfMemory → IsStep ledger (ledger_after ledger seat asked told) (record { seat = seat; asked = asked }) told
+  pub step : (ending : Result Reply AccountFault)
+      → IfOk ending (λ reply. (l : Ledger) → IsTellerOf l old → reply ≡ answer_of l asked)
+      → OnOk ending ((l : Ledger) → IsTellerOf l old → refusal_of l asked ≡ None)
+      → IfErr ending (λ why. (l : Ledger) → IsTellerOf l old → IsRefusal l asked why)
+      → ending ≢ Err fault.OutOfMemory → IsStep ledger (ledger_after ledger seat asked ending) (record { seat = seat; asked = asked }) ending
   step (Ok reply) answered admitted refused memory =
       let none : refusal_of ledger asked ≡ None = admitted ledger is in
       let right : reply ≡ answer_of ledger asked = answered ledger is in
@@ -99,16 +99,16 @@ module _ (old new : Teller) (ledger : Ledger) (is : IsTellerOf ledger old) (seat
       }
   step (Err why) answered admitted refused memory = refused_step ledger seat asked why (refused ledger is) (λ same. memory (ap Err same))
 
-  pub teller_after : (told : Result Reply AccountFault)
-      → IfOk told (λ reply. (l : Ledger) → IsTellerOf l old → IsTellerOf (entered l (event_by seat asked reply)) new)
-      → OnErr told ((l : Ledger) → IsTellerOf l old → IsTellerOf l new)
-      → IsTellerOf (ledger_after ledger seat asked told) new
+  pub teller_after : (ending : Result Reply AccountFault)
+      → IfOk ending (λ reply. (l : Ledger) → IsTellerOf l old → IsTellerOf (entered l (event_by seat asked reply)) new)
+      → OnErr ending ((l : Ledger) → IsTellerOf l old → IsTellerOf l new)
+      → IsTellerOf (ledger_after ledger seat asked ending) new
   teller_after (Ok reply) entered kept = entered ledger is
   teller_after (Err why) entered kept = kept ledger is
 
-pub one_replayed : (opening : ℕ) (until : Option ℕ) (limit : ℕ) (text : List ℕ) (old new : Ledger) (asks : List SeatAsk) (ask : SeatAsk) (told : Result Reply AccountFault)
-    → IsReplayed opening until limit text old asks → IsStep old new ask told → IsReplayed opening until limit (text ++ told_line told) new (asks ++ ask ∷ [])
-one_replayed opening until limit text old new asks ask told was step = record {
+pub one_replayed : (opening : ℕ) (until : Option ℕ) (limit : ℕ) (text : List ℕ) (old new : Ledger) (asks : List SeatAsk) (ask : SeatAsk) (ending : Result Reply AccountFault)
+    → IsReplayed opening until limit text old asks → IsStep old new ask ending → IsReplayed opening until limit (text ++ response_line ending) new (asks ++ ask ∷ [])
+one_replayed opening until limit text old new asks ask ending was step = record {
   opened = step.opening ∙ was.opened;
   lasting = step.until ∙ was.lasting;
   limited = step.limit ∙ was.limited;

@@ -39,73 +39,73 @@ use Rattle.prepaid_command.specs.PriceLines.{price_lines}
 use Rattle.prepaid_command.specs.Quotes.{IsQuoteText}
 use Rattle.prepaid_command.specs.Replays.{replayed}
 use Rattle.prepaid_command.specs.Reports.{table_reports_of}
-use Rattle.prepaid_command.specs.Tellings.{Telling, plain, status_of_telling, telling_of_files, telling_of_run}
+use Rattle.prepaid_command.specs.Printouts.{Printout, plain, status_of_printout, printout_of_files, printout_of_run}
 use Rattle.prepaid_command.specs.declared.fault.Fault.{Fault}
 use Rattle.prepaid_command.specs.declared.fault.Fault.TheVariants as fault
 use Rattle.prepaid_command.specs.declared.fault.Part.TheVariants as part
 
 -- what `price` makes of an input: its lines, or the first fault
-abbrev pub price_of_input : Rates → List ℕ → Result Telling Fault
+abbrev pub price_of_input : Rates → List ℕ → Result Printout Fault
 price_of_input plan input = and_then (sized input) (λ text.
     and_then (meaning_in part.Reports (table_reports_of plan (rows_of text))) (λ reports. Ok (plain (price_lines plan 0 reports))))
 
 -- what `replay` makes of it
-abbrev pub replay_of_input : ℕ → ℕ → List ℕ → Result Telling Fault
+abbrev pub replay_of_input : ℕ → ℕ → List ℕ → Result Printout Fault
 replay_of_input opening limit input = and_then (sized input) (λ text.
     and_then (meaning_in part.Ops (replayed opening limit (rows_of text))) (λ lines. Ok (plain lines)))
 
 -- an answer of a run, its fault told as the program's
-pub record IsToldRun (ask : RunAsk) (text : List ℕ) (answer : Result Telling Fault) : Type 0 where
+pub record IsRunPrinted (ask : RunAsk) (text : List ℕ) (answer : Result Printout Fault) : Type 0 where
   pub made : Result RunSaid RunError
   pub is_made : IsRunAnswer ask text made
-  pub told : answer ≡ result_map_both telling_of_run of_run made
+  pub ending : answer ≡ result_map_both printout_of_run of_run made
 
 -- what `run` may make of an input. It isn't a function of that: the workers meet at the accounts in any order
-abbrev pub IsRunOfInput : RunAsk → List ℕ → Result Telling Fault → Type 0
-IsRunOfInput ask input answer = MatchResult (sized input) (λ text. IsToldRun ask text answer) (λ why. answer ≡ Err why)
+abbrev pub IsRunOfInput : RunAsk → List ℕ → Result Printout Fault → Type 0
+IsRunOfInput ask input answer = MatchResult (sized input) (λ text. IsRunPrinted ask text answer) (λ why. answer ≡ Err why)
 
 -- an answer of a run whose lines and tables go into files: nothing is printed once these are written, and a fault is told where they couldn't be; else the fault of the run is
-pub record IsFiledRun (ask : RunAsk) (text : List ℕ) (answer : Result Telling Fault) : Type 0 where
+pub record IsFiledRun (ask : RunAsk) (text : List ℕ) (answer : Result Printout Fault) : Type 0 where
   pub made : Result TablesSaid RunError
   pub is_made : IsTablesAnswer ask text made
-  pub told : MatchResult made (λ tables. (answer ≡ Ok (telling_of_files tables)) ⊎ (answer ≡ Err fault.Into)) (λ why. answer ≡ Err (of_run why))
+  pub ending : MatchResult made (λ tables. (answer ≡ Ok (printout_of_files tables)) ⊎ (answer ≡ Err fault.Into)) (λ why. answer ≡ Err (of_run why))
 
 -- what it may make of an input
-abbrev pub IsFiledRunOfInput : RunAsk → List ℕ → Result Telling Fault → Type 0
+abbrev pub IsFiledRunOfInput : RunAsk → List ℕ → Result Printout Fault → Type 0
 IsFiledRunOfInput ask input answer = MatchResult (sized input) (λ text. IsFiledRun ask text answer) (λ why. answer ≡ Err why)
 
 -- the text of an audit, which passes where each account's history is legal
-abbrev pub telling_of_audit : Audited → Telling
-telling_of_audit audit = record { text = audit.lines; passes = audit.passes; refused = [] }
+abbrev pub printout_of_audit : Audited → Printout
+printout_of_audit audit = record { text = audit.lines; passes = audit.passes; refused = [] }
 
 -- an audit of the books of a table is told
-pub record IsToldAudit (ask : AuditAsk) (text : List ℕ) (books : Books) (answer : Result Telling Fault) : Type 0 where
+pub record IsAuditPrinted (ask : AuditAsk) (text : List ℕ) (books : Books) (answer : Result Printout Fault) : Type 0 where
   pub audit : Audited
   pub is_audit : IsAuditOf (most_rows ask.size) ask.lines ask.rows (rows_of text) books audit
-  pub told : answer ≡ Ok (telling_of_audit audit)
+  pub ending : answer ≡ Ok (printout_of_audit audit)
 
 -- what `audit` makes of a table of books, as it is asked
-abbrev pub IsAuditOfTable : AuditAsk → List ℕ → Result Telling Fault → Type 0
+abbrev pub IsAuditOfTable : AuditAsk → List ℕ → Result Printout Fault → Type 0
 IsAuditOfTable ask text answer =
-    MatchResult (meaning_in part.Book (books_of (most_rows ask.size) (rows_of text))) (λ books. IsToldAudit ask text books answer) (λ why. answer ≡ Err why)
+    MatchResult (meaning_in part.Book (books_of (most_rows ask.size) (rows_of text))) (λ books. IsAuditPrinted ask text books answer) (λ why. answer ≡ Err why)
 
 -- and of an input
-abbrev pub IsAuditOfInput : AuditAsk → List ℕ → Result Telling Fault → Type 0
+abbrev pub IsAuditOfInput : AuditAsk → List ℕ → Result Printout Fault → Type 0
 IsAuditOfInput ask input answer = MatchResult (sized_as ask.size input) (λ text. IsAuditOfTable ask text answer) (λ why. answer ≡ Err why)
 
 -- a quote of this tariff is told
-pub record IsToldQuote (bands : List Band) (wish : QuoteWish) (answer : Result Telling Fault) : Type 0 where
+pub record IsQuotePrinted (bands : List Band) (wish : QuoteWish) (answer : Result Printout Fault) : Type 0 where
   pub text : List ℕ
   pub is_text : IsQuoteText bands wish text
-  pub told : answer ≡ Ok (plain text)
+  pub ending : answer ≡ Ok (plain text)
 
 -- what `quote` makes of an input, which is a tariff
-abbrev pub IsQuoteOfInput : QuoteWish → List ℕ → Result Telling Fault → Type 0
+abbrev pub IsQuoteOfInput : QuoteWish → List ℕ → Result Printout Fault → Type 0
 IsQuoteOfInput wish input answer =
-    MatchResult (and_then (sized input) (λ text. meaning_of_part (tariff_in text))) (λ bands. IsToldQuote bands wish answer) (λ why. answer ≡ Err why)
+    MatchResult (and_then (sized input) (λ text. meaning_of_part (tariff_in text))) (λ bands. IsQuotePrinted bands wish answer) (λ why. answer ≡ Err why)
 
 -- what is made of an input as it was wished, where it is printed once it is whole
-abbrev pub IsAnswerTo : Wish → List ℕ → Result Telling Fault → Type 0
+abbrev pub IsAnswerTo : Wish → List ℕ → Result Printout Fault → Type 0
 IsAnswerTo (Prices plan) input answer = price_of_input plan input ≡ answer
 IsAnswerTo (Replays opening limit) input answer = replay_of_input opening limit input ≡ answer
 IsAnswerTo (Runs ask) input answer = IsRunOfInput ask input answer
@@ -116,15 +116,15 @@ IsAnswerTo (RatesRecords wish) input answer = ⊥
 IsAnswerTo (Serves ask log) input answer = ⊥
 
 -- the words ask for what has this answer
-pub record AskForAnswer (words : List (List ℕ)) (input : List ℕ) (answer : Result Telling Fault) : Type 0 where
+pub record AskForAnswer (words : List (List ℕ)) (input : List ℕ) (answer : Result Printout Fault) : Type 0 where
   pub wish : Wish
   pub asked : AsksFor words wish
   pub answered : IsAnswerTo wish input answer
 
 -- an answer to the words and the input: the help, the version or what is asked for, or the first fault. A failed reader and memory that runs out may come at any
-abbrev pub IsAnswer : List (List ℕ) → List ℕ → Result Telling Fault → Type 0
-IsAnswer words input (Ok telling) =
-    ((AsksHelp words ⊎ AsksVersion words) × (telling.passes ≡ true)) ⊎ AskForAnswer words input (Ok telling)
+abbrev pub IsAnswer : List (List ℕ) → List ℕ → Result Printout Fault → Type 0
+IsAnswer words input (Ok printout) =
+    ((AsksHelp words ⊎ AsksVersion words) × (printout.passes ≡ true)) ⊎ AskForAnswer words input (Ok printout)
 IsAnswer words input (Err fault.Arguments) = AsksNothing words
 IsAnswer words input (Err fault.Config) = AsksInVain words words_fault.Config
 IsAnswer words input (Err fault.Device) = ⊤
@@ -137,15 +137,15 @@ pub record Written : Type 0 where
   pub faults : Option (List ℕ)
 
 -- a text went to the output whole, at its status, and behind it the line about refusals and what is said besides to the error writer, or where that failed a front of these
-pub record IsPrinted (telling : Telling) (more : List ℕ) (status : ℕ) (old new : Written) : Type 0 where
-  pub status_is : status ≡ status_of_telling telling
-  pub whole : Appends old.output new.output telling.text
-  pub line : AppendsFront old.faults new.faults (telling.refused ++ more)
+pub record IsPrinted (printout : Printout) (more : List ℕ) (status : ℕ) (old new : Written) : Type 0 where
+  pub status_is : status ≡ status_of_printout printout
+  pub whole : Appends old.output new.output printout.text
+  pub line : AppendsFront old.faults new.faults (printout.refused ++ more)
 
 -- the output failed, at status 2: a front of the text went to it, and nothing to the error writer
-pub record IsCutOff (telling : Telling) (status : ℕ) (old new : Written) : Type 0 where
+pub record IsCutOff (printout : Printout) (status : ℕ) (old new : Written) : Type 0 where
   pub status_is : status ≡ 2
-  pub front : AppendsFront old.output new.output telling.text
+  pub front : AppendsFront old.output new.output printout.text
   pub faults : Keeps old.faults new.faults
 
 -- the line of a fault went to the error writer, or where that failed a front of it. The output stays as it was
@@ -161,22 +161,22 @@ pub record IsReportedWith (why : Fault) (text : List ℕ) (status : ℕ) (old ne
   pub output : Keeps old.output new.output
 
 -- an answer was told, or a fault, and what is said of it
-abbrev pub IsSaidOrReported : Option (List ℕ) → Result Telling Fault → ℕ → Written → Written → Type 0
-IsSaidOrReported more (Ok telling) status old new = IsPrinted telling (unwrap_or more []) status old new ⊎ IsCutOff telling status old new
+abbrev pub IsSaidOrReported : Option (List ℕ) → Result Printout Fault → ℕ → Written → Written → Type 0
+IsSaidOrReported more (Ok printout) status old new = IsPrinted printout (unwrap_or more []) status old new ⊎ IsCutOff printout status old new
 IsSaidOrReported None (Err why) status old new = IsReported why status old new
 IsSaidOrReported (Some text) (Err why) status old new = IsReportedWith why text status old new
 
 -- the status and what was written are of one answer, which is that to the words and the input, where this is known
 pub record Answers (words : List (List ℕ)) (input : Option (List ℕ)) (status : ℕ) (old new : Written) : Type 0 where
-  pub answer : Result Telling Fault
+  pub answer : Result Printout Fault
   pub answered : IfSome input (λ text. IsAnswer words text answer)
   -- what is said of a fault behind its line: nothing where that isn't asked for
   pub more : Option (List ℕ)
   pub only : explains words ≡ false → more ≡ None
   pub said : IfSome input (λ text. IfErr answer (λ why. IfSome more (λ said. IsSaidBy words text why said)))
   -- and behind an answer: nothing but of a run
-  pub added : IfSome input (λ text. IfOk answer (λ telling. IfSome more (λ said. IsAdded words text said)))
-  pub told : IsSaidOrReported more answer status old new
+  pub added : IfSome input (λ text. IfOk answer (λ printout. IfSome more (λ said. IsAdded words text said)))
+  pub ending : IsSaidOrReported more answer status old new
 
 -- ---- records that are rated as they come
 

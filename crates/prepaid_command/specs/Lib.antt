@@ -13,4 +13,4 @@ pub mod Replays
 pub mod Reports
 pub mod Strangers
 pub mod Summaries
-pub mod Tellings
+pub mod Printouts

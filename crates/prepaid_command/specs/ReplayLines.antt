@@ -2,8 +2,8 @@
 use Rattle.std.specs.Prelude.{List, ◌++◌, Result, codes, ℕ}
 use Rattle.account_core.specs.declared.entry.Reply.{Reply}
 use Rattle.account_core.specs.declared.fault.AccountFault.{AccountFault}
-use Rattle.entry_rows.specs.Told.{told_text}
+use Rattle.entry_rows.specs.Responses.{response_text}
 
 -- the line of an answer: its reply, or the fault in its place
-abbrev pub told_line : Result Reply AccountFault → List ℕ
-told_line told = told_text told ++ codes "\n"
+abbrev pub response_line : Result Reply AccountFault → List ℕ
+response_line ending = response_text ending ++ codes "\n"

@@ -9,11 +9,11 @@ use Rattle.account_core.specs.declared.fault.AccountFault.{AccountFault}
 use Rattle.table_core.specs.Judging.{and_then}
 use Rattle.table_core.specs.declared.fault.RowFault.{RowFault}
 use Rattle.prepaid_command.specs.Asks.{SeatAsk, asks_of}
-use Rattle.prepaid_command.specs.ReplayLines.{told_line}
+use Rattle.prepaid_command.specs.ReplayLines.{response_line}
 
 -- the line of an operation: its refusal, or else its reply
 abbrev pub line_by : Option AccountFault → Reply → List ℕ
-line_by refused reply = told_line (reply_or_fault refused reply)
+line_by refused reply = response_line (reply_or_fault refused reply)
 
 -- the history after an operation, newest first: a refused one makes no entry
 abbrev pub history_by : Option AccountFault → EntryData → List EntryData → List EntryData

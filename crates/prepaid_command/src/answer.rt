@@ -15,11 +15,11 @@ pub(crate) struct Answer {
 
 impl Answer {
     ghost use Rattle.std.specs.Prelude.{◌≡◌, string_bytes};
-    ghost use Rattle.prepaid_command.specs.Tellings.{plain, status_of_telling, telling_of};
+    ghost use Rattle.prepaid_command.specs.Printouts.{plain, status_of_printout, printout_of};
 
     /// A text that finds nothing wrong, and of no run that refused anything.
     pub fn plain(text: String) -> Answer
-        ensures { telling_of result ≡ plain (string_bytes text) }
+        ensures { printout_of result ≡ plain (string_bytes text) }
     {
         Answer {
             text,
@@ -30,7 +30,7 @@ impl Answer {
 
     /// The exit status: 0, or 3 where something isn't right.
     pub fn status(&self) -> u8
-        ensures { result ≡ status_of_telling (telling_of self.now) }
+        ensures { result ≡ status_of_printout (printout_of self.now) }
     {
         if self.passes { 0 } else { 3 }
     }

@@ -2,6 +2,7 @@
 #![tactic(auto)]
 
 mod answer;
+mod ending;
 mod error_lines;
 mod fault;
 mod files;
@@ -15,7 +16,6 @@ mod running;
 mod serving;
 mod stranger_lines;
 mod tables;
-mod told;
 
 pub use fault::{Fault, Part};
 pub use input::MAX_INPUT;

@@ -10,7 +10,7 @@ ghost use Rattle.prepaid_command.specs.Answers.{Answers, IsCutOff, IsPrinted, Is
 ghost use Rattle.prepaid_command.specs.Faults.{GivesAnswer, GivesOne};
 ghost use Rattle.rating.specs.Fronts.{AppendsFront};
 ghost use Rattle.prepaid_command.specs.Refused.{refused_line};
-ghost use Rattle.prepaid_command.specs.Tellings.{telling_of};
+ghost use Rattle.prepaid_command.specs.Printouts.{printout_of};
 
 use crate::answer::Answer;
 use crate::error_lines::{refused_line, report, report_with, write_both};
@@ -22,7 +22,7 @@ use crate::rating_rows::rate_input;
 use crate::replaying::replay;
 use crate::running::{Folder, run_into_folder, run_script};
 use crate::serving::serve_messages;
-use crate::told::Told;
+use crate::ending::Ending;
 use book_texts::{AuditAsk, BookSize, audit_books};
 use command_words::{Opening, QuoteAsk, Request, explains, read_words};
 use rating::write_text;
@@ -75,14 +75,14 @@ where
     let explains = explains(words);
     let mut kept = None;
     match read_words(alloc, words) {
-        Ok(Request::Help(text)) => tell(output, faults, Told::plain(Ok(Answer::plain(text)))),
-        Ok(Request::Version(text)) => tell(output, faults, Told::plain(Ok(Answer::plain(text)))),
+        Ok(Request::Help(text)) => tell(output, faults, Ending::plain(Ok(Answer::plain(text)))),
+        Ok(Request::Version(text)) => tell(output, faults, Ending::plain(Ok(Answer::plain(text)))),
         Ok(Request::Price(plan)) => {
             let answer = price_reports(alloc, &plan, input, &mut kept);
             tell(
                 output,
                 faults,
-                Told::over(alloc, explains, false, &kept, answer),
+                Ending::over(alloc, explains, false, &kept, answer),
             )
         }
         Ok(Request::Replay(account)) => {
@@ -90,7 +90,7 @@ where
             tell(
                 output,
                 faults,
-                Told::over(alloc, explains, false, &kept, answer),
+                Ending::over(alloc, explains, false, &kept, answer),
             )
         }
         Ok(Request::Run(options)) => {
@@ -98,7 +98,7 @@ where
             tell(
                 output,
                 faults,
-                Told::of_run(alloc, explains, &options, &kept, answer),
+                Ending::of_run(alloc, explains, &options, &kept, answer),
             )
         }
         Ok(Request::RunInto(options, folder)) => {
@@ -111,7 +111,7 @@ where
             tell(
                 output,
                 faults,
-                Told::of_files(alloc, explains, &options, &kept, &failed, answer),
+                Ending::of_files(alloc, explains, &options, &kept, &failed, answer),
             )
         }
         Ok(Request::Audit(ask)) => {
@@ -119,7 +119,7 @@ where
             tell(
                 output,
                 faults,
-                Told::over(alloc, explains, false, &kept, answer),
+                Ending::over(alloc, explains, false, &kept, answer),
             )
         }
         Ok(Request::Quote(ask)) => {
@@ -127,26 +127,26 @@ where
             tell(
                 output,
                 faults,
-                Told::over(alloc, explains, false, &kept, answer),
+                Ending::over(alloc, explains, false, &kept, answer),
             )
         }
         Ok(Request::Rate(ask)) => rate_input(alloc, &ask, input, output, faults),
         Ok(Request::Serve(options, log)) => {
             serve_messages(rt, alloc, &options, log, input, output, faults)
         }
-        Err(why) => tell(output, faults, Told::of_words(alloc, explains, words, why)),
+        Err(why) => tell(output, faults, Ending::of_words(alloc, explains, words, why)),
     }
 }
 
 /// Prints an answer, or reports a fault, with what is said of it, and gives the status.
-fn tell<O: Write, E: Write>(output: &mut O, faults: &mut E, told: Told) -> u8
-    ensures told { IsSaidOrReported (option_map string_bytes told.more)
-        (result_map_both telling_of (λ fault. fault) told.answer) result
+fn tell<O: Write, E: Write>(output: &mut O, faults: &mut E, ending: Ending) -> u8
+    ensures ending { IsSaidOrReported (option_map string_bytes ending.more)
+        (result_map_both printout_of (λ fault. fault) ending.answer) result
         (record { output = O.contents output.old; faults = E.contents faults.old })
         (record { output = O.contents output.new; faults = E.contents faults.new }) }
     ensures silent { result ≡ 1 → Keeps (O.contents output.old) (O.contents output.new) }
 {
-    match (told.answer, told.more) {
+    match (ending.answer, ending.more) {
         (Ok(answer), None) => print(output, faults, &answer, &[]),
         (Ok(answer), Some(more)) => print(output, faults, &answer, more.as_bytes()),
         (Err(fault), None) => report(faults, fault),
@@ -163,7 +163,7 @@ fn price_reports<I: Read + Drop>(
 ) -> Result<Answer, Fault>
     requires { kept.old ≡ None }
     ensures answer { IfSome (I.remaining input) (λ text.
-        GivesAnswer telling_of result (price_of_input (rates_of plan.now) text)) }
+        GivesAnswer printout_of result (price_of_input (rates_of plan.now) text)) }
     ensures kept { IfSome (I.remaining input) (λ text.
         IfSome kept.new (λ bytes. bytes.items ≡ text)) }
 {
@@ -188,7 +188,7 @@ fn replay_operations<I: Read + Drop>(
     ensures kept { IfSome (I.remaining input) (λ text.
         IfSome kept.new (λ bytes. bytes.items ≡ text)) }
     ensures answer { IfSome (I.remaining input) (λ text.
-        GivesAnswer telling_of result (replay_of_input account.opening account.limit text)) }
+        GivesAnswer printout_of result (replay_of_input account.opening account.limit text)) }
 {
     let bytes = read_input(alloc, input)?;
     match replay(alloc, account.opening, account.limit, bytes.as_slice()) {
@@ -211,7 +211,7 @@ fn audit_input<I: Read + Drop>(
     ensures kept { IfSome (I.remaining input) (λ text.
         IfSome kept.new (λ bytes. bytes.items ≡ text)) }
     ensures answer { IfSome (I.remaining input) (λ text. GivesOne (IsAuditOfInput ask text)
-        (result_map_both telling_of (λ fault. fault) result)) }
+        (result_map_both printout_of (λ fault. fault) result)) }
 {
     match ask.size {
         BookSize::Short => {
@@ -227,7 +227,7 @@ fn audit_input<I: Read + Drop>(
 /// The lines of `audit` for a table of books.
 fn audit_table<I: Read + Drop>(alloc: Global, ask: AuditAsk, table: I) -> Result<Answer, Fault>
     ensures { IfSome (I.remaining table) (λ text. GivesOne (IsAuditOfTable ask text)
-        (result_map_both telling_of (λ fault. fault) result)) }
+        (result_map_both printout_of (λ fault. fault) result)) }
 {
     match audit_books(alloc, table, ask) {
         Ok(audit) => Ok(Answer {
@@ -251,7 +251,7 @@ fn quote_input<I: Read + Drop>(
         IfSome kept.new (λ bytes. bytes.items ≡ text)) }
     ensures answer { IfSome (I.remaining input) (λ text. GivesOne
         (IsQuoteOfInput (quote_wish_of ask.now) text)
-        (result_map_both telling_of (λ fault. fault) result)) }
+        (result_map_both printout_of (λ fault. fault) result)) }
 {
     let bytes = read_input(alloc, input)?;
     let tariff = match read_tariff(alloc, bytes.as_slice()) {
@@ -267,10 +267,10 @@ fn quote_input<I: Read + Drop>(
 /// The status of an answer: its own where the whole text went to the output, and then the line
 /// about refusals to the error writer, with what is said besides; 2 where the output failed.
 fn print<O: Write, E: Write>(output: &mut O, faults: &mut E, answer: &Answer, more: &[u8]) -> u8
-    ensures told { IsPrinted (telling_of answer.now) more.now result
+    ensures ending { IsPrinted (printout_of answer.now) more.now result
         (record { output = O.contents output.old; faults = E.contents faults.old })
         (record { output = O.contents output.new; faults = E.contents faults.new })
-        ⊎ IsCutOff (telling_of answer.now) result
+        ⊎ IsCutOff (printout_of answer.now) result
         (record { output = O.contents output.old; faults = E.contents faults.old })
         (record { output = O.contents output.new; faults = E.contents faults.new }) }
 {

@@ -2,7 +2,7 @@
 
 ghost use Rattle.std.specs.Prelude.{◌≡◌, ◌≢◌, ◌++◌, ◌≤◌, Err, IfErr, IfSome, OnOk, string_bytes};
 ghost use Rattle.std.specs.Result.{result_map_both};
-ghost use Rattle.prepaid_command.specs.ReplayLines.{told_line};
+ghost use Rattle.prepaid_command.specs.ReplayLines.{response_line};
 ghost use Rattle.prepaid_command.specs.Replays.{replayed};
 ghost use Rattle.prepaid_command.specs.Asks.{ask_in};
 ghost use Rattle.prepaid_command.specs.AskingOf.{asking_of};
@@ -15,7 +15,7 @@ ghost use Rattle.table_core.specs.declared.fault.TableFault.TheVariants as out;
 use crate::tables::MAX_ROWS;
 use account_core::{AccountFault, Op, Reply, Teller};
 use csv::ByteRecord;
-use entry_rows::{Version, is_op_blank, read_op, read_op_word, read_seat, write_told};
+use entry_rows::{Version, is_op_blank, read_op, read_op_word, read_seat, write_response};
 use std::alloc::Global;
 use std::io::Read;
 use table_core::{RowKind, Table, TableFault};
@@ -64,14 +64,14 @@ pub fn replay<I: Read + Drop>(
 
 /// Adds the line of an answer. Memory that runs out has no line: it ends the replay.
 fn write_answer(text: &mut String, answer: Result<Reply, AccountFault>) -> Result<(), TableFault>
-    ensures line { OnOk result (string_bytes text.new ≡ string_bytes text.old ++ told_line answer) }
-    ensures told { OnOk result (answer ≢ Err AccountFault.OutOfMemory) }
+    ensures line { OnOk result (string_bytes text.new ≡ string_bytes text.old ++ response_line answer) }
+    ensures ending { OnOk result (answer ≢ Err AccountFault.OutOfMemory) }
     ensures fault { IfErr result (λ fault. fault ≡ out.OutOfMemory) }
 {
     if let Err(AccountFault::OutOfMemory) = answer {
         return Err(TableFault::OutOfMemory);
     }
-    write_told(text, answer)?;
+    write_response(text, answer)?;
     Ok(text.push('\n')?)
 }
 

@@ -5,7 +5,7 @@ ghost use Rattle.std.specs.Result.{result_map_both};
 ghost use Rattle.run_options.specs.Options.{ask_of};
 ghost use Rattle.prepaid_command.specs.Answers.{IsFiledRunOfInput, IsRunOfInput};
 ghost use Rattle.prepaid_command.specs.Faults.{GivesOne};
-ghost use Rattle.prepaid_command.specs.Tellings.{telling_of};
+ghost use Rattle.prepaid_command.specs.Printouts.{printout_of};
 
 use crate::answer::Answer;
 use crate::fault::Fault;
@@ -33,7 +33,7 @@ pub(crate) fn run_script<R: Wait + Threads + Sync, I: Read + Drop>(
         IfSome kept.new (λ bytes. bytes.items ≡ text)) }
     ensures answer { IfSome (I.remaining input) (λ text.
         GivesOne (IsRunOfInput (ask_of options.now) text)
-        (result_map_both telling_of (λ fault. fault) result)) }
+        (result_map_both printout_of (λ fault. fault) result)) }
 {
     let bytes = read_input(alloc, input)?;
     let ran = run(rt, alloc, options, bytes.as_slice());
@@ -71,7 +71,7 @@ where
         IfSome kept.new (λ bytes. bytes.items ≡ text)) }
     ensures answer { IfSome (I.remaining input) (λ text.
         GivesOne (IsFiledRunOfInput (ask_of options.now) text)
-        (result_map_both telling_of (λ fault. fault) result)) }
+        (result_map_both printout_of (λ fault. fault) result)) }
 {
     let bytes = read_input(alloc, input)?;
     let tables = run_tables(rt, alloc, options, bytes.as_slice());

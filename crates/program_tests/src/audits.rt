@@ -240,10 +240,10 @@ fn prints_lines_of_books(rt: HostRuntime) -> Result<(), Fail> {
 #[test]
 fn refuses_books(rt: HostRuntime) -> Result<(), Fail> {
     for (rows, fault) in &REFUSED {
-        let told = format!(in rt.alloc(); "book {fault}")?;
+        let seen = format!(in rt.alloc(); "book {fault}")?;
         let table = table_of(rt.alloc(), OPENING, rows)?;
         for words in ["audit", "audit --long"] {
-            expect_fault(&rt, words, table.as_str(), told.as_str())?;
+            expect_fault(&rt, words, table.as_str(), seen.as_str())?;
         }
     }
     let unopened = table_of(rt.alloc(), "", FIRST)?;

@@ -61,7 +61,7 @@ const CUT: [(&str, &str); 2] = [
 ];
 
 /// The status of a line of words over an input, how much was printed, and the fault that was told.
-fn told<R: Abort + AllocGlobal + Wait + Threads + Sync + Files<File = File>>(
+fn seen<R: Abort + AllocGlobal + Wait + Threads + Sync + Files<File = File>>(
     rt: &R,
     words: &str,
     input: &[u8],
@@ -75,7 +75,7 @@ fn told<R: Abort + AllocGlobal + Wait + Threads + Sync + Files<File = File>>(
 #[test]
 fn tells_where_a_run_breaks_off(rt: HostRuntime) -> Result<(), Fail> {
     for &(text, fault) in &CUT {
-        let (status, printed, faults) = told(&rt, "run", text.as_bytes())?;
+        let (status, printed, faults) = seen(&rt, "run", text.as_bytes())?;
         gives(&rt, &text, &(status, printed), &(1, 0));
         gives(&rt, &text, &faults.as_slice(), &fault.as_bytes());
     }
@@ -87,7 +87,7 @@ fn tells_where_a_run_breaks_off(rt: HostRuntime) -> Result<(), Fail> {
 fn takes_or_refuses_what_breaks_off(rt: HostRuntime) -> Result<(), Fail> {
     for &(words, text) in &INPUTS {
         for length in 0..=text.len() {
-            let (status, printed, faults) = told(&rt, words, &text.as_bytes()[..length])?;
+            let (status, printed, faults) = seen(&rt, words, &text.as_bytes()[..length])?;
             let is_taken = status == 0 && faults.is_empty();
             let is_refused = status == 1 && printed == 0 && !faults.is_empty();
             gives(&rt, &(words, length), &(is_taken || is_refused), &true);

@@ -139,19 +139,19 @@ const TARIFFS: [Row; 4] = [
 fn slips_are_explained(rt: HostRuntime) -> Result<(), Fail> {
     let alloc = rt.alloc();
     for (input, line, more) in PRICES {
-        let told = format!(in alloc; "prepaid: {line}{more}")?;
+        let seen = format!(in alloc; "prepaid: {line}{more}")?;
         let words = "--explain price --fee 50 --before 1000";
-        expect(&rt, words, input, (1, "", told.as_str()))?;
+        expect(&rt, words, input, (1, "", seen.as_str()))?;
     }
-    for (setup, script, told) in RUNS {
+    for (setup, script, slip) in RUNS {
         let input = format!(in alloc; "{ACCOUNT}{setup}{SCRIPT}{script}")?;
-        let told = format!(in alloc; "prepaid: {told}")?;
-        expect(&rt, "--explain run", input.as_str(), (1, "", told.as_str()))?;
+        let seen = format!(in alloc; "prepaid: {slip}")?;
+        expect(&rt, "--explain run", input.as_str(), (1, "", seen.as_str()))?;
     }
     for (input, line, more) in TARIFFS {
-        let told = format!(in alloc; "prepaid: {line}{more}")?;
+        let seen = format!(in alloc; "prepaid: {line}{more}")?;
         let words = "--explain quote --called 4930 --at 0";
-        expect(&rt, words, input, (1, "", told.as_str()))?;
+        expect(&rt, words, input, (1, "", seen.as_str()))?;
     }
     Ok(())
 }

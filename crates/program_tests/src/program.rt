@@ -76,8 +76,8 @@ pub(crate) fn expect_fault<R: Abort + AllocGlobal + Wait + Threads + Sync + File
     input: &str,
     fault: &str,
 ) -> Result<(), Fail> {
-    let told = format!(in rt.alloc(); "prepaid: {fault}\n")?;
-    expect(rt, line, input, (1, "", told.as_str()))
+    let seen = format!(in rt.alloc(); "prepaid: {fault}\n")?;
+    expect(rt, line, input, (1, "", seen.as_str()))
 }
 
 /// Runs a line of words over a reader of this length, and compares the status and the fault.

@@ -301,7 +301,7 @@ fn a_failed_output_has_a_front_of_the_rows(rt: HostRuntime) -> Result<(), Fail> 
 }
 
 #[test]
-fn a_failed_input_is_told(rt: HostRuntime) -> Result<(), Fail> {
+fn a_failed_input_is_seen(rt: HostRuntime) -> Result<(), Fail> {
     let input = input_of(rt.alloc(), "called,answer,time,paid\n4930,0,600,1000\n4930")?;
     for length in 0..=input.len() {
         let reader = Failing {

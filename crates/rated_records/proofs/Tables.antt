@@ -189,12 +189,12 @@ module _ (Stood : Closed → ℕ → Knowing) (read : DecimalsAreRead) (plain : 
         tally_is = rated.tally_is;
       }
 
-was_told : {X E : Type 0} (tell : E → InputFault) (found : Result X E) (x : X) → as_input_fault tell found ≡ Ok x → found ≡ Ok x
-was_told tell (Ok other) x is = let same : other ≡ x = cc in ap Ok same
-was_told tell (Err why) x is = cc
+was_said : {X E : Type 0} (tell : E → InputFault) (found : Result X E) (x : X) → as_input_fault tell found ≡ Ok x → found ≡ Ok x
+was_said tell (Ok other) x is = let same : other ≡ x = cc in ap Ok same
+was_said tell (Err why) x is = cc
 
 pub tables_rated : (Stood : Closed → ℕ → Knowing) → DecimalsAreRead → DecimalsArePlain → MomentsAreRead → MomentsArePlain → TablesAreRead → RecordsHaveNoDifference Stood → RecordsAreInRange Stood
     → ReadTariffsAreProper → TablesHaveNoDifference Stood
 tables_rated Stood read plain moments moments_plain tables right ranges propers run clock table input is starts text printable input_is =
-    let proper : IsProper run.setup.tariff = propers run.setup.tariff (rows_of input_is.first.part, was_told fault.Tariff (tariff_of (rows_of input_is.first.part)) run.setup.tariff input_is.tariff) in
+    let proper : IsProper run.setup.tariff = propers run.setup.tariff (rows_of input_is.first.part, was_said fault.Tariff (tariff_of (rows_of input_is.first.part)) run.setup.tariff input_is.tariff) in
     table_rated Stood read plain moments moments_plain tables right ranges run clock is starts proper table input text printable input_is

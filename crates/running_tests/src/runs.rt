@@ -193,7 +193,7 @@ fn waits_for_all<R: Abort + Threads + Wait + Sync>(rt: &R, alloc: Global) -> Res
     let held = begun(1, "491700001", "4930")?;
     let gate = Holding::new(2);
     let played = play(rt, alloc, 7, &[(refused, Some(held))], 2, &gate)?;
-    assert!(rt; gate.was_told());
+    assert!(rt; gate.was_said());
     assert_eq!(rt; played.books.err(), Some(RunFault::GateClosed));
     Ok(())
 }

@@ -54,7 +54,7 @@ pub(crate) fn list(alloc: Global, accounts: &[(u32, u64)]) -> Result<Directory, 
 }
 
 #[test]
-fn faults_are_told(rt: HostRuntime) -> Result<(), Fail> {
+fn faults_are_wanted(rt: HostRuntime) -> Result<(), Fail> {
     let one = Number::new("491700001")?;
     let most = 1_000_000_000_000_000;
     let rows: [(&[(u32, u64)], &[(Number, u32)], u32, Option<SetupFault>); 14] = [

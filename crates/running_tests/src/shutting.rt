@@ -33,7 +33,7 @@ impl Door {
 pub(crate) struct Shutting {
     before: Door,
     inside: Door,
-    told: AtomicU32,
+    wanted: AtomicU32,
 }
 
 impl Shutting {
@@ -42,14 +42,14 @@ impl Shutting {
         Shutting {
             before: Door::new(before),
             inside: Door::new(inside),
-            told: AtomicU32::new(0),
+            wanted: AtomicU32::new(0),
         }
     }
 
     /// How many messages it was asked for, and how many it was told of.
     pub(crate) fn counts(&self) -> (u32, u32) {
         let asked = self.before.asked.load(Ordering::SeqCst);
-        (asked, self.told.load(Ordering::SeqCst))
+        (asked, self.wanted.load(Ordering::SeqCst))
     }
 }
 
@@ -65,7 +65,7 @@ impl Gate for Shutting {
     }
 
     fn after(&self, _worker: u32, _call: u64) {
-        self.told.fetch_add(1, Ordering::SeqCst);
+        self.wanted.fetch_add(1, Ordering::SeqCst);
     }
 }
 
@@ -74,7 +74,7 @@ impl Gate for Shutting {
 pub(crate) struct Holding {
     refuses: u64,
     refused: AtomicBool,
-    told: AtomicBool,
+    wanted: AtomicBool,
 }
 
 impl Holding {
@@ -82,13 +82,13 @@ impl Holding {
         Holding {
             refuses,
             refused: AtomicBool::new(false),
-            told: AtomicBool::new(false),
+            wanted: AtomicBool::new(false),
         }
     }
 
     /// Whether it was told of a message that it had held.
-    pub(crate) fn was_told(&self) -> bool {
-        self.told.load(Ordering::SeqCst)
+    pub(crate) fn was_said(&self) -> bool {
+        self.wanted.load(Ordering::SeqCst)
     }
 
     fn holds(&self) {
@@ -117,6 +117,6 @@ impl Gate for Holding {
     }
 
     fn after(&self, _worker: u32, _call: u64) {
-        self.told.store(true, Ordering::SeqCst);
+        self.wanted.store(true, Ordering::SeqCst);
     }
 }

@@ -10,10 +10,10 @@ use std::test::Fail;
 use table_core::{RowFault, RowKind, TableFault};
 
 /// A row's number and its fault, if there is one.
-type Told = Option<(u32, RowKind)>;
+type Wanted = Option<(u32, RowKind)>;
 
 /// Setups, their headers left out, and their first fault.
-const SETUPS: [(&str, Told); 27] = [
+const SETUPS: [(&str, Wanted); 27] = [
     ("", None),
     ("account,0,0\naccount,4294967295,1000000000000000", None),
     (
@@ -56,7 +56,7 @@ const SETUPS: [(&str, Told); 27] = [
 ];
 
 /// Scripts over accounts 7 and 9, their headers left out, and their first fault.
-const SCRIPTS: [(&str, Told); 39] = [
+const SCRIPTS: [(&str, Wanted); 39] = [
     ("", None),
     ("0,1,start,1,2\n0,1,answer,,\n0,2,start,1,2", None),
     ("0,1,start,1,2\n5,1,busy,,\n5,1,busy,,", None),
@@ -117,8 +117,8 @@ const SCRIPTS: [(&str, Told); 39] = [
 ];
 
 /// Compares the first fault of a setup, and that of one whose reader fails behind it.
-fn expect_setup<R: Abort>(rt: &R, alloc: Global, text: &str, told: Told) {
-    let fault = told.map(|(row, kind)| TableFault::Row(RowFault { row, kind }));
+fn expect_setup<R: Abort>(rt: &R, alloc: Global, text: &str, wanted: Wanted) {
+    let fault = wanted.map(|(row, kind)| TableFault::Row(RowFault { row, kind }));
     let bytes = text.as_bytes();
     assert_eq!(rt; read_setup(alloc, bytes).err(), fault, "of {text:?}");
     if text.ends_with('\n') {
@@ -129,8 +129,8 @@ fn expect_setup<R: Abort>(rt: &R, alloc: Global, text: &str, told: Told) {
 }
 
 /// Compares the first fault of a script, and that of one whose reader fails behind it.
-fn expect_script<R: Abort>(rt: &R, alloc: Global, directory: &Directory, text: &str, told: Told) {
-    let fault = told.map(|(row, kind)| TableFault::Row(RowFault { row, kind }));
+fn expect_script<R: Abort>(rt: &R, alloc: Global, directory: &Directory, text: &str, wanted: Wanted) {
+    let fault = wanted.map(|(row, kind)| TableFault::Row(RowFault { row, kind }));
     let bytes = text.as_bytes();
     let read = read_script(alloc, directory, bytes);
     assert_eq!(rt; read.err(), fault, "of {text:?}");
@@ -148,21 +148,21 @@ fn setup_of(alloc: Global, rows: &str) -> Result<String, AllocError> {
 
 #[test]
 fn tells_the_first_fault_of_a_table(rt: HostRuntime) -> Result<(), Fail> {
-    for (rows, told) in SETUPS {
+    for (rows, wanted) in SETUPS {
         let text = setup_of(rt.alloc(), rows)?;
-        expect_setup(&rt, rt.alloc(), text.as_str(), told);
+        expect_setup(&rt, rt.alloc(), text.as_str(), wanted);
         let ended = format!(in rt.alloc(); "{text}\n")?;
-        expect_setup(&rt, rt.alloc(), ended.as_str(), told);
+        expect_setup(&rt, rt.alloc(), ended.as_str(), wanted);
     }
     for text in ["", "kind,key\n", "kind,key,Value\n", "account,7,1\n"] {
         expect_setup(&rt, rt.alloc(), text, Some((1, RowKind::Header)));
     }
     let directory = list(rt.alloc(), &[(7, 1500), (9, 0)])?;
-    for (rows, told) in SCRIPTS {
+    for (rows, wanted) in SCRIPTS {
         let text = format!(in rt.alloc(); "moment,call,what,x,y\n{rows}")?;
-        expect_script(&rt, rt.alloc(), &directory, text.as_str(), told);
+        expect_script(&rt, rt.alloc(), &directory, text.as_str(), wanted);
         let ended = format!(in rt.alloc(); "{text}\n")?;
-        expect_script(&rt, rt.alloc(), &directory, ended.as_str(), told);
+        expect_script(&rt, rt.alloc(), &directory, ended.as_str(), wanted);
     }
     for text in ["", "moment,call,what,x\n", "moment,call,what,x,Y\n"] {
         expect_script(
@@ -189,7 +189,7 @@ fn numbered(alloc: Global, count: u32, before: &str, after: &str) -> Result<Stri
 fn counts_the_rows_of_a_setup(rt: HostRuntime) -> Result<(), Fail> {
     let accounts = numbered(rt.alloc(), 1_000, "account,", ",1")?;
     let subscribers = numbered(rt.alloc(), 9_000, "subscriber,", ",999")?;
-    let rows: [(&str, &str, Told); 5] = [
+    let rows: [(&str, &str, Wanted); 5] = [
         ("", "", None),
         ("", "account,x\n", Some((1_002, RowKind::Csv))),
         ("", "account,x,1\n", Some((1_002, RowKind::TooManyRows))),
@@ -200,13 +200,13 @@ fn counts_the_rows_of_a_setup(rt: HostRuntime) -> Result<(), Fail> {
             Some((10_002, RowKind::TooManyRows)),
         ),
     ];
-    for (more, last, told) in rows {
+    for (more, last, wanted) in rows {
         let rows = format!(in rt.alloc(); "{accounts}{more}{last}")?;
         expect_setup(
             &rt,
             rt.alloc(),
             setup_of(rt.alloc(), rows.as_str())?.as_str(),
-            told,
+            wanted,
         );
     }
     Ok(())

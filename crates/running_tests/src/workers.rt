@@ -138,11 +138,11 @@ fn posts_are_handled(rt: HostRuntime) -> Result<(), Fail> {
         (8, recharge(7, 0), &[], false, range, credit),
     ];
     assert_eq!(rt; handle_all(&rt, rt.alloc(), 1000, &rows)?, 1);
-    full_histories_are_told(&rt, rt.alloc())
+    full_histories_are_wanted(&rt, rt.alloc())
 }
 
 /// A call that asks for more where its account's history has no place for that is released.
-fn full_histories_are_told<R: Abort + Wait>(rt: &R, alloc: Global) -> Result<(), Fail> {
+fn full_histories_are_wanted<R: Abort + Wait>(rt: &R, alloc: Global) -> Result<(), Fail> {
     let period = first_period()?;
     let begins = begun(1, "491700001", "4930")?;
     let minute = of_call(1, report(true, 600));

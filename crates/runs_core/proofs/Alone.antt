@@ -20,7 +20,7 @@ use Rattle.workers_core.specs.Laws.{EntriesComeFromPosts}
 use Rattle.workers_core.specs.Served.{AreServed, IsServed, Report, begun_by, begun_of, held_in, held_calls_of, reported_in, reports_of, settled_in, settles_of}
 use Rattle.runs_core.proofs.InBooks.{lists_worked}
 use Rattle.runs_core.proofs.Listed.{all_joined, all_part, all_passing, all_pieces, all_unmapped}
-use Rattle.runs_core.proofs.Sendings.{agrees}
+use Rattle.runs_core.proofs.HandOuts.{agrees}
 use Rattle.runs_core.specs.Closing.{StoodAt, lists_of}
 use Rattle.runs_core.specs.Entered.{RunCallsAreOfOneWorker, RunClosingIsNeverRefused}
 use Rattle.runs_core.specs.Shares.{Item, item_of, numbered, share, worker_of}

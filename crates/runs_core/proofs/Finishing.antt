@@ -117,8 +117,8 @@ one_failed read key Was may_shut links rest teams more (Some first) link why bef
 
 -- a first worker of a round that has ended well has not failed
 pub none_failed : {X : Type 0} (failed : Option RunFault) (result : Result X RunFault) (x : X) → IfSome failed (λ why. result ≡ Err why) → result ≡ Ok x → failed ≡ None
-none_failed None result x told ok = refl
-none_failed (Some why) result x told ok = let never : Ok x ≡ Err why = sym ok ∙ told in absurd (cc)
+none_failed None result x answer ok = refl
+none_failed (Some why) result x answer ok = let never : Ok x ≡ Err why = sym ok ∙ answer in absurd (cc)
 
 -- the first of faults that are the run's own
 pub own_or : (fault other : Option RunFault) → fault ≢ Some out.GateClosed → fault ≢ Some out.Workers → other ≢ Some out.GateClosed → other ≢ Some out.Workers

@@ -1,11 +1,11 @@
 pub mod Alone
 pub mod Booking
 pub mod Columns
-pub mod Deals
+pub mod LayingOut
 pub mod Finishing
 pub mod FirstFaults
-pub mod Goings
-pub mod Hearings
+pub mod WorkerLemmas
+pub mod HearingLemmas
 pub mod InBooks
 pub mod Joins
 pub mod Leaving
@@ -13,8 +13,8 @@ pub mod Listed
 pub mod Mailing
 pub mod Numbers
 pub mod Refusing
-pub mod Roundings
+pub mod RoundLemmas
 pub mod Running
-pub mod Sendings
+pub mod HandOuts
 pub mod Shifting
 pub mod Teaming

@@ -5,9 +5,9 @@ use Rattle.std.proofs.lemmas.Bool.Decides.{nat_tests}
 use Rattle.std.proofs.lemmas.List.{length-append, length-map, length-replicate}
 use Rattle.std.proofs.lemmas.List.Elements.{All-cons, All-head, All-map, All-nil, All-push, All-tail}
 use Rattle.std.proofs.lemmas.Bool.{and_parts}
-use Rattle.runs_core.proofs.Columns.{AreEven, dealt_many, laid, map_dealt}
+use Rattle.runs_core.proofs.Columns.{AreEven, laid_out_many, laid, map_laid_out}
 use Rattle.runs_core.specs.Closing.{AreAllThere, AreNumberedFrom, AreSeatsOf}
-use Rattle.runs_core.specs.Dealing.{dealt}
+use Rattle.runs_core.specs.LaidOut.{laid_out}
 use Rattle.runs_core.specs.Teams.{terms_of, terms_with}
 use Rattle.shared_account.specs.Seats.{Reads, are_numbered}
 use Rattle.shared_account.specs.Terms.{Terms}
@@ -27,7 +27,7 @@ numbered_more first number (other ∷ row) rising many =
     let parts = and_parts (other == first) (are_numbered (first + 1) row) rising in
     rw (parts.0) (numbered_more (first + 1) number row parts.1 (omega (arith, many)))
 
-pub rising_more : (number : ℕ) (rows : List (List ℕ)) (team : List ℕ) → AreRising number rows → All (λ n. n ≡ number) team → length team ≡ length rows → AreRising (number + 1) (dealt rows team)
+pub rising_more : (number : ℕ) (rows : List (List ℕ)) (team : List ℕ) → AreRising number rows → All (λ n. n ≡ number) team → length team ≡ length rows → AreRising (number + 1) (laid_out rows team)
 rising_more number [] team rising numbered many = tt
 rising_more number (row ∷ rows) [] rising numbered many = absurd (omega (arith, many))
 rising_more number (row ∷ rows) (seat ∷ team) rising numbered many =
@@ -43,9 +43,9 @@ none_rising number_of zero = tt
 none_rising number_of (suc many) = (refl, refl, none_rising number_of many)
 
 pub more_rising : {T : Type 0} (number_of : T → ℕ) (number : ℕ) (rows : List (List T)) (team : List T) → AreRising number (map (map number_of) rows) → All (λ seat. number_of seat ≡ number) team
-    → length team ≡ length rows → AreRising (number + 1) (map (map number_of) (dealt rows team))
+    → length team ≡ length rows → AreRising (number + 1) (map (map number_of) (laid_out rows team))
 more_rising number_of number rows team rising numbered many =
-    rw (map_dealt number_of rows team)
+    rw (map_laid_out number_of rows team)
     (rising_more number (map (map number_of) rows) (map number_of team) rising (All-map (λ n. n ≡ number) number_of team numbered)
     (length-map team number_of ∙ many ∙ sym (length-map rows (map number_of))))
 
@@ -69,9 +69,9 @@ rising_laid read number rows [] rising numbered even =
     let here : number ≡ number + 0 = omega arith in subst (λ n. AreRising n (map (map read.number) rows)) here rising
 rising_laid read number rows (team ∷ teams) rising numbered even =
     let here : number + 1 + length teams ≡ number + suc (length teams) = omega arith in
-    let still = let P : ℕ → Type 0 = λ n. AreEven n teams in subst P (sym (dealt_many rows team)) even.1 in
-    subst (λ n. AreRising n (map (map read.number) (laid (dealt rows team) teams))) here
-    (rising_laid read (number + 1) (dealt rows team) teams (more_rising read.number number rows team rising numbered.0 even.0) numbered.1 still)
+    let still = let P : ℕ → Type 0 = λ n. AreEven n teams in subst P (sym (laid_out_many rows team)) even.1 in
+    subst (λ n. AreRising n (map (map read.number) (laid (laid_out rows team) teams))) here
+    (rising_laid read (number + 1) (laid_out rows team) teams (more_rising read.number number rows team rising numbered.0 even.0) numbered.1 still)
 
 -- the rows of all seats
 pub rows_rise : {K T : Type 0} (read : Reads K T) (many : ℕ) (teams : List (List T)) → AreNumberedFrom read 0 teams → AreEven many teams
@@ -82,20 +82,20 @@ rows_rise {T = T} read many teams numbered even =
     subst (λ n. AreRising n (map (map read.number) (laid (replicate many []) teams))) here
     (rising_laid read 0 (replicate many []) teams (none_rising read.number many) numbered long)
 
-of_dealt : {K T : Type 0} (key_of : T → K) (keys : List K) (rows : List (List T)) (team : List T) → AreSeatsOf key_of keys rows → map key_of team ≡ keys → AreSeatsOf key_of keys (dealt rows team)
-of_dealt key_of [] [] team are same = tt
-of_dealt key_of [] (row ∷ rows) team are same = absurd are
-of_dealt key_of (key ∷ keys) [] team are same = absurd are
-of_dealt key_of (key ∷ keys) (row ∷ rows) [] are same = absurd (cc)
-of_dealt key_of (key ∷ keys) (row ∷ rows) (seat ∷ team) are same =
+of_laid_out : {K T : Type 0} (key_of : T → K) (keys : List K) (rows : List (List T)) (team : List T) → AreSeatsOf key_of keys rows → map key_of team ≡ keys → AreSeatsOf key_of keys (laid_out rows team)
+of_laid_out key_of [] [] team are same = tt
+of_laid_out key_of [] (row ∷ rows) team are same = absurd are
+of_laid_out key_of (key ∷ keys) [] team are same = absurd are
+of_laid_out key_of (key ∷ keys) (row ∷ rows) [] are same = absurd (cc)
+of_laid_out key_of (key ∷ keys) (row ∷ rows) (seat ∷ team) are same =
     let first : key_of seat ≡ key = cc in
     let rest : map key_of team ≡ keys = cc in
-    (All-push (λ s. key_of s ≡ key) row seat are.0 first, of_dealt key_of keys rows team are.1 rest)
+    (All-push (λ s. key_of s ≡ key) row seat are.0 first, of_laid_out key_of keys rows team are.1 rest)
 
 of_laid : {K T : Type 0} (key_of : T → K) (keys : List K) (rows teams : List (List T)) → AreSeatsOf key_of keys rows → All (λ team. map key_of team ≡ keys) teams → AreSeatsOf key_of keys (laid rows teams)
 of_laid key_of keys rows [] are all = are
 of_laid key_of keys rows (team ∷ teams) are all =
-    of_laid key_of keys (dealt rows team) teams (of_dealt key_of keys rows team are (All-head (λ t. map key_of t ≡ keys) team teams all)) (All-tail (λ t. map key_of t ≡ keys) team teams all)
+    of_laid key_of keys (laid_out rows team) teams (of_laid_out key_of keys rows team are (All-head (λ t. map key_of t ≡ keys) team teams all)) (All-tail (λ t. map key_of t ≡ keys) team teams all)
 
 of_none : {K S T : Type 0} (key_of : T → K) (key : S → K) (accounts : List S) → AreSeatsOf key_of (map key accounts) (replicate (length accounts) [])
 of_none key_of key [] = tt

@@ -48,7 +48,7 @@ run_so given ended hears read Was Stood keys setup workers many old new teams te
     each_heard = has.are_answers.numbers;
     answered = λ worker below.
         let posts = slice_index_or has.handled worker [] in
-        let Its : List Answer → Type 0 = λ told. AnswersItsPosts (refuses_in Stood books worker) setup worker posts (map answer_view told) (lists_of worker books) in
+        let Its : List Answer → Type 0 = λ answer. AnswersItsPosts (refuses_in Stood books worker) setup worker posts (map answer_view answer) (lists_of worker books) in
         record {
           posts = posts;
           share = has.shares.each worker below;

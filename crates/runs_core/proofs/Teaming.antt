@@ -9,9 +9,9 @@ use Rattle.shared_account.specs.Seats.{Reads, are_numbered}
 use Rattle.shared_account.specs.Terms.{Terms}
 use Rattle.run_values.specs.Openings.{no_credit}
 use Rattle.run_values.specs.declared.directory.OpeningCredit.{OpeningCredit}
-use Rattle.runs_core.specs.Dealing.{dealt}
+use Rattle.runs_core.specs.LaidOut.{laid_out}
 use Rattle.runs_core.specs.Teams.{AreFresh, IsFresh, IsNew, terms_of, terms_with}
-use Rattle.runs_core.proofs.Deals.{dealt_length}
+use Rattle.runs_core.proofs.LayingOut.{laid_out_length}
 
 pub first_by : (here rest : Bool) → here && rest ≡ true → (here ≡ true) × (rest ≡ true)
 first_by true rest are = (refl, are)
@@ -44,15 +44,15 @@ more_fresh read keys key number team seat fresh of_account numbered empty = reco
   empty = All-push (λ seat. read.mine seat ≡ []) team seat fresh.empty empty;
 }
 
-dealt_fresh : {K T : Type 0} (read : Reads K T) (keys : List K) (key : K) (number : ℕ) (teams : List (List T)) (seats : List T) → AreFresh read keys number teams
+laid_out_fresh : {K T : Type 0} (read : Reads K T) (keys : List K) (key : K) (number : ℕ) (teams : List (List T)) (seats : List T) → AreFresh read keys number teams
     → length seats ≡ length teams → are_numbered number (map read.number seats) ≡ true → All (λ seat. read.key seat ≡ key) seats → All (λ seat. read.mine seat ≡ []) seats
-    → AreFresh read (keys ++ key ∷ []) number (dealt teams seats)
-dealt_fresh read keys key number [] seats fresh enough numbered of_account empty = tt
-dealt_fresh read keys key number (team ∷ teams) [] fresh enough numbered of_account empty = absurd (omega (arith, enough))
-dealt_fresh read keys key number (team ∷ teams) (seat ∷ seats) fresh enough numbered of_account empty =
+    → AreFresh read (keys ++ key ∷ []) number (laid_out teams seats)
+laid_out_fresh read keys key number [] seats fresh enough numbered of_account empty = tt
+laid_out_fresh read keys key number (team ∷ teams) [] fresh enough numbered of_account empty = absurd (omega (arith, enough))
+laid_out_fresh read keys key number (team ∷ teams) (seat ∷ seats) fresh enough numbered of_account empty =
     let parts = first_by (read.number seat == number) (are_numbered (number + 1) (map read.number seats)) numbered in (
       more_fresh read keys key number team seat fresh.0 (All-head (λ seat. read.key seat ≡ key) seat seats of_account) (same_number _ _ parts.0) (All-head (λ seat. read.mine seat ≡ []) seat seats empty),
-      dealt_fresh read keys key (number + 1) teams seats fresh.1 (omega (arith, enough)) parts.1 (All-tail (λ seat. read.key seat ≡ key) seat seats of_account) (All-tail (λ seat. read.mine seat ≡ []) seat seats empty),
+      laid_out_fresh read keys key (number + 1) teams seats fresh.1 (omega (arith, enough)) parts.1 (All-tail (λ seat. read.key seat ≡ key) seat seats of_account) (All-tail (λ seat. read.mine seat ≡ []) seat seats empty),
     )
 
 -- the accounts and the teams before any account is opened
@@ -74,20 +74,20 @@ terms_more limit workers all place number opening within numbered opened =
 
 -- one account more is opened
 pub one_opened : {K T S V : Type 0} (read : Reads K T) (terms : S → Terms) (key : S → K) (inside : V → List T) (limit workers : ℕ) (all : List (ℕ × OpeningCredit)) (place number : ℕ) (opening : OpeningCredit)
-    (accounts : List S) (teams dealt_teams : List V) (account : S) (seats : List T)
+    (accounts : List S) (teams laid_out_teams : List V) (account : S) (seats : List T)
     → place < length all → HoldsAt (λ account. account.0 ≡ number) all place → HoldsAt (λ account. account.1 ≡ opening) all place
     → (map terms accounts ≡ terms_of limit workers (take place all)) × (length teams ≡ workers) × AreFresh read (map key accounts) 0 (map inside teams)
     → terms account ≡ record { number = number; opening = opening.amount; until = opening.until; limit = limit; seats = workers } → IsNew read (key account) workers seats
-    → map inside dealt_teams ≡ dealt (map inside teams) seats
-    → (map terms (accounts ++ account ∷ []) ≡ terms_of limit workers (take (place + 1) all)) × (length dealt_teams ≡ workers)
-    × AreFresh read (map key (accounts ++ account ∷ [])) 0 (map inside dealt_teams)
-one_opened read terms key inside limit workers all place number opening accounts teams dealt_teams account seats within numbered opened before is new deals =
+    → map inside laid_out_teams ≡ laid_out (map inside teams) seats
+    → (map terms (accounts ++ account ∷ []) ≡ terms_of limit workers (take (place + 1) all)) × (length laid_out_teams ≡ workers)
+    × AreFresh read (map key (accounts ++ account ∷ [])) 0 (map inside laid_out_teams)
+one_opened read terms key inside limit workers all place number opening accounts teams laid_out_teams account seats within numbered opened before is new deals =
     let parts = first_by (length (map read.number seats) == workers) (are_numbered 0 (map read.number seats)) new.numbers in
     let enough : length seats ≡ length (map inside teams) =
     sym (length-map seats read.number) ∙ same_number _ _ parts.0 ∙ sym before.1 ∙ sym (length-map teams inside) in (
       map-append terms accounts (account ∷ []) ∙ ap (λ ts. ts ++ terms account ∷ []) before.0
           ∙ ap (λ t. terms_of limit workers (take place all) ++ t ∷ []) is ∙ sym (terms_more limit workers all place number opening within numbered opened),
-      sym (length-map dealt_teams inside) ∙ ap length deals ∙ dealt_length (map inside teams) seats ∙ length-map teams inside ∙ before.1,
+      sym (length-map laid_out_teams inside) ∙ ap length deals ∙ laid_out_length (map inside teams) seats ∙ length-map teams inside ∙ before.1,
       rw (deals, map-append key accounts (account ∷ []))
-          (dealt_fresh read (map key accounts) (key account) 0 (map inside teams) seats before.2 enough parts.1 new.of_account new.empty),
+          (laid_out_fresh read (map key accounts) (key account) 0 (map inside teams) seats before.2 enough parts.1 new.of_account new.empty),
     )

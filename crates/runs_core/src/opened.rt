@@ -2,7 +2,7 @@
 
 ghost use Rattle.std.specs.Prelude.{◌≡◌, ◌≤◌, [], length, map, IfOk, IfErr, replicate, OnOk};
 ghost use Rattle.runs_core.specs.Teams.{AreFresh, IsNew, terms_of};
-ghost use Rattle.runs_core.specs.Dealing.{dealt};
+ghost use Rattle.runs_core.specs.LaidOut.{laid_out};
 
 use crate::RunFault;
 use run_values::{OpeningCredit, RunSetup};
@@ -95,7 +95,7 @@ pub(crate) fn empty_piles<T: Drop>(alloc: Global, count: usize) -> Result<Vec<Ve
 pub(crate) fn deal<T: Drop>(piles: &mut Vec<Vec<T>>, items: Vec<T>) -> Result<(), AllocFailed<T>>
     requires { length items.items ≡ length piles.old.items }
     ensures { OnOk result (map (λ pile. pile.items) piles.new.items
-        ≡ dealt (map (λ pile. pile.items) piles.old.items) items.items) }
+        ≡ laid_out (map (λ pile. pile.items) piles.old.items) items.items) }
 {
     let mut at = 0;
     for item in items {

@@ -18,22 +18,22 @@ use Rattle.script_player.specs.Steps.{GetsSsf, GivesTo, StartsCall}
 use Rattle.script_player.specs.declared.network.Sent.{Sent}
 use Rattle.script_player.specs.declared.network.Input.{Input}
 use Rattle.script_player.specs.declared.network.Input.TheVariants as what
-use Rattle.script_player.proofs.Givings.{same_next, waited_next}
-use Rattle.script_player.proofs.Keepings.{dues_on, sets_by, timer_of}
+use Rattle.script_player.proofs.InputLemmas.{same_next, waited_next}
+use Rattle.script_player.proofs.DueMoments.{dues_on, sets_by, timer_of}
 
 -- what a network of these shows
 abbrev pub shown : SsfConfig → BTreeMap ℕ View → List (ℕ × Body) → Bool → Shown
 shown config calls given whole = record { config = config; ssfs = calls.entries; given = given; whole = whole }
 
-told_of : (config : SsfConfig) (before after : BTreeMap ℕ View) (now call : ℕ) (given : List (ℕ × Body)) (input : Input) (fed : Sent) → HaveGiven config before given
+gave_of : (config : SsfConfig) (before after : BTreeMap ℕ View) (now call : ℕ) (given : List (ℕ × Body)) (input : Input) (fed : Sent) → HaveGiven config before given
     → (feeds : Feeds before after now call input fed) → HasGiven config call given feeds.moves.old
-told_of config before after now call given input fed are feeds = rw feeds.moves.was at (are.told call)
+gave_of config before after now call given input fed are feeds = rw feeds.moves.was at (are.gave call)
 
 -- the moments go on with a gsmSSF that is given an input
 pub dues_fed : (config : SsfConfig) (before after : BTreeMap ℕ View) (dues kept : BTreeSet (ℕ × ℕ)) (now call : ℕ) (given : List (ℕ × Body)) (input : Input) (fed : Sent)
     → HaveGiven config before given → AreDues before.entries dues → Feeds before after now call input fed → Replaces dues kept call fed.before fed.after → AreDues after.entries kept
-dues_fed config before after dues kept now call given input fed told are feeds replaces =
-    let own : HasGiven config call given feeds.moves.old = told_of config before after now call given input fed told feeds in
+dues_fed config before after dues kept now call given input fed gave are feeds replaces =
+    let own : HasGiven config call given feeds.moves.old = gave_of config before after now call given input fed gave feeds in
     let further = feeds.moves.goes_on.from own.trace own.stands in
     dues_on before.entries after.entries dues kept call fed.before fed.after feeds.moves.new further.further are replaces (sets_by before after call feeds.moves.new feeds.moves.updates)
     feeds.is_next further.stands
@@ -58,8 +58,8 @@ gives_none before calls now call input was absent = rw (was, absent) refl
 -- where time has passed for a call, no timer of it is left due
 pub waited : (config : SsfConfig) (before after : BTreeMap ℕ View) (now call at : ℕ) (given : List (ℕ × Body)) (input : Input) (fed : Sent) → HaveGiven config before given
     → Feeds before after now call input fed → input ≡ what.Wait → HasTimer after.entries call at → now < at
-waited config before after now call at given input fed told feeds wait timer =
-    let own : HasGiven config call given feeds.moves.old = told_of config before after now call given input fed told feeds in
+waited config before after now call at given input fed gave feeds wait timer =
+    let own : HasGiven config call given feeds.moves.old = gave_of config before after now call given input fed gave feeds in
     let P : Input → Type 0 = λ i. IsGiven feeds.moves.old feeds.moves.new now i fed.sent.items in
     waited_next feeds.moves.old feeds.moves.new now at own.trace fed.sent.items own.stands (subst P wait feeds.is_given)
     (timer_of after.entries call at feeds.moves.new feeds.moves.updates.1 timer)

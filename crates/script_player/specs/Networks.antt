@@ -30,7 +30,7 @@ pub record HasGiven (config : SsfConfig) (call : ℕ) (given : List (ℕ × Body
 
 -- each gsmSSF is told so; a call without one has no items
 pub record HaveGiven (config : SsfConfig) (calls : BTreeMap ℕ View) (given : List (ℕ × Body)) : Type 0 where
-  pub told : (call : ℕ) → MatchOption (get nat_cmp calls call) (items_of call given ≡ []) (HasGiven config call given)
+  pub gave : (call : ℕ) → MatchOption (get nat_cmp calls call) (items_of call given ≡ []) (HasGiven config call given)
   pub in_range : All (λ item. item.0 ≤ HORIZON) given
 
 -- from a trace that it stands for, a gsmSSF goes on and sends this

@@ -42,14 +42,14 @@ module _ (before here : View) (later : IsLater before here) where
     begins = begins_further before.seen.history here.seen.history (here.seen.history ++ event ∷ []) later.begins (begins_longer here.seen.history event);
   }
 
-  pub gone : (after : View) (event : Reply → EntryData) (told : Result Reply AccountFault) → IfOk told (λ reply. after ≡ seeing here (with_entry here.seen (event reply)))
-      → OnErr told (after ≡ here) → HasGone before after
+  pub gone : (after : View) (event : Reply → EntryData) (response : Result Reply AccountFault) → IfOk response (λ reply. after ≡ seeing here (with_entry here.seen (event reply)))
+      → OnErr response (after ≡ here) → HasGone before after
   gone after event (Ok reply) seen kept = subst (HasGone before) (sym seen) (entered (event reply))
   gone after event (Err why) seen kept = subst (HasGone before) (sym kept) unentered
 
   -- with a reply, the history ends with the entry
-  pub ends : (after : View) (event : Reply → EntryData) (told : Result Reply AccountFault) → IfOk told (λ reply. after ≡ seeing here (with_entry here.seen (event reply)))
-      → IfOk told (λ reply. EndsWithEntry before.seen.history (event reply) after.seen.history)
+  pub ends : (after : View) (event : Reply → EntryData) (response : Result Reply AccountFault) → IfOk response (λ reply. after ≡ seeing here (with_entry here.seen (event reply)))
+      → IfOk response (λ reply. EndsWithEntry before.seen.history (event reply) after.seen.history)
   ends after event (Ok reply) seen = record {
     between = later.begins.rest;
     is = ap (λ (v : View). v.seen.history) seen ∙ (ap (λ (h : List EntryData). h ++ event reply ∷ []) later.begins.is ∙ append_assoc before.seen.history later.begins.rest (event reply ∷ []));
@@ -57,9 +57,9 @@ module _ (before here : View) (later : IsLater before here) where
   ends after event (Err why) seen = tt
 
   -- and the seat has one entry more, of its own
-  pub owns : (after : View) (asked : Asked) (seat : ℕ) (told : Result Reply AccountFault) → before.number ≡ seat
-      → IfOk told (λ reply. after ≡ seeing here (with_entry here.seen (event_by seat asked reply))) → OnErr told (after ≡ here)
-      → MatchResult told (λ reply. own seat after.seen.history ≡ own seat before.seen.history ++ event_by seat asked reply ∷ [])
+  pub owns : (after : View) (asked : Asked) (seat : ℕ) (response : Result Reply AccountFault) → before.number ≡ seat
+      → IfOk response (λ reply. after ≡ seeing here (with_entry here.seen (event_by seat asked reply))) → OnErr response (after ≡ here)
+      → MatchResult response (λ reply. own seat after.seen.history ≡ own seat before.seen.history ++ event_by seat asked reply ∷ [])
       (λ _. own seat after.seen.history ≡ own seat before.seen.history)
   owns after asked seat (Ok reply) number seen kept =
       let here_own : own seat here.seen.history ≡ own seat before.seen.history = subst (λ (n : ℕ). own n here.seen.history ≡ own n before.seen.history) number later.own in
@@ -97,8 +97,8 @@ fits_last opening until before event legal =
     let last = (subst L (reverse-append before (event ∷ [])) legal).1 in
     subst (IsReplyTo event.asked) (sym last.answered) (answer_fits opening until (reverse before) event.asked)
 
-pub ends_kindly : (opening : ℕ) (until : Option ℕ) (before after : List EntryData) (seat : ℕ) (asked : Asked) (told : Result Reply AccountFault) → IsLegal opening until after
-    → IfOk told (λ reply. EndsWithEntry before (event_by seat asked reply) after) → IfOk told (IsReplyTo asked)
+pub ends_kindly : (opening : ℕ) (until : Option ℕ) (before after : List EntryData) (seat : ℕ) (asked : Asked) (response : Result Reply AccountFault) → IsLegal opening until after
+    → IfOk response (λ reply. EndsWithEntry before (event_by seat asked reply) after) → IfOk response (IsReplyTo asked)
 ends_kindly opening until before after seat asked (Ok reply) legal ends =
     let event : EntryData = event_by seat asked reply in
     let whole : after ≡ (before ++ ends.between) ++ event ∷ [] = ends.is ∙ sym (append_assoc before ends.between (event ∷ [])) in

@@ -5,7 +5,7 @@ pub mod Ending
 pub mod Keeping
 pub mod Knowing
 pub mod Longer
-pub mod Meetings
+pub mod MeetLemmas
 pub mod Merging
 pub mod Numbering
 pub mod Owning

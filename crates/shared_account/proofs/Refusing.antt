@@ -14,8 +14,8 @@ use Rattle.account_core.specs.SharingLaws.{AccountsHaveNoGate}
 use Rattle.shared_account.specs.Kinds.{ClosesCall, IsFaultOf, IsReplyTo, IsReturn, OpensCall, RefusalsAreOfTheirKind}
 use Rattle.shared_account.proofs.Answering.{answer_fits}
 
-pub fits_of : (account : Ledger) (asked : Asked) (told : Reply) → told ≡ answer_of account asked → IsReplyTo asked told
-fits_of account asked told is =
+pub fits_of : (account : Ledger) (asked : Asked) (response : Reply) → response ≡ answer_of account asked → IsReplyTo asked response
+fits_of account asked response is =
     let R : Reply → Type 0 = IsReplyTo asked in
     subst R (sym is) (answer_fits account.opening account.until (reverse account.history) asked)
 
@@ -25,17 +25,17 @@ return_closed : (open_yet : Bool) (account : Ledger) (call : ℕ) (why : Account
     → (open_yet ≡ true → ⊥) → IsRefusal account (Returns call) why → why ≡ fault.NotOpen
 unfolding refusal
 return_closed true account call why is never refused = absurd (never refl)
-return_closed false account call why is never (inl told) =
-    let first : Some fault.NotOpen ≡ Some why = rw is at told in cc first
-return_closed false account call why is never (inr told) =
-    let first : Some fault.NotOpen ≡ None = rw is at told.0 in cc first
+return_closed false account call why is never (inl response) =
+    let first : Some fault.NotOpen ≡ Some why = rw is at response in cc first
+return_closed false account call why is never (inr response) =
+    let first : Some fault.NotOpen ≡ None = rw is at response.0 in cc first
 
 fails : (why : AccountFault) → IsOk {T = Reply} {E = AccountFault} (Err why) → ⊥
 fails why is = cc
 
-pub returning_of : (account : Ledger) (mine : List EntryData) (asked : Asked) (told : Result Reply AccountFault) → IfErr told (IsRefusal account asked)
-    → (IsClosing (reverse account.history) asked → IsClosing (reverse mine) asked → IsOk told) → IsReturn asked → IsClosing (reverse mine) asked
-    → IfErr told (λ why. why ≡ fault.NotOpen)
+pub returning_of : (account : Ledger) (mine : List EntryData) (asked : Asked) (response : Result Reply AccountFault) → IfErr response (IsRefusal account asked)
+    → (IsClosing (reverse account.history) asked → IsClosing (reverse mine) asked → IsOk response) → IsReturn asked → IsClosing (reverse mine) asked
+    → IfErr response (λ why. why ≡ fault.NotOpen)
 returning_of account mine asked (Ok answered) refused closing return own = tt
 returning_of account mine (Credits amount moment) (Err why) refused closing return own = absurd return
 returning_of account mine (Reserves call plan wanted least at) (Err why) refused closing return own = absurd return
@@ -51,9 +51,9 @@ open_or_not false account call why is closing (inl gate) = inr gate
 open_or_not false account call why is closing (inr refused) = inl (return_closed false account call why is (λ e. cc e) refused)
 
 -- the same where the account is seen, and its gate may have refused too
-pub returned_by : (account : Ledger) (asked : Asked) (told : Result Reply AccountFault) → IfErr told (λ why. (why ≡ fault.GateClosed) ⊎ IsRefusal account asked why)
-    → (IsClosing (reverse account.history) asked → IfErr told (λ why. why ≡ fault.GateClosed)) → IsReturn asked
-    → IfErr told (λ why. (why ≡ fault.NotOpen) ⊎ (why ≡ fault.GateClosed))
+pub returned_by : (account : Ledger) (asked : Asked) (response : Result Reply AccountFault) → IfErr response (λ why. (why ≡ fault.GateClosed) ⊎ IsRefusal account asked why)
+    → (IsClosing (reverse account.history) asked → IfErr response (λ why. why ≡ fault.GateClosed)) → IsReturn asked
+    → IfErr response (λ why. (why ≡ fault.NotOpen) ⊎ (why ≡ fault.GateClosed))
 returned_by account asked (Ok answered) refused closing return = tt
 returned_by account (Credits amount moment) (Err why) refused closing return = absurd return
 returned_by account (Reserves call plan wanted least at) (Err why) refused closing return = absurd return

@@ -24,7 +24,7 @@ use Rattle.account_core.specs.declared.entry.Reply.TheVariants as reply
 use Rattle.account_core.proofs.Owing.{owes_denied, owes_end, owes_grant, owes_report}
 use Rattle.rising_map.proofs.RisingLemmas.{kept_of}
 use Rattle.shared_account.specs.Kinds.{IsReplyTo}
-use Rattle.shared_account.specs.Room.{IsRoomy, TellsStages, stage_in}
+use Rattle.shared_account.specs.Room.{IsRoomy, ShowsStages, stage_in}
 use Rattle.shared_account.specs.Seats.{SeatView}
 use Rattle.shared_account.specs.declared.seat.Seat.TheInside.{Inside}
 use Rattle.shared_account.proofs.Answering.{answer_fits}
@@ -33,8 +33,8 @@ use Rattle.shared_account.proofs.Knowing.{its_call, its_deed, known_apart, known
 -- ---- the places of one call
 
 -- an entry and what is owed after it take the places that were owed and needed
-owes : (known : CallFacts) (asked : Asked) (told : Reply) → IsReplyTo asked told
-    → 1 + owed_to (known_after known (deed_of asked told)) ≤ owed_to known + needed_by known asked
+owes : (known : CallFacts) (asked : Asked) (response : Reply) → IsReplyTo asked response
+    → 1 + owed_to (known_after known (deed_of asked response)) ≤ owed_to known + needed_by known asked
 unfolding owed_to
 owes known (Credits amount moment) (reply.Credited available) fits = omega arith
 owes known (Credits amount moment) (reply.CreditOver available) fits = omega arith
@@ -44,7 +44,7 @@ owes known (Reserves call plan wanted least at) (reply.Denied available) fits = 
 owes known (Settles call number info) (reply.Settled paid available) fits = owes_report (is_open known) known.awaits
 owes known (Settles call number info) (reply.Forfeit paid available) fits = owes_report (is_open known) known.awaits
 owes known (Returns call) (reply.Returned paid available) fits = owes_end known.plan known.returned known.awaits
-owes known asked told fits = absurd fits
+owes known asked response fits = absurd fits
 
 pub of_call : (call : ℕ) (asked : Asked) → IsOfCall call asked → call_of asked ≡ call
 of_call call (Credits amount moment) is = absurd is
@@ -52,11 +52,11 @@ of_call call (Reserves other plan wanted least at) is = is
 of_call call (Settles other number info) is = is
 of_call call (Returns other) is = is
 
-credit_rests : (asked : Asked) (told : Reply) → IsCredit asked → deed_of asked told ≡ Rests
-credit_rests (Credits amount moment) told is = refl
-credit_rests (Reserves call plan wanted least at) told is = absurd is
-credit_rests (Settles call number info) told is = absurd is
-credit_rests (Returns call) told is = absurd is
+credit_rests : (asked : Asked) (response : Reply) → IsCredit asked → deed_of asked response ≡ Rests
+credit_rests (Credits amount moment) response is = refl
+credit_rests (Reserves call plan wanted least at) response is = absurd is
+credit_rests (Settles call number info) response is = absurd is
+credit_rests (Returns call) response is = absurd is
 
 -- ---- the map
 
@@ -78,7 +78,7 @@ pub fresh_put : (stages : List (ℕ × CallStage)) (put : ℕ) → lookup (is_at
 fresh_put stages put none call = stage_put stages put Fresh call ∙ fresh_by _ stages put call refl none
 
 tells_by : (here : Bool) (stages : List (ℕ × CallStage)) (h : List EntryData) (event : EntryData) (after : CallStage) (call : ℕ) → (its_call event == call) ≡ here
-    → TellsStages stages h → after ≡ stage_of (known (its_call event) (event ∷ h))
+    → ShowsStages stages h → after ≡ stage_of (known (its_call event) (event ∷ h))
     → (if here then after else stage_in stages call) ≡ stage_of (known call (event ∷ h))
 tells_by true stages h event after call is tells after_is =
     let P : ℕ → Type 0 = λ c. after ≡ stage_of (known c (event ∷ h)) in
@@ -176,22 +176,22 @@ credit_roomy moves old entry kept places capacity capacity' roomy credit room =
 
 -- what an account answered to an operation of a call, by the stages of the call
 pub is_entry : (s : Inside) → IsRoomy (reverse (map entry_data s.mine.items)) s.stages s.owed (vec_capacity s.mine)
-    → (opening : ℕ) (until : Option ℕ) (past : List EntryData) (seat call : ℕ) (asked : Asked) (told : Reply) (before after : CallStage) (owed_before owed_now needs : ℕ)
-    → IsOfCall call asked → told ≡ answer opening until past asked → before ≡ stage_in s.stages call
-    → ((known : CallFacts) → stage_of known ≡ before → after ≡ stage_of (known_after known (deed_of asked told)))
+    → (opening : ℕ) (until : Option ℕ) (past : List EntryData) (seat call : ℕ) (asked : Asked) (response : Reply) (before after : CallStage) (owed_before owed_now needs : ℕ)
+    → IsOfCall call asked → response ≡ answer opening until past asked → before ≡ stage_in s.stages call
+    → ((known : CallFacts) → stage_of known ≡ before → after ≡ stage_of (known_after known (deed_of asked response)))
     → ((known : CallFacts) → stage_of known ≡ before → owed_before ≡ owed_to known)
     → ((known : CallFacts) → stage_of known ≡ after → owed_now ≡ owed_to known)
     → ((known : CallFacts) → stage_of known ≡ before → needs ≡ needed_by known asked)
-    → IsEntry (reverse (map entry_data s.mine.items)) (record { seat = seat; asked = asked; reply = told }) before after owed_before owed_now needs
-is_entry s roomy opening until past seat call asked told before after owed_before owed_now needs here told_is before_is after_is before_owed now_owed needs_are =
+    → IsEntry (reverse (map entry_data s.mine.items)) (record { seat = seat; asked = asked; reply = response }) before after owed_before owed_now needs
+is_entry s roomy opening until past seat call asked response before after owed_before owed_now needs here response_is before_is after_is before_owed now_owed needs_are =
     let R : Reply → Type 0 = IsReplyTo asked in
     let h : List EntryData = reverse (map entry_data s.mine.items) in
     let C : ℕ → Type 0 = λ c. stage_of (known c h) ≡ before in
     let before_known : stage_of (known (call_of asked) h) ≡ before = subst C (sym (of_call call asked here)) (sym (before_is ∙ roomy.tells call)) in
     record {
-      fits = subst R (sym told_is) (answer_fits opening until past asked);
+      fits = subst R (sym response_is) (answer_fits opening until past asked);
       after_is = after_is (known (call_of asked) h) before_known;
       before_owed = before_owed (known (call_of asked) h) before_known;
-      now_owed = now_owed (known (call_of asked) (record { seat = seat; asked = asked; reply = told } ∷ h));
+      now_owed = now_owed (known (call_of asked) (record { seat = seat; asked = asked; reply = response } ∷ h));
       needs_are = needs_are (known (call_of asked) h) before_known;
     }

@@ -114,7 +114,7 @@ module _ (start : Start) where
               ended = knew.ended;
               gone = knew.gone;
               seated = λ _. record { opening = seated.opening; until = seated.until; limit = seated.limit; number = omega (arith, seated.number); gone = seated.gone; first = λ _. ap (λ n. n + 1) made; own = seated.own };
-              ticket = λ t has. let out = knew.ticket t has in record { drawn = out.drawn; unserved = out.unserved };
+              ticket = λ t has. let out = knew.ticket t has in record { issued = out.issued; unserved = out.unserved };
               turn = λ t has. let old = knew.turn t has in record { served = old.served; holder = old.holder; seen = old.seen };
             })
             (λ at u other here. let know = kept.each at u here in knows_again now after at u know know.seen know.heard know.ended (omega arith)
@@ -127,7 +127,7 @@ module _ (start : Start) where
               first = λ zero_too. absurd ((kept.apart id at v u (λ i. other (sym i)) there here).numbers seat second (is_first ∙ sym zero_too));
               own = n.own;
             })
-            (λ t has out. record { drawn = out.drawn; unserved = out.unserved })
+            (λ t has out. record { issued = out.issued; unserved = out.unserved })
             (λ t has turn. record { served = turn.served; holder = turn.holder; seen = turn.seen })));
         apart = apart_end mid next (apart_set s.views id w kept.apart (λ by u other here. apart_alike v w u (λ _. refl) (λ x. x) (λ t has. has)
             (kept.apart id by v u (λ e. other (sym e)) there here))) below;
@@ -181,7 +181,7 @@ module _ (start : Start) where
       let know = kept.each at u is in
       knows_again now after at u know know.seen know.heard know.ended (omega arith)
       (λ second n. numbered u n ((kept.apart other at w u (λ i. ne (sym i)) before is).numbers other_seat second))
-      (λ t has out. record { drawn = out.drawn; unserved = out.unserved })
+      (λ t has out. record { issued = out.issued; unserved = out.unserved })
       (λ t has turn. record { served = turn.served; holder = turn.holder; seen = turn.seen }) in
       let idle_no_turn : (u : View) → u.stage ≡ Idles → (t : ℕ) → u.stage ≡ Serves t → ⊥ = λ u rests t has. let never : Idles ≡ Serves t = sym rests ∙ has in cc never in
       record {

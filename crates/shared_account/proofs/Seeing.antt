@@ -19,10 +19,10 @@ use Rattle.shared_account.proofs.Beginnings.{begins_itself}
 use Rattle.shared_account.proofs.Owning.{closing_alike}
 
 -- what closes a call that is the seat's alone, by its own entries, closes it in the account that it has seen
-pub closes_alone : (seat : TurnSeatView) (mine : List EntryData) (entry : Reply → EntryData) (asked : Asked) (told : Result Reply AccountFault)
-    → MatchResult told (λ reply. own_of seat ≡ mine ++ entry reply ∷ []) (λ _. own_of seat ≡ mine)
-    → (IsClosing (reverse seat.view.history) asked → IfErr told (λ why. why ≡ fault.GateClosed)) → IsAlone (HasSeen seat) (call_of asked) → IsClosing (reverse mine) asked
-    → IfErr told (λ why. why ≡ fault.GateClosed)
+pub closes_alone : (seat : TurnSeatView) (mine : List EntryData) (entry : Reply → EntryData) (asked : Asked) (response : Result Reply AccountFault)
+    → MatchResult response (λ reply. own_of seat ≡ mine ++ entry reply ∷ []) (λ _. own_of seat ≡ mine)
+    → (IsClosing (reverse seat.view.history) asked → IfErr response (λ why. why ≡ fault.GateClosed)) → IsAlone (HasSeen seat) (call_of asked) → IsClosing (reverse mine) asked
+    → IfErr response (λ why. why ≡ fault.GateClosed)
 closes_alone seat mine entry asked (Ok reply) own closing alone closes = tt
 closes_alone seat mine entry asked (Err why) own closing alone closes =
     let refusal : Refusal = record { account = seat.view; asked = asked; why = why } in

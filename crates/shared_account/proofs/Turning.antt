@@ -14,7 +14,7 @@ use Rattle.account_core.specs.Ledger.{Ledger, answer_of, refusal_of}
 use Rattle.account_core.specs.SharingLaws.{EachIsOwedItsShare}
 use Rattle.shared_account.specs.Ended.{HaveEnded}
 use Rattle.shared_account.specs.Own.{own}
-use Rattle.shared_account.specs.Plays.{IsLater, Sitter, appended, drawn, handed, looked, with_entry}
+use Rattle.shared_account.specs.Plays.{IsLater, Sitter, appended, issued, handed, looked, with_entry}
 use Rattle.shared_account.specs.Prefixes.{IsPrefix}
 use Rattle.shared_account.specs.Turns.{BoardState, AllApart, AllKnow, AreWords, IsOut, IsTakenUp, Kept, Knows, AccountLiesAt}
 use Rattle.shared_account.specs.Views.{IsSeat, IsServing, at_stage, its_ticket, seats_at, seeing, ticket_of, tickets_at}
@@ -46,7 +46,7 @@ home_if now homes views id t v (Some by) each apart there waits served lies =
 module _ (start : Start) where
   -- ---- a ticket is drawn
 
-  pub draws : (slots id : ℕ) (m : Sitter) → m.0.stage ≡ Idles → Allows (Kept start) slots id m 0 (λ n. (n + 1) % 2 ^ 64) (drawn (step slots 0 1 0 none) m)
+  pub draws : (slots id : ℕ) (m : Sitter) → m.0.stage ≡ Idles → Allows (Kept start) slots id m 0 (λ n. (n + 1) % 2 ^ 64) (issued (step slots 0 1 0 none) m)
   draws slots id m idle s kept count there fits =
       let now = kept.now in
       let t : ℕ = now.served + now.out in
@@ -71,12 +71,12 @@ module _ (start : Start) where
             ended = knew.ended;
             gone = knew.gone;
             seated = λ _. numbered_so now now.served (now.out + 1) now.holder m.0 (Waits t) m.0.heard (knew.seated seat);
-            ticket = λ t' is. let same : t ≡ t' = cc is in subst (IsOut after) same (record { drawn = omega arith; unserved = omega arith });
+            ticket = λ t' is. let same : t ≡ t' = cc is in subst (IsOut after) same (record { issued = omega arith; unserved = omega arith });
             turn = λ t' is. absurd (cc is);
           })
               (λ at u other is. let know = kept.each at u is in knows_again now after at u know know.seen know.heard know.ended (omega arith)
               (λ _ n. numbered_so now now.served (now.out + 1) now.holder u u.stage u.heard n)
-              (λ t' _ out. record { drawn = out.drawn; unserved = omega (arith, out.unserved) })
+              (λ t' _ out. record { issued = out.issued; unserved = omega (arith, out.unserved) })
               (λ t' _ turn. record { served = turn.served; holder = turn.holder; seen = turn.seen }));
           apart = apart_set s.views id w kept.apart (λ by u other is. record {
             numbers = λ first second same. (kept.apart id by m.0 u (λ e. other (sym e)) there is).numbers seat second same;
@@ -95,7 +95,7 @@ module _ (start : Start) where
   served_is : (s : Table) (kept : Kept start s) (t : ℕ) → IsOut kept.now t → get_or s.words 1 0 ≡ t % 2 ^ 64 → t ≡ kept.now.served
   served_is s kept t out found =
       let near : t < kept.now.served + 2 ^ 64 = omega (arith, out.unserved, out_few s kept) in
-      sym (one_turn kept.now.served t (2 ^ 64) out.drawn near (sym kept.words.serving ∙ found))
+      sym (one_turn kept.now.served t (2 ^ 64) out.issued near (sym kept.words.serving ∙ found))
 
   comes : (slots id : ℕ) (m : Sitter) (t : ℕ) → m.0.stage ≡ Waits t → (s : Table) (kept : Kept start s) → get_elem? s.views id ≡ some m.0 → t ≡ kept.now.served
       → kept.now.holder ≡ None → let w : View = record m.0 { stage = Serves t; seen = kept.now.account } in
@@ -124,12 +124,12 @@ module _ (start : Start) where
           ended = knew.ended;
           gone = knew.gone;
           seated = λ _. record { opening = refl; until = refl; limit = refl; number = seated.number; gone = seated.gone; first = seated.first; own = refl };
-          ticket = λ t' is. let same : t ≡ t' = cc is in subst (IsOut after) same (record { drawn = out.drawn; unserved = out.unserved });
+          ticket = λ t' is. let same : t ≡ t' = cc is in subst (IsOut after) same (record { issued = out.issued; unserved = out.unserved });
           turn = λ t' is. let same : t ≡ t' = cc is in record { served = sym same ∙ served; holder = refl; seen = refl };
         })
             (λ at u other is. let know = kept.each at u is in knows_again now after at u know know.seen know.heard know.ended (omega arith)
             (λ _ n. numbered_so now now.served now.out (Some id) u u.stage u.heard n)
-            (λ t' _ o. record { drawn = o.drawn; unserved = o.unserved })
+            (λ t' _ o. record { issued = o.issued; unserved = o.unserved })
             (λ t' _ turn. let never : None ≡ Some at = sym nobody ∙ turn.holder in absurd (cc never)));
         apart = apart_set s.views id w kept.apart (λ by u other is. apart_alike m.0 w u (λ _. refl) (λ _. seat) (λ t' has. ap ticket_of waits ∙ has)
             (kept.apart id by m.0 u (λ e. other (sym e)) there is));
@@ -226,7 +226,7 @@ module _ (start : Start) where
             ended = ended_still id m.0 knew;
             gone = knew.gone;
             seated = λ _. record { opening = refl; until = refl; limit = refl; number = seated.number; gone = seated.gone; first = seated.first; own = refl };
-            ticket = λ t' has. let out = knew.ticket t' has in record { drawn = out.drawn; unserved = out.unserved };
+            ticket = λ t' has. let out = knew.ticket t' has in record { issued = out.issued; unserved = out.unserved };
             turn = λ t' has. let old = knew.turn t' has in record { served = old.served; holder = old.holder; seen = refl };
           })
               (λ at u other here. let know = kept.each at u here in knows_again now after at u know
@@ -242,7 +242,7 @@ module _ (start : Start) where
                 first = n.first;
                 own = n.own ∙ others_own u.number (λ e. (kept.apart id at m.0 u (λ i. other (sym i)) there here).numbers seat second (sym its ∙ e));
               })
-              (λ t' _ o. record { drawn = o.drawn; unserved = o.unserved })
+              (λ t' _ o. record { issued = o.issued; unserved = o.unserved })
               (λ t' _ its_turn. let same : Some id ≡ Some at = sym turn.holder ∙ its_turn.holder in let alike : at ≡ id = cc same in absurd (other alike)));
           apart = apart_set s.views id w kept.apart (λ by u other here. apart_alike m.0 w u (λ _. refl) (λ x. x) (λ t' has. has)
               (kept.apart id by m.0 u (λ e. other (sym e)) there here));
@@ -302,7 +302,7 @@ module _ (start : Start) where
               (λ _ n. numbered_so now (now.served + 1) (now.out - 1) None u u.stage u.heard n)
               (λ t' has o.
               let differs : t' ≢ now.served = λ e. (kept.apart id at m.0 u (λ i. other (sym i)) there here).tickets t' (ap ticket_of is ∙ ap (λ (n : ℕ). Some n) (turn.served ∙ sym e)) has in
-              record { drawn = omega (arith, o.drawn, differs); unserved = omega (arith, o.unserved, some_out) })
+              record { issued = omega (arith, o.issued, differs); unserved = omega (arith, o.unserved, some_out) })
               (λ t' _ its_turn. let same : Some id ≡ Some at = sym turn.holder ∙ its_turn.holder in let alike : at ≡ id = cc same in absurd (other alike)));
           apart = apart_set s.views id w kept.apart (λ by u other here. apart_alike m.0 w u (λ _. refl) (λ _. seat) (λ t' has. absurd (cc has))
               (kept.apart id by m.0 u (λ e. other (sym e)) there here));

@@ -34,8 +34,8 @@ pub record IsLater (before after : View) : Type 0 where
   pub ended : after.ended ≡ before.ended
 
 -- a ticket is drawn
-abbrev pub drawn : At → Sitter → ℕ → Sitter → Type 0
-drawn step before found after =
+abbrev pub issued : At → Sitter → ℕ → Sitter → Type 0
+issued step before found after =
     (found ≡ its_ticket after.0.stage % 2 ^ 64) × (after.0 ≡ at_stage before.0 (Waits (its_ticket after.0.stage))) × (after.1 ≡ before.1)
 
 -- where one's own ticket is served, the turn has come, and the account is in hand

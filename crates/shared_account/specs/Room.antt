@@ -15,11 +15,11 @@ abbrev pub stage_in : List (ℕ × CallStage) → ℕ → CallStage
 stage_in stages call = unwrap_or (lookup (is_at (nat_cmp call)) stages) Fresh
 
 -- the map has for each call the stage that the seat's own entries, newest first, say of it
-abbrev pub TellsStages : List (ℕ × CallStage) → List EntryData → Type 0
-TellsStages stages h = (call : ℕ) → stage_in stages call ≡ stage_of (known call h)
+abbrev pub ShowsStages : List (ℕ × CallStage) → List EntryData → Type 0
+ShowsStages stages h = (call : ℕ) → stage_in stages call ≡ stage_of (known call h)
 
 -- there is room in memory for each place that the seat's own entries owe
 pub record IsRoomy (h : List EntryData) (stages : List (ℕ × CallStage)) (places capacity : ℕ) : Type 0 where
   pub room : length h + places ≤ capacity
-  pub tells : TellsStages stages h
+  pub tells : ShowsStages stages h
   pub places_are : places ≡ owed h

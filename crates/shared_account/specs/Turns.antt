@@ -59,7 +59,7 @@ pub record IsNumbered (now : BoardState) (view : View) : Type 0 where
 
 -- a ticket was drawn, and isn't served yet
 pub record IsOut (now : BoardState) (ticket : ℕ) : Type 0 where
-  pub drawn : now.served ≤ ticket
+  pub issued : now.served ≤ ticket
   pub unserved : ticket < now.served + now.out
 
 -- who has the turn has the ticket that is served, and has seen the whole history

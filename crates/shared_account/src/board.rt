@@ -2,7 +2,7 @@
 //! holds of them between any two steps.
 
 ghost use Rattle.std.specs.Prelude.{◌≡◌, ◌≤◌, [], None, IfOk, IfErr};
-ghost use Rattle.shared_account.specs.Plays.{appended, compared, drawn, handed, looked};
+ghost use Rattle.shared_account.specs.Plays.{appended, compared, issued, handed, looked};
 ghost use Rattle.shared_account.specs.Views.{hearing, next_seat, note_of, one_seat_more, spent_note, first_view, taking_in};
 ghost use Rattle.shared_account.specs.declared.board.Stage.TheVariants.{Idles};
 ghost use Rattle.shared_account.specs.TurnViews.{fresh_turn_seats};
@@ -91,7 +91,7 @@ pub(crate) type Chair = atomic_table::Seat<Option<Account>, View>;
 pub(crate) struct Draw;
 
 impl Play<Option<Account>, View> for Draw {
-    ghost then = { drawn };
+    ghost then = { issued };
 }
 
 /// The ticket that is served is looked at.

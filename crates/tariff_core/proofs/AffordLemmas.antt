@@ -7,7 +7,7 @@ use Rattle.tariff_core.specs.Ceiling.{ceiling_of}
 use Rattle.tariff_core.specs.Rates.{Rates}
 use Rattle.tariff_core.specs.Times.{Elapsed}
 use Rattle.tariff_core.proofs.CeilingLemmas.{ceiling_covers, ceiling_least}
-use Rattle.tariff_core.proofs.Lawfuls.{comes, may_come_by}
+use Rattle.tariff_core.proofs.LawfulLemmas.{comes, may_come_by}
 
 pub ceiling_grows : (plan : Rates) (old : Elapsed) (less more : ℕ) → less ≤ more → ceiling_of plan old less ≤ ceiling_of plan old more
 ceiling_grows plan old less more le =

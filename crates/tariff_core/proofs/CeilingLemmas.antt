@@ -6,7 +6,7 @@ use Rattle.tariff_core.specs.Ceiling.{are_times, ceiling_of, greatest, may_come,
 use Rattle.tariff_core.specs.Price.{billed_before, billed_in_all, charged_after, charged_before, cost_of, price_at, price_of, second_rate}
 use Rattle.tariff_core.specs.Rates.{Rates}
 use Rattle.tariff_core.specs.Times.{Elapsed}
-use Rattle.tariff_core.proofs.Lawfuls.{Comes, comes, may_come_by, or_zero}
+use Rattle.tariff_core.proofs.LawfulLemmas.{Comes, comes, may_come_by, or_zero}
 use Rattle.tariff_core.proofs.Prices.{billed_grows, billed_part, price_after, price_before, price_grows}
 
 below_or_last : (n k : ℕ) → k ≤ suc n → (k ≤ n) ⊎ (k ≡ suc n)

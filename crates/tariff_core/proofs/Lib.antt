@@ -3,7 +3,7 @@ pub mod CeilingLemmas
 pub mod EnteringLemmas
 pub mod IndexLemmas
 pub mod Known
-pub mod Lawfuls
+pub mod LawfulLemmas
 pub mod MidnightLemmas
 pub mod PrefixLemmas
 pub mod Prices

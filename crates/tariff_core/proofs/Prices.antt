@@ -9,7 +9,7 @@ use Rattle.tariff_core.specs.Lawful.{is_lawful}
 use Rattle.tariff_core.specs.Price.{billed, billed_before, billed_in_all, charged_after, charged_before, cost_of, price_at, price_of, second_rate}
 use Rattle.tariff_core.specs.Rates.{Rates}
 use Rattle.tariff_core.specs.Times.{Elapsed}
-use Rattle.tariff_core.proofs.Lawfuls.{follows}
+use Rattle.tariff_core.proofs.LawfulLemmas.{follows}
 
 -- ---- steps
 

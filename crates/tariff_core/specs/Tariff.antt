@@ -13,9 +13,9 @@ abbrev pub band_of : Row → Band
 band_of row = record { prefix = text_of_digits row.prefix; start = row.start; fee = row.cost.fee; rate = row.cost.rate; free = row.cost.free; first = row.cost.first; step = row.cost.step; days = text_of_digits row.days }
 
 -- what is told of a value, seen by `view`, is what its meaning says
-abbrev pub Tells : {X Y E : Type 0} → (X → Y) → Result X E → Result Y E → Type 0
-Tells view (Ok x) meaning = meaning ≡ Ok (view x)
-Tells view (Err why) meaning = meaning ≡ Err why
+abbrev pub ReadsAs : {X Y E : Type 0} → (X → Y) → Result X E → Result Y E → Type 0
+ReadsAs view (Ok x) meaning = meaning ≡ Ok (view x)
+ReadsAs view (Err why) meaning = meaning ≡ Err why
 
 -- the day of a place at which the rows of a weekday are found: that weekday, or 0 in a table without days
 abbrev pub key_of : Bool → ℕ → ℕ

@@ -6,7 +6,7 @@ ghost use Rattle.tariff_core.specs.Rates.{are_steps};
 ghost use Rattle.tariff_core.specs.Bands.{counts_on, has_band, has_midnights, have_steps, weekday};
 ghost use Rattle.tariff_core.specs.Digits.{text_of_digits};
 ghost use Rattle.tariff_core.specs.Routes.{IsBandAt, IsSoonest};
-ghost use Rattle.tariff_core.specs.Tariff.{AreNoLonger, Finds, Indexes, IsIndexed, Tells, KeepsRow, band_of, key_of};
+ghost use Rattle.tariff_core.specs.Tariff.{AreNoLonger, Finds, Indexes, IsIndexed, ReadsAs, KeepsRow, band_of, key_of};
 ghost use Rattle.tariff_core.specs.TariffTable.{GivesBands, HasBandColumns, bands_of, new_band_in, repeats, without_midnight};
 ghost use Rattle.csv.specs.Records.{fields_of};
 ghost use Rattle.table_core.specs.Rows.{rows_of};
@@ -233,7 +233,7 @@ fn judge(
 ) -> Result<Row, TariffKind>
     requires { HasBandColumns header (fields_of fields.now) }
     ensures { (bands : _) → Indexes (nat_le 3 header) index.now bands
-        → Tells band_of result (new_band_in header bands (fields_of fields.now)) }
+        → ReadsAs band_of result (new_band_in header bands (fields_of fields.now)) }
 {
     let row = read_row(header, fields)?;
     if is_repeated(index, header >= WITH_DAYS, &row) {

@@ -3,7 +3,7 @@
 ghost use Rattle.std.specs.Prelude.{◌≡◌, ◌≤◌, ◌<◌, true, length, IfSome, IfOk};
 ghost use Rattle.csv.specs.Records.{fields_of};
 ghost use Rattle.tariff_core.specs.Digits.{text_of_digits};
-ghost use Rattle.tariff_core.specs.Tariff.{Tells, band_of};
+ghost use Rattle.tariff_core.specs.Tariff.{ReadsAs, band_of};
 ghost use Rattle.tariff_core.specs.TariffTable.{HasBandColumns, are_days, band_in, days_in, first_in, free_in, is_prefix, step_in, time_of};
 
 use crate::DAY;
@@ -21,7 +21,7 @@ pub(crate) const WITH_DAYS: usize = 3;
 /// steps too, or the one with days.
 pub(crate) fn read_row(header: usize, fields: &ByteRecord) -> Result<Row, TariffKind>
     requires { HasBandColumns header (fields_of fields.now) }
-    ensures { Tells band_of result (band_in header (fields_of fields.now)) }
+    ensures { ReadsAs band_of result (band_in header (fields_of fields.now)) }
 {
     let digits = field(fields, 0);
     if !is_prefix(digits) {
@@ -94,7 +94,7 @@ fn further_step(header: usize, fields: &ByteRecord) -> Result<u32, TariffKind>
 /// The days of these fields: none, for each day, under the headers without days.
 fn days(header: usize, fields: &ByteRecord) -> Result<Digits, TariffKind>
     requires { HasBandColumns header (fields_of fields.now) }
-    ensures { Tells text_of_digits result (days_in header (fields_of fields.now)) }
+    ensures { ReadsAs text_of_digits result (days_in header (fields_of fields.now)) }
 {
     if header < WITH_DAYS {
         return Ok(Digits::new(&[]));

@@ -107,7 +107,7 @@ stays_after setup numbers [] (refusal ∷ refusals) old new place asked are has 
 stays_after setup numbers (post ∷ posts) [] old new place asked are has = absurd are
 stays_after setup numbers (post ∷ posts) (refusal ∷ refusals) old new place asked are has =
     stays_after setup numbers posts refusals are.0 new place asked are.2
-    (stays_by setup numbers post.at (verdict_on setup old.talks post.number post.at post.body) old are.0 are.1.told place asked are.1.handled.done has)
+    (stays_by setup numbers post.at (verdict_on setup old.talks post.number post.at post.body) old are.0 are.1.answer place asked are.1.handled.done has)
 
 -- ---- what is asked first is entered
 
@@ -168,7 +168,7 @@ none_after setup numbers call [] (refusal ∷ refusals) old new fresh are none =
 none_after setup numbers call (post ∷ posts) [] old new fresh are none = absurd are
 none_after setup numbers call (post ∷ posts) (refusal ∷ refusals) old new fresh are none =
     let IsFresh : Post → Type 0 = λ p. (other : ℕ) (calling called : Number) → p.body ≡ Ssf call (msg.InitialDp other calling called) → home_of calling setup ≡ None in
-    let between = none_once setup numbers call post (verdict_on setup old.talks post.number post.at post.body) old are.0 are.1.told (means_on setup old.talks post.number post.at post.body)
+    let between = none_once setup numbers call post (verdict_on setup old.talks post.number post.at post.body) old are.0 are.1.answer (means_on setup old.talks post.number post.at post.body)
     are.1.handled.done (All-head IsFresh post posts fresh) none in
     none_after setup numbers call posts refusals are.0 new (All-tail IsFresh post posts fresh) are.2 between
 
@@ -193,9 +193,9 @@ calls_are_reserved setup number before post lists old call other place calling c
     let none : old.talks call ≡ None = none_after setup numbers call before is.refused (at_first setup) old fresh is.begins refl in
     let verdict_is : verdict_on setup old.talks post.number post.at post.body ≡ Begins call place called =
     ap (verdict_on setup old.talks post.number post.at) body ∙ ap (spoken setup post.number post.at call (msg.InitialDp other calling called)) none ∙ ap (begins call called) home in
-    let begins : IsBegun setup numbers post.at call place called old is.between is.handles.told =
-    subst (λ v. IsDone setup numbers post.at v old is.between is.handles.told) verdict_is is.handles.handled.done in
-    let reserved = reserved_by setup numbers call place post.at called begins.route old is.between is.handles.told
+    let begins : IsBegun setup numbers post.at call place called old is.between is.handles.answer =
+    subst (λ v. IsDone setup numbers post.at v old is.between is.handles.answer) verdict_is is.handles.handled.done in
+    let reserved = reserved_by setup numbers call place post.at called begins.route old is.between is.handles.answer
     (place_within setup before old place sound (home_within setup (account_of calling setup.subscribers) place home)) is.handles.refused has begins.routed begins.talked in
     record {
       route = reserved.route;
@@ -209,7 +209,7 @@ calls_are_reserved setup number before post lists old call other place calling c
 pub record IsTaken (setup : Setup) (number : ℕ) (before : List Post) (post : Post) (lists : List (List EntryData)) (old : Holding) (call place : ℕ) (is : IsHandledAfter setup number before post lists old) (said : Says) (to : Phase) : Type 0 where
   pub sound : IsSoundHolding (keys_of setup.accounts) before old
   pub within : place < length old.lists
-  pub talk : IsTalked (seat_numbers number setup) call place (said, to) old is.between is.handles.told
+  pub talk : IsTalked (seat_numbers number setup) call place (said, to) old is.between is.handles.answer
 
 pub taken_on : (setup : Setup) (number : ℕ) (before : List Post) (post : Post) (lists : List (List EntryData)) (old : Holding) (call place : ℕ) (message : SsfMsg) (said : Says) (to : Phase)
     → (is : IsHandledAfter setup number before post lists old) → (running : IsRunning old call place) → post.body ≡ Ssf call message
@@ -225,7 +225,7 @@ taken_on setup number before post lists old call place message said to is runnin
       record {
         sound = sound;
         within = place_within setup before old place sound (rw (← many_keys setup) own.is.placed);
-        talk = subst (λ v. IsDone setup numbers post.at v old is.between is.handles.told) verdict_is is.handles.handled.done;
+        talk = subst (λ v. IsDone setup numbers post.at v old is.between is.handles.answer) verdict_is is.handles.handled.done;
       },
       own.is.about,
     )

@@ -12,7 +12,7 @@ nothing_asked first (got ∷ []) rests asked = let pending = asked.0 in absurd (
 nothing_asked first (got ∷ (last ∷ earlier)) rests asked = let none = nothing_asked first (last ∷ earlier) rests asked.1 in cc
 
 pub said_is_sent : WhatIsSaidIsSent
-said_is_sent numbers call place first old new told rests is =
+said_is_sent numbers call place first old new answer rests is =
     let none : is.gots ≡ [] = nothing_asked first is.gots rests is.asked in
     let said : first.0 ≡ is.last = ap (λ (p : Says × Phase). p.0) (rw none at is.talk) in
     (is.orders ∙ ap orders_sent_by (sym said), is.refused ∙ ap last_fault none)

@@ -9,13 +9,13 @@ use Rattle.workers_core.specs.Verdicts.{Verdict}
 use Rattle.workers_core.specs.declared.worker.Case.{Case}
 use Rattle.workers_core.specs.declared.worker.Case.TheVariants as case
 
-pub called_by : {T : Type 0} (Calls : Asking T) (setup : Setup) (at : ℕ) (verdict : Verdict) (case : Case) (old new : List T) (told : AnswerView)
-    → IsCase setup at verdict case → AreCalledIn Calls case old new told → AreCalled Calls setup at verdict old new told
-called_by Calls setup at verdict case.Stray old new told is so = rw is so
-called_by Calls setup at verdict case.Rejected old new told is so = rw is so
-called_by Calls setup at verdict (case.Recharge place amount until) old new told is so = rw is so
-called_by Calls setup at verdict (case.Talk call talk turn) old new told (inl is) so = rw is so
-called_by {T} Calls setup at verdict (case.Talk call talk turn) old new told (inr first) so =
+pub called_by : {T : Type 0} (Calls : Asking T) (setup : Setup) (at : ℕ) (verdict : Verdict) (case : Case) (old new : List T) (answer : AnswerView)
+    → IsCase setup at verdict case → AreCalledIn Calls case old new answer → AreCalled Calls setup at verdict old new answer
+called_by Calls setup at verdict case.Stray old new answer is so = rw is so
+called_by Calls setup at verdict case.Rejected old new answer is so = rw is so
+called_by Calls setup at verdict (case.Recharge place amount until) old new answer is so = rw is so
+called_by Calls setup at verdict (case.Talk call talk turn) old new answer (inl is) so = rw is so
+called_by {T} Calls setup at verdict (case.Talk call talk turn) old new answer (inr first) so =
     rw first.is
     (record {
       from = so.from;
@@ -25,6 +25,6 @@ called_by {T} Calls setup at verdict (case.Talk call talk turn) old new told (in
       goes = record {
         route = first.route;
         routed = first.routed;
-        talk = subst (λ begun. IsTalkCalled Calls begun told so.from so.to) (sym first.begins) so.goes;
+        talk = subst (λ begun. IsTalkCalled Calls begun answer so.from so.to) (sym first.begins) so.goes;
       };
     })

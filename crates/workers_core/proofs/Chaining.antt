@@ -23,40 +23,40 @@ use Rattle.run_values.specs.declared.directory.OpeningCredit.{OpeningCredit}
 use Rattle.run_values.specs.declared.post.Post.{Post}
 
 -- one post more
-pub one_more : (Shows : ℕ → Showing) (setup : Setup) (numbers : List ℕ) (posts : List Post) (answers : List AnswerView) (post : Post) (told : AnswerView) (old between new : Holding)
-    → AreAnswered Shows setup numbers posts answers old between → IsRightlyHandled Shows setup numbers post between new told
-    → AreAnswered Shows setup numbers (posts ++ post ∷ []) (answers ++ told ∷ []) old new
-one_more Shows setup numbers [] [] post told old between new are is =
-    let P : Holding → Type 0 = λ h. IsRightlyHandled Shows setup numbers post h new told in (new, subst P (sym are) is, refl)
-one_more Shows setup numbers [] (t ∷ answers) post told old between new are is = absurd are
-one_more Shows setup numbers (p ∷ posts) [] post told old between new are is = absurd are
-one_more Shows setup numbers (p ∷ posts) (t ∷ answers) post told old between new are is =
-    (are.0, are.1, one_more Shows setup numbers posts answers post told are.0 between new are.2 is)
+pub one_more : (Shows : ℕ → Showing) (setup : Setup) (numbers : List ℕ) (posts : List Post) (answers : List AnswerView) (post : Post) (answer : AnswerView) (old between new : Holding)
+    → AreAnswered Shows setup numbers posts answers old between → IsRightlyHandled Shows setup numbers post between new answer
+    → AreAnswered Shows setup numbers (posts ++ post ∷ []) (answers ++ answer ∷ []) old new
+one_more Shows setup numbers [] [] post answer old between new are is =
+    let P : Holding → Type 0 = λ h. IsRightlyHandled Shows setup numbers post h new answer in (new, subst P (sym are) is, refl)
+one_more Shows setup numbers [] (t ∷ answers) post answer old between new are is = absurd are
+one_more Shows setup numbers (p ∷ posts) [] post answer old between new are is = absurd are
+one_more Shows setup numbers (p ∷ posts) (t ∷ answers) post answer old between new are is =
+    (are.0, are.1, one_more Shows setup numbers posts answers post answer are.0 between new are.2 is)
 
 -- posts after posts
-pub more_after : (Shows : ℕ → Showing) (setup : Setup) (numbers : List ℕ) (posts later : List Post) (answers told : List AnswerView) (old between new : Holding)
-    → AreAnswered Shows setup numbers posts answers old between → AreAnswered Shows setup numbers later told between new
-    → AreAnswered Shows setup numbers (posts ++ later) (answers ++ told) old new
-more_after Shows setup numbers [] later [] told old between new are then_are =
-    let P : Holding → Type 0 = λ h. AreAnswered Shows setup numbers later told h new in subst P (sym are) then_are
-more_after Shows setup numbers [] later (t ∷ answers) told old between new are then_are = absurd are
-more_after Shows setup numbers (p ∷ posts) later [] told old between new are then_are = absurd are
-more_after Shows setup numbers (p ∷ posts) later (t ∷ answers) told old between new are then_are =
-    (are.0, are.1, more_after Shows setup numbers posts later answers told are.0 between new are.2 then_are)
+pub more_after : (Shows : ℕ → Showing) (setup : Setup) (numbers : List ℕ) (posts later : List Post) (answers answer : List AnswerView) (old between new : Holding)
+    → AreAnswered Shows setup numbers posts answers old between → AreAnswered Shows setup numbers later answer between new
+    → AreAnswered Shows setup numbers (posts ++ later) (answers ++ answer) old new
+more_after Shows setup numbers [] later [] answer old between new are then_are =
+    let P : Holding → Type 0 = λ h. AreAnswered Shows setup numbers later answer h new in subst P (sym are) then_are
+more_after Shows setup numbers [] later (t ∷ answers) answer old between new are then_are = absurd are
+more_after Shows setup numbers (p ∷ posts) later [] answer old between new are then_are = absurd are
+more_after Shows setup numbers (p ∷ posts) later (t ∷ answers) answer old between new are then_are =
+    (are.0, are.1, more_after Shows setup numbers posts later answers answer are.0 between new are.2 then_are)
 
 -- ---- what showed a refusal shows it later
 
 rightly_still : (Shows Later : ℕ → Showing) → ((place : ℕ) (mine : List EntryData) (asked : Asked) (why : AccountFault) → Shows place mine asked why → Later place mine asked why)
-    → (setup : Setup) (numbers : List ℕ) (at : ℕ) (v : Verdict) (old new : Holding) (told : AnswerView) (done : IsDone setup numbers at v old new told)
-    → AreRefusedRightly Shows setup numbers at v old new told done → AreRefusedRightly Later setup numbers at v old new told done
-rightly_still Shows Later still setup numbers at Strays old new told done right = tt
-rightly_still Shows Later still setup numbers at Rejects old new told done right = tt
-rightly_still Shows Later still setup numbers at (Recharges place amount until) old new told done right =
+    → (setup : Setup) (numbers : List ℕ) (at : ℕ) (v : Verdict) (old new : Holding) (answer : AnswerView) (done : IsDone setup numbers at v old new answer)
+    → AreRefusedRightly Shows setup numbers at v old new answer done → AreRefusedRightly Later setup numbers at v old new answer done
+rightly_still Shows Later still setup numbers at Strays old new answer done right = tt
+rightly_still Shows Later still setup numbers at Rejects old new answer done right = tt
+rightly_still Shows Later still setup numbers at (Recharges place amount until) old new answer done right =
     right_still (Shows place) (Later place) (still place) (slice_index_or old.lists place []) (Asks (Credits amount until)) done.got right
-rightly_still Shows Later still setup numbers at (Begins call place called) old new told done right =
+rightly_still Shows Later still setup numbers at (Begins call place called) old new answer done right =
     all_right_still (Shows place) (Later place) (still place) (slice_index_or numbers place 0) (on_begin call at setup.service.wanted setup.service.least done.route) (slice_index_or old.lists place [])
     done.talked.gots right
-rightly_still Shows Later still setup numbers at (GoesOn call place said phase) old new told done right =
+rightly_still Shows Later still setup numbers at (GoesOn call place said phase) old new answer done right =
     all_right_still (Shows place) (Later place) (still place) (slice_index_or numbers place 0) (said, phase) (slice_index_or old.lists place []) done.gots right
 
 still_answered : (Shows Later : ℕ → Showing) → ((place : ℕ) (mine : List EntryData) (asked : Asked) (why : AccountFault) → Shows place mine asked why → Later place mine asked why)
@@ -89,7 +89,7 @@ handled_so Shows setup numbers [] [] old new are = are
 handled_so Shows setup numbers [] (t ∷ answers) old new are = absurd are
 handled_so Shows setup numbers (p ∷ posts) [] old new are = absurd are
 handled_so Shows setup numbers (p ∷ posts) (t ∷ answers) old new are =
-    (are.0, record { told = t; handled = are.1.handled; refused = refl }, handled_so Shows setup numbers posts answers are.0 new are.2)
+    (are.0, record { answer = t; handled = are.1.handled; refused = refl }, handled_so Shows setup numbers posts answers are.0 new are.2)
 
 pub worked_so : (Shows : ℕ → Showing) (setup : Setup) (number : ℕ) (posts : List Post) (answers : List AnswerView) (lists : List (List EntryData)) → AnswersItsPosts Shows setup number posts answers lists
     → IsWorked setup number posts (refusals_in answers) lists
@@ -106,7 +106,7 @@ first_sound setup = record { served = none_served setup.accounts; talks = λ cal
 
 pub once_sound : (setup : Setup) (numbers : List ℕ) (done : List Post) (post : Post) (refusal : Option AccountFault) (old new : Holding) → IsSoundHolding (keys_of setup.accounts) done old
     → IsHandledOnce setup numbers post refusal old new → IsSoundHolding (keys_of setup.accounts) (done ++ post ∷ []) new
-once_sound setup numbers done post refusal old new sound is = sound_after setup numbers done post old new is.told sound is.handled.done
+once_sound setup numbers done post refusal old new sound is = sound_after setup numbers done post old new is.answer sound is.handled.done
 
 pub all_sound : (setup : Setup) (numbers : List ℕ) (done posts : List Post) (refusals : List (Option AccountFault)) (old new : Holding) → IsSoundHolding (keys_of setup.accounts) done old
     → AreHandled setup numbers posts refusals old new → IsSoundHolding (keys_of setup.accounts) (done ++ posts) new

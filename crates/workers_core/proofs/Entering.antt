@@ -10,7 +10,7 @@ use Rattle.account_core.specs.declared.fault.AccountFault.{AccountFault}
 use Rattle.cap_values.specs.declared.message.SsfMsg.{SsfMsg}
 use Rattle.dialogue_core.specs.Phases.{Says, Asks}
 use Rattle.dialogue_core.specs.Table.{Step, on_begin}
-use Rattle.workers_core.proofs.Abouts.{TakesTo, begun_about, begun_says, takes_told, talk_credits}
+use Rattle.workers_core.proofs.OwnCalls.{TakesTo, begun_about, begun_says, takes_answer, talk_credits}
 use Rattle.workers_core.proofs.Chaining.{first_sound, once_sound}
 use Rattle.workers_core.proofs.Growing.{place_within, read_grown}
 use Rattle.workers_core.proofs.Handling.{Means, at_place, means_on, own_of, same_number}
@@ -52,7 +52,7 @@ message_adds setup numbers posts place number at call message (GoesOn its there 
     let own = own_of (length (keys_of setup.accounts)) posts its m.standing (old.talks its) m.stands (sound.talks its) in
     let takes : TakesTo its number m.message (Ok (said, phase)) =
     let P : Step → Type 0 = λ step. TakesTo its number m.message step in
-    subst P m.takes (takes_told its number at m.standing.phase m.message own.is.about) in
+    subst P m.takes (takes_answer its number at m.standing.phase m.message own.is.about) in
     none_more setup numbers its there place (said, phase) old new t within (λ seat gots. talk_credits seat its (said, phase) gots takes.0 takes.1) done
 
 no_money : (account call : ℕ) (message : SsfMsg) (refusal : Option AccountFault) → credited_by account (Ssf call message) refusal ≡ []
@@ -120,7 +120,7 @@ adds_after setup numbers account place done [] (refusal ∷ refusals) old new it
 adds_after setup numbers account place done (post ∷ posts) [] old new its sound are = absurd are
 adds_after setup numbers account place done (post ∷ posts) (refusal ∷ refusals) old new its sound are =
     let within = place_within setup done old place sound (at_place setup account place its).0 in
-    let once = adds setup numbers done account place post.number post.at post.body refusal old are.0 are.1.told within its sound are.1.refused are.1.handled.done in
+    let once = adds setup numbers done account place post.number post.at post.body refusal old are.0 are.1.answer within its sound are.1.refused are.1.handled.done in
     adds_after setup numbers account place (done ++ post ∷ []) posts refusals are.0 new its (once_sound setup numbers done post refusal old are.0 sound are.1) are.2
     ∙ ap (λ l. l ++ accepted_of account posts refusals) once
     ∙ append_assoc (credits_of (slice_index_or old.lists place [])) (credited_by account post.body refusal) (accepted_of account posts refusals)

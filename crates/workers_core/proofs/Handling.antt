@@ -15,7 +15,7 @@ use Rattle.cap_values.specs.declared.number.Number.{Number}
 use Rattle.dialogue_core.specs.Phases.{Phase, Says, Asks}
 use Rattle.dialogue_core.specs.Table.{Step, on_begin, on_message}
 use Rattle.dialogue_core.specs.Views.{phase_of, says_of}
-use Rattle.workers_core.proofs.Abouts.{SaysOf, TakesTo, begun_about, begun_says, begun_settles, settled_by, takes_told, talk_credits, talk_held, talk_settles, talked_about}
+use Rattle.workers_core.proofs.OwnCalls.{SaysOf, TakesTo, begun_about, begun_says, begun_settles, settled_by, takes_answer, talk_credits, talk_held, talk_settles, talked_about}
 use Rattle.workers_core.proofs.Parts.{IsEntered, all_served_grown, all_served_more, begun_more, part_through}
 use Rattle.workers_core.specs.Cases.{IsCase, IsRightlyActed, CaseIsWithin, with_room}
 use Rattle.workers_core.specs.Handled.{AnswerView, AreRefusedRightly, Holding, IsDone, IsRecharged, IsTalked, IsUnasked, StandsNow, Stay}
@@ -287,7 +287,7 @@ placed_by setup numbers post (GoesOn call place said phase) old new t placed m d
     let its = standing_so (λ s. IsPlaced (length setup.accounts) call s) m.standing (old.talks call) m.stands (placed call) in
     let takes : TakesTo call post.number m.message (Ok (said, phase)) =
     let P : Step → Type 0 = λ step. TakesTo call post.number m.message step in
-    subst P m.takes (takes_told call post.number post.at m.standing.phase m.message its.about) in
+    subst P m.takes (takes_answer call post.number post.at m.standing.phase m.message its.about) in
     talked_placed (length setup.accounts) numbers call place (said, phase) old new t (rw (← m.same) its.placed) takes.0 done placed
 
 -- each dialogue is still about its call, and has its account
@@ -378,7 +378,7 @@ sound_by setup numbers posts post (GoesOn call place said phase) old new t sound
     let within : place < length (keys_of setup.accounts) = rw (← m.same) own.is.placed in
     let takes : TakesTo call post.number m.message (Ok (said, phase)) =
     let P : Step → Type 0 = λ step. TakesTo call post.number m.message step in
-    subst P m.takes (takes_told call post.number post.at m.standing.phase m.message own.is.about) in
+    subst P m.takes (takes_answer call post.number post.at m.standing.phase m.message own.is.about) in
     talked_sound (keys_of setup.accounts) numbers call place (said, phase) posts post old new t sound within (begun_more posts post call own.begun) takes.0 takes.1 (rw m.is takes.2) done
 
 -- what a worker holds stays in order

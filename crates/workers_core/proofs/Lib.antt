@@ -1,10 +1,10 @@
-pub mod Abouts
+pub mod OwnCalls
 pub mod Asking
 pub mod AtRest
 pub mod Calling
 pub mod Chaining
 pub mod Closes
-pub mod Doings
+pub mod CaseLemmas
 pub mod Entering
 pub mod Growing
 pub mod Handling
@@ -12,8 +12,8 @@ pub mod Orders
 pub mod Parts
 pub mod Refusing
 pub mod Reserving
-pub mod Returnings
-pub mod Settlings
+pub mod ReturnedOnce
+pub mod SettledOnce
 pub mod Talking
 pub mod Through
 pub mod Verdicts

@@ -129,23 +129,23 @@ unanswered_on Holds now (Returning after) holds = sequel_on Holds now after
 unanswered_on Holds now Ending holds = tt
 unanswered_on Holds now Closed holds = tt
 
-told_on : (Holds : Fact) (number now : ℕ) (phase : Phase) (message : SsfMsg) → AtRest Holds phase → OfStep Holds now (on_message phase number now message)
-told_on Holds number now (FirstAsk t) message holds = tt
-told_on Holds number now (Running t) (msg.InitialDp other calling called) holds = tt
-told_on Holds number now (Running t) (msg.EventReport event.Answer leg mode) holds = (tt, holds)
-told_on Holds number now (Running t) (msg.EventReport event leg mode) holds = (tt, tt)
-told_on Holds number now (Running t) (msg.ChargingReport active info) holds = (tt, (holds, refl))
-told_on Holds number now (Running t) msg.Ended holds = (tt, tt)
-told_on Holds number now (Settling t active since) message holds = tt
-told_on Holds number now (MoreAsk t) message holds = tt
-told_on Holds number now (Returning after) message holds = tt
-told_on Holds number now Ending (msg.InitialDp other calling called) holds = tt
-told_on Holds number now Ending (msg.EventReport event leg Interrupted) holds = (tt, tt)
-told_on Holds number now Ending (msg.EventReport event leg NotifyAndContinue) holds = (tt, tt)
-told_on Holds number now Ending (msg.EventReport event leg Transparent) holds = (tt, tt)
-told_on Holds number now Ending (msg.ChargingReport active info) holds = tt
-told_on Holds number now Ending msg.Ended holds = (tt, tt)
-told_on Holds number now Closed message holds = tt
+answer_on : (Holds : Fact) (number now : ℕ) (phase : Phase) (message : SsfMsg) → AtRest Holds phase → OfStep Holds now (on_message phase number now message)
+answer_on Holds number now (FirstAsk t) message holds = tt
+answer_on Holds number now (Running t) (msg.InitialDp other calling called) holds = tt
+answer_on Holds number now (Running t) (msg.EventReport event.Answer leg mode) holds = (tt, holds)
+answer_on Holds number now (Running t) (msg.EventReport event leg mode) holds = (tt, tt)
+answer_on Holds number now (Running t) (msg.ChargingReport active info) holds = (tt, (holds, refl))
+answer_on Holds number now (Running t) msg.Ended holds = (tt, tt)
+answer_on Holds number now (Settling t active since) message holds = tt
+answer_on Holds number now (MoreAsk t) message holds = tt
+answer_on Holds number now (Returning after) message holds = tt
+answer_on Holds number now Ending (msg.InitialDp other calling called) holds = tt
+answer_on Holds number now Ending (msg.EventReport event leg Interrupted) holds = (tt, tt)
+answer_on Holds number now Ending (msg.EventReport event leg NotifyAndContinue) holds = (tt, tt)
+answer_on Holds number now Ending (msg.EventReport event leg Transparent) holds = (tt, tt)
+answer_on Holds number now Ending (msg.ChargingReport active info) holds = tt
+answer_on Holds number now Ending msg.Ended holds = (tt, tt)
+answer_on Holds number now Closed message holds = tt
 
 or_done_on : (Holds : Fact) (now : ℕ) (phase : Phase) (step : Step) → InTalk Holds now phase → OfStep Holds now step → OfNext Holds now (or_done phase step)
 or_done_on Holds now phase (Ok next) holds is = is
@@ -340,7 +340,7 @@ on_by setup numbers posts post (GoesOn call place said phase) old new t on m don
     let more = its_more setup m.standing.place posts post call m.standing.phase stands in
     let Takes : ℕ → Step → Type 0 = λ n step. OfStep (Its setup n (posts ++ post ∷ []) call) post.at step in
     let takes : Takes place (Ok (said, phase)) =
-    subst (λ n. Takes n (Ok (said, phase))) m.same (subst (Takes m.standing.place) m.takes (told_on (Its setup m.standing.place (posts ++ post ∷ []) call) post.number post.at m.standing.phase m.message more)) in
+    subst (λ n. Takes n (Ok (said, phase))) m.same (subst (Takes m.standing.place) m.takes (answer_on (Its setup m.standing.place (posts ++ post ∷ []) call) post.number post.at m.standing.phase m.message more)) in
     talk_on setup numbers call place (said, phase) posts post m.message old new t on m.is takes done
 
 on_after : (setup : Setup) (numbers : List ℕ) (done posts : List Post) (refusals : List (Option AccountFault)) (old new : Holding) → IsOnItsTerms setup done old → AreHandled setup numbers posts refusals old new
@@ -349,7 +349,7 @@ on_after setup numbers done [] [] old new on are = rw (append-nil done) (subst (
 on_after setup numbers done [] (refusal ∷ refusals) old new on are = absurd are
 on_after setup numbers done (post ∷ posts) [] old new on are = absurd are
 on_after setup numbers done (post ∷ posts) (refusal ∷ refusals) old new on are =
-    let once = on_by setup numbers done post (verdict_on setup old.talks post.number post.at post.body) old are.0 are.1.told on (means_on setup old.talks post.number post.at post.body) are.1.handled.done in
+    let once = on_by setup numbers done post (verdict_on setup old.talks post.number post.at post.body) old are.0 are.1.answer on (means_on setup old.talks post.number post.at post.body) are.1.handled.done in
     let P : List Post → Type 0 = λ all. IsOnItsTerms setup all new in
     subst P (append_assoc done (post ∷ []) posts) (on_after setup numbers (done ++ post ∷ []) posts refusals are.0 new once are.2)
 

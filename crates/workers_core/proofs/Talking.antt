@@ -167,10 +167,10 @@ fault_kept gate shown reads Was Calls from to (Sends orders) got is = absurd is
 fault_kept gate shown reads Was Calls from to Finished got is = absurd is
 
 -- and the last fault of these asks is kept
-pub fault_told : {X G K T : Type 0} (gate : X → G) (shown : X → T × Option AccountFault) (reads : Reads K T) (Was : T → Knowing) (Calls : Asking T) (first : Says × Phase) (from : X) (gots : List Got) (to : X)
+pub fault_answer : {X G K T : Type 0} (gate : X → G) (shown : X → T × Option AccountFault) (reads : Reads K T) (Was : T → Knowing) (Calls : Asking T) (first : Says × Phase) (from : X) (gots : List Got) (to : X)
     → AreGot (AtDesk gate shown reads Was Calls) first from gots to → (shown from).1 ≡ None → (shown to).1 ≡ last_fault gots
-fault_told gate shown reads Was Calls first from [] to is none = ap (λ x. (shown x).1) is ∙ none
-fault_told gate shown reads Was Calls first from (got ∷ earlier) to is none =
+fault_answer gate shown reads Was Calls first from [] to is none = ap (λ x. (shown x).1) is ∙ none
+fault_answer gate shown reads Was Calls first from (got ∷ earlier) to is none =
     let (between, before, gets) = is in
-    fault_kept gate shown reads Was Calls between to (talked first earlier).0 got gets ∙ ap (λ fault. or_fault fault got) (fault_told gate shown reads Was Calls first from earlier between before none)
+    fault_kept gate shown reads Was Calls between to (talked first earlier).0 got gets ∙ ap (λ fault. or_fault fault got) (fault_answer gate shown reads Was Calls first from earlier between before none)
     ∙ fault_after earlier got

@@ -16,7 +16,7 @@ use Rattle.dialogue_core.specs.Phases as phase
 use Rattle.dialogue_core.specs.Table.{Step, are_units, on_begin, on_message, on_refusal, on_reply, sequel}
 use Rattle.dialogue_core.specs.declared.fault.DialogueFault.TheVariants.{Unexpected}
 use Rattle.tariff_core.specs.declared.route.Route.{Route}
-use Rattle.workers_core.proofs.Abouts.{SaysOf, says_of_call}
+use Rattle.workers_core.proofs.OwnCalls.{SaysOf, says_of_call}
 use Rattle.workers_core.specs.Served.{returned_in, returns_of}
 use Rattle.dialogue_core.specs.Talks.{Got, after_got, is_ask, or_done, talked}
 use Rattle.workers_core.specs.Talks.{AllAsk, entries_of, entry_of, last_fault}
@@ -94,23 +94,23 @@ last_got : (phase : Phase) (got : Got) → StepReturnsLast (Ok (after_got phase 
 last_got phase (Ok reply) = last_or_done phase (on_reply phase reply) (last_replied phase reply)
 last_got phase (Err fault) = last_or_done phase (on_refusal phase) (last_unanswered phase)
 
-pub last_told : (number at : ℕ) (phase : Phase) (message : SsfMsg) → StepReturnsLast (on_message phase number at message)
-last_told number at (FirstAsk t) message = tt
-last_told number at (Running t) (msg.InitialDp other calling called) = tt
-last_told number at (Running t) (msg.EventReport event.Answer leg mode) = tt
-last_told number at (Running t) (msg.EventReport event leg mode) = refl
-last_told number at (Running t) (msg.ChargingReport active info) = tt
-last_told number at (Running t) msg.Ended = refl
-last_told number at (Settling t active since) message = tt
-last_told number at (MoreAsk t) message = tt
-last_told number at (Returning after) message = tt
-last_told number at Ending (msg.InitialDp other calling called) = tt
-last_told number at Ending (msg.EventReport event leg Interrupted) = tt
-last_told number at Ending (msg.EventReport event leg NotifyAndContinue) = tt
-last_told number at Ending (msg.EventReport event leg Transparent) = tt
-last_told number at Ending (msg.ChargingReport active info) = tt
-last_told number at Ending msg.Ended = tt
-last_told number at Closed message = tt
+pub last_answer : (number at : ℕ) (phase : Phase) (message : SsfMsg) → StepReturnsLast (on_message phase number at message)
+last_answer number at (FirstAsk t) message = tt
+last_answer number at (Running t) (msg.InitialDp other calling called) = tt
+last_answer number at (Running t) (msg.EventReport event.Answer leg mode) = tt
+last_answer number at (Running t) (msg.EventReport event leg mode) = refl
+last_answer number at (Running t) (msg.ChargingReport active info) = tt
+last_answer number at (Running t) msg.Ended = refl
+last_answer number at (Settling t active since) message = tt
+last_answer number at (MoreAsk t) message = tt
+last_answer number at (Returning after) message = tt
+last_answer number at Ending (msg.InitialDp other calling called) = tt
+last_answer number at Ending (msg.EventReport event leg Interrupted) = tt
+last_answer number at Ending (msg.EventReport event leg NotifyAndContinue) = tt
+last_answer number at Ending (msg.EventReport event leg Transparent) = tt
+last_answer number at Ending (msg.ChargingReport active info) = tt
+last_answer number at Ending msg.Ended = tt
+last_answer number at Closed message = tt
 
 pub last_begun : (call now wanted least : ℕ) (route : Option Route) → StepReturnsLast (Ok (on_begin call now wanted least route))
 last_begun call now wanted least None = tt
@@ -159,19 +159,19 @@ over_got : (phase : Phase) (got : Got) → is_through phase ≡ true → IsOver 
 over_got phase (Ok reply) through = over_or_done phase (on_reply phase reply) through (over_replied phase reply through)
 over_got phase (Err fault) through = over_or_done phase (on_refusal phase) through (over_unanswered phase through)
 
-pub over_told : (number at : ℕ) (phase : Phase) (message : SsfMsg) → is_through phase ≡ true → StepIsOver (on_message phase number at message)
-over_told number at (FirstAsk t) message through = tt
-over_told number at (Running t) message through = absurd (cc)
-over_told number at (Settling t active since) message through = tt
-over_told number at (MoreAsk t) message through = tt
-over_told number at (Returning after) message through = tt
-over_told number at Ending (msg.InitialDp other calling called) through = tt
-over_told number at Ending (msg.EventReport event leg Interrupted) through = (refl, refl)
-over_told number at Ending (msg.EventReport event leg NotifyAndContinue) through = (refl, refl)
-over_told number at Ending (msg.EventReport event leg Transparent) through = (refl, refl)
-over_told number at Ending (msg.ChargingReport active info) through = tt
-over_told number at Ending msg.Ended through = (refl, refl)
-over_told number at Closed message through = tt
+pub over_answer : (number at : ℕ) (phase : Phase) (message : SsfMsg) → is_through phase ≡ true → StepIsOver (on_message phase number at message)
+over_answer number at (FirstAsk t) message through = tt
+over_answer number at (Running t) message through = absurd (cc)
+over_answer number at (Settling t active since) message through = tt
+over_answer number at (MoreAsk t) message through = tt
+over_answer number at (Returning after) message through = tt
+over_answer number at Ending (msg.InitialDp other calling called) through = tt
+over_answer number at Ending (msg.EventReport event leg Interrupted) through = (refl, refl)
+over_answer number at Ending (msg.EventReport event leg NotifyAndContinue) through = (refl, refl)
+over_answer number at Ending (msg.EventReport event leg Transparent) through = (refl, refl)
+over_answer number at Ending (msg.ChargingReport active info) through = tt
+over_answer number at Ending msg.Ended through = (refl, refl)
+over_answer number at Closed message through = tt
 
 -- ---- in a talk
 

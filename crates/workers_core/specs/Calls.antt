@@ -24,36 +24,36 @@ pub record GoesAt {T : Type 0} (place : ℕ) (old new : List T) (Goes : T → T 
   pub goes : Goes from to
 
 -- one call led a seat from one state to another, and the answer says whether it was refused
-pub record IsOnceCalled {T : Type 0} (Calls : Asking T) (asked : Asked) (told : AnswerView) (from to : T) : Type 0 where
+pub record IsOnceCalled {T : Type 0} (Calls : Asking T) (asked : Asked) (answer : AnswerView) (from to : T) : Type 0 where
   pub got : Got
   pub called : Calls from asked got to
-  pub refused : told.refused ≡ last_fault (got ∷ [])
+  pub refused : answer.refused ≡ last_fault (got ∷ [])
 
 -- the calls for the asks of a talk, each in its turn, led a seat from one state to another, until no ask was left; the answer has what the dialogue sends then, and the last refusal
-pub record IsTalkCalled {T : Type 0} (Calls : Asking T) (first : Says × Phase) (told : AnswerView) (from to : T) : Type 0 where
+pub record IsTalkCalled {T : Type 0} (Calls : Asking T) (first : Says × Phase) (answer : AnswerView) (from to : T) : Type 0 where
   pub gots : List Got
   pub called : AreGot Calls first from gots to
   pub rests : is_ask (talked first gots).0 ≡ false
-  pub orders : told.orders ≡ orders_sent_by (talked first gots).0
-  pub refused : told.refused ≡ last_fault gots
+  pub orders : answer.orders ≡ orders_sent_by (talked first gots).0
+  pub refused : answer.refused ≡ last_fault gots
 
 -- so it is of a dialogue that begins
-pub record IsBeginningCalled {T : Type 0} (Calls : Asking T) (setup : Setup) (at call : ℕ) (called : Number) (told : AnswerView) (from to : T) : Type 0 where
+pub record IsBeginningCalled {T : Type 0} (Calls : Asking T) (setup : Setup) (at call : ℕ) (called : Number) (answer : AnswerView) (from to : T) : Type 0 where
   pub route : Option Route
   pub routed : IsRouted setup.tariff (digits_of called) at route
-  pub talk : IsTalkCalled Calls (on_begin call at setup.service.wanted setup.service.least route) told from to
+  pub talk : IsTalkCalled Calls (on_begin call at setup.service.wanted setup.service.least route) answer from to
 
 -- the calls that a post comes to, by the verdict on it
 abbrev pub AreCalled : {T : Type 0} → Asking T → Setup → ℕ → Verdict → List T → List T → AnswerView → Type 0
-AreCalled Calls setup at Strays old new told = new ≡ old
-AreCalled Calls setup at Rejects old new told = new ≡ old
-AreCalled Calls setup at (Recharges place amount until) old new told = GoesAt place old new (IsOnceCalled Calls (Credits amount until) told)
-AreCalled Calls setup at (Begins call place called) old new told = GoesAt place old new (IsBeginningCalled Calls setup at call called told)
-AreCalled Calls setup at (GoesOn call place said phase) old new told = GoesAt place old new (IsTalkCalled Calls (said, phase) told)
+AreCalled Calls setup at Strays old new answer = new ≡ old
+AreCalled Calls setup at Rejects old new answer = new ≡ old
+AreCalled Calls setup at (Recharges place amount until) old new answer = GoesAt place old new (IsOnceCalled Calls (Credits amount until) answer)
+AreCalled Calls setup at (Begins call place called) old new answer = GoesAt place old new (IsBeginningCalled Calls setup at call called answer)
+AreCalled Calls setup at (GoesOn call place said phase) old new answer = GoesAt place old new (IsTalkCalled Calls (said, phase) answer)
 
 -- and by its case
 abbrev pub AreCalledIn : {T : Type 0} → Asking T → Case → List T → List T → AnswerView → Type 0
-AreCalledIn Calls case.Stray old new told = new ≡ old
-AreCalledIn Calls case.Rejected old new told = new ≡ old
-AreCalledIn Calls (case.Recharge place amount until) old new told = GoesAt place old new (IsOnceCalled Calls (Credits amount until) told)
-AreCalledIn Calls (case.Talk call talk turn) old new told = GoesAt talk.place old new (IsTalkCalled Calls (says_of turn, phase_of talk.dialogue) told)
+AreCalledIn Calls case.Stray old new answer = new ≡ old
+AreCalledIn Calls case.Rejected old new answer = new ≡ old
+AreCalledIn Calls (case.Recharge place amount until) old new answer = GoesAt place old new (IsOnceCalled Calls (Credits amount until) answer)
+AreCalledIn Calls (case.Talk call talk turn) old new answer = GoesAt talk.place old new (IsTalkCalled Calls (says_of turn, phase_of talk.dialogue) answer)

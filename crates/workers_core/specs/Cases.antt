@@ -64,10 +64,10 @@ with_room (case.Talk call talk turn) talks other = if other == call then Some (t
 
 -- what is done in a case
 abbrev pub IsActed : List ℕ → Case → Holding → Holding → AnswerView → Type 0
-IsActed numbers case.Stray old new told = IsUnasked [] true old new told
-IsActed numbers case.Rejected old new told = IsUnasked (Release 21 ∷ []) false old new told
-IsActed numbers (case.Recharge place amount until) old new told = IsRecharged numbers place amount until old new told
-IsActed numbers (case.Talk call talk turn) old new told = IsTalked numbers call talk.place (says_of turn, phase_of talk.dialogue) old new told
+IsActed numbers case.Stray old new answer = IsUnasked [] true old new answer
+IsActed numbers case.Rejected old new answer = IsUnasked (Release 21 ∷ []) false old new answer
+IsActed numbers (case.Recharge place amount until) old new answer = IsRecharged numbers place amount until old new answer
+IsActed numbers (case.Talk call talk turn) old new answer = IsTalked numbers call talk.place (says_of turn, phase_of talk.dialogue) old new answer
 
 -- a fault that is asked for after others takes their place
 abbrev pub or_fault : Option AccountFault → Got → Option AccountFault
@@ -75,18 +75,18 @@ or_fault refused (Ok reply) = refused
 or_fault refused (Err fault) = Some fault
 
 -- all that was got in a case is right
-abbrev pub AreRightIn : (Shows : ℕ → Showing) (numbers : List ℕ) (case : Case) (old new : Holding) (told : AnswerView) → IsActed numbers case old new told → Type 0
-AreRightIn Shows numbers case.Stray old new told acted = Unit {0}
-AreRightIn Shows numbers case.Rejected old new told acted = Unit {0}
-AreRightIn Shows numbers (case.Recharge place amount until) old new told acted =
+abbrev pub AreRightIn : (Shows : ℕ → Showing) (numbers : List ℕ) (case : Case) (old new : Holding) (answer : AnswerView) → IsActed numbers case old new answer → Type 0
+AreRightIn Shows numbers case.Stray old new answer acted = Unit {0}
+AreRightIn Shows numbers case.Rejected old new answer acted = Unit {0}
+AreRightIn Shows numbers (case.Recharge place amount until) old new answer acted =
     IsRightlyGot (Shows place) (slice_index_or old.lists place []) (Asks (Credits amount until)) acted.got
-AreRightIn Shows numbers (case.Talk call talk turn) old new told acted =
+AreRightIn Shows numbers (case.Talk call talk turn) old new answer acted =
     AreRightlyGot (Shows talk.place) (slice_index_or numbers talk.place 0) (says_of turn, phase_of talk.dialogue) (slice_index_or old.lists talk.place []) acted.gots
 
 -- what is done in a case, and that each refusal there was right
-pub record IsRightlyActed (Shows : ℕ → Showing) (numbers : List ℕ) (case : Case) (old new : Holding) (told : AnswerView) : Type 0 where
-  pub acted : IsActed numbers case old new told
-  pub right : AreRightIn Shows numbers case old new told acted
+pub record IsRightlyActed (Shows : ℕ → Showing) (numbers : List ℕ) (case : Case) (old new : Holding) (answer : AnswerView) : Type 0 where
+  pub acted : IsActed numbers case old new answer
+  pub right : AreRightIn Shows numbers case old new answer acted
 
 -- an account was called once, from a seat beside which the last fault is kept: what it got was entered and is right, and what the seat
 -- knew it still knows
@@ -104,10 +104,10 @@ abbrev pub AtDesk : {X G K T : Type 0} → (X → G) → (X → T × Option Acco
 AtDesk gate shown reads Was Calls before asked got after = (gate after ≡ gate before) × IsAsked reads Was Calls (shown before) asked got (shown after)
 
 -- an account was asked for a Credit, and what it got is right
-pub record IsCredited (Shows : Showing) (seat : ℕ) (asked : Asked) (before after : List EntryData) (told : AnswerView) : Type 0 where
+pub record IsCredited (Shows : Showing) (seat : ℕ) (asked : Asked) (before after : List EntryData) (answer : AnswerView) : Type 0 where
   pub got : Got
   pub enters : after ≡ before ++ entry_of seat (Asks asked) got
-  pub orders : told.orders ≡ []
-  pub stray : told.stray ≡ false
-  pub refuses : told.refused ≡ or_fault None got
+  pub orders : answer.orders ≡ []
+  pub stray : answer.stray ≡ false
+  pub refuses : answer.refused ≡ or_fault None got
   pub right : IsRightlyGot Shows before (Asks asked) got

@@ -10,9 +10,9 @@ use Rattle.run_values.specs.declared.post.Post.{Post}
 
 -- a post is handled, and this is the last fault that an ask for it got, or none, where every ask for it was entered
 pub record IsHandledOnce (setup : Setup) (numbers : List ℕ) (post : Post) (refusal : Option AccountFault) (old new : Holding) : Type 0 where
-  pub told : AnswerView
-  pub handled : IsHandled setup numbers post old new told
-  pub refused : told.refused ≡ refusal
+  pub answer : AnswerView
+  pub handled : IsHandled setup numbers post old new answer
+  pub refused : answer.refused ≡ refusal
 
 -- posts, in order, lead from what a worker holds to what it holds then, with a refusal or none for each
 abbrev pub AreHandled : Setup → List ℕ → List Post → List (Option AccountFault) → Holding → Holding → Type 0
@@ -40,14 +40,14 @@ pub record IsWorked (setup : Setup) (number : ℕ) (posts : List Post) (refusals
 -- posts, in order, lead from what a worker holds to what it holds then, with these answers, one for each, and each ask that was refused was refused rightly
 abbrev pub AreAnswered : (ℕ → Showing) → Setup → List ℕ → List Post → List AnswerView → Holding → Holding → Type 0
 AreAnswered Shows setup numbers [] [] old new = old ≡ new
-AreAnswered Shows setup numbers [] (told ∷ answers) old new = ⊥
+AreAnswered Shows setup numbers [] (answer ∷ answers) old new = ⊥
 AreAnswered Shows setup numbers (post ∷ posts) [] old new = ⊥
-AreAnswered Shows setup numbers (post ∷ posts) (told ∷ answers) old new =
-    (between : Holding) × IsRightlyHandled Shows setup numbers post old between told × AreAnswered Shows setup numbers posts answers between new
+AreAnswered Shows setup numbers (post ∷ posts) (answer ∷ answers) old new =
+    (between : Holding) × IsRightlyHandled Shows setup numbers post old between answer × AreAnswered Shows setup numbers posts answers between new
 
 -- which posts were refused, as their answers say
 abbrev pub refusals_in : List AnswerView → List (Option AccountFault)
-refusals_in answers = map (λ told. told.refused) answers
+refusals_in answers = map (λ answer. answer.refused) answers
 
 -- the lists of a worker's seats are what its posts made of empty ones, these are its answers, and each ask that was refused was refused rightly
 pub record AnswersItsPosts (Shows : ℕ → Showing) (setup : Setup) (number : ℕ) (posts : List Post) (answers : List AnswerView) (lists : List (List EntryData)) : Type 0 where

@@ -28,8 +28,8 @@ use Rattle.run_values.specs.declared.post.Post.{Post}
 -- where a dialogue asks nothing at first, what it says is sent just so, and no ask was refused
 abbrev pub WhatIsSaidIsSent : Type 0
 WhatIsSaidIsSent =
-    (numbers : List ℕ) (call place : ℕ) (first : Says × Phase) (old new : Holding) (told : AnswerView) → is_ask first.0 ≡ false
-    → IsTalked numbers call place first old new told → (told.orders ≡ orders_sent_by first.0) × (told.refused ≡ None)
+    (numbers : List ℕ) (call place : ℕ) (first : Says × Phase) (old new : Holding) (answer : AnswerView) → is_ask first.0 ≡ false
+    → IsTalked numbers call place first old new answer → (answer.orders ≡ orders_sent_by first.0) × (answer.refused ≡ None)
 
 -- each entry of a worker comes from what it handled
 abbrev pub EntriesComeFromPosts : Type 0

@@ -1,4 +1,4 @@
-use Rattle.account_core.proofs.Kindly.{kindly}
+use Rattle.account_core.proofs.FittingAnswers.{kindly}
 use Rattle.account_core.proofs.laws.answers_are_kindly.Goals as goal
 
 pub returns : goal.returns

@@ -24,29 +24,29 @@ hear-requires c =
     let (books, are) = c.requires.are in
     let item = c.index_mut.result.now in
     let there = rw c.as_slice.ensures.value at c.in-Some.ensures.found in
-    let (told, is, heard) = is_found _ _ item.1 (found (is_at (nat_cmp c.args.account)) books c.args.list.now.items are)
+    let (booked, is, heard) = is_found _ _ item.1 (found (is_at (nat_cmp c.args.account)) books c.args.list.now.items are)
     (present c.args.account c.args.list.now.items c.in-Some.place item c.requires.rising there c.index_mut.ensures.value) in
-    (told.opening, told.until, reverse told.history, heard)
+    (booked.opening, booked.until, reverse booked.history, heard)
 
 pub returns-clause-comes : goal.returns-clause-comes
 returns-clause-comes c = λ books are.
     let item = c.index_mut.result.now in
     let there = rw c.as_slice.ensures.value at c.in-Some.ensures.found in
-    let (told, is, heard) = is_found _ _ item.1 (found (is_at (nat_cmp c.args.account)) books c.args.list.now.items are)
+    let (booked, is, heard) = is_found _ _ item.1 (found (is_at (nat_cmp c.args.account)) books c.args.list.now.items are)
     (present c.args.account c.args.list.now.items c.in-Some.place item c.requires.rising there c.index_mut.ensures.value) in
     let event = entry_data c.args.entry in
-    let after = c.in_ok-hear.ensures.heard told.opening told.until (reverse told.history) heard in
+    let after = c.in_ok-hear.ensures.heard booked.opening booked.until (reverse booked.history) heard in
     let set_is = set_there c.args.account c.args.list.now.items c.in-Some.place item c.hear.new.self c.requires.rising there c.index_mut.ensures.value in
     rw (is, ← set_is)
-    (checks_set (is_at (nat_cmp c.args.account)) (record told { history = told.history ++ event ∷ [] }) c.hear.new.self
-    (rw (reverse-append told.history (event ∷ [])) after) books c.args.list.now.items are)
+    (checks_set (is_at (nat_cmp c.args.account)) (record booked { history = booked.history ++ event ∷ [] }) c.hear.new.self
+    (rw (reverse-append booked.history (event ∷ [])) after) books c.args.list.now.items are)
 
 pub returns-clause-heard : goal.returns-clause-heard
 returns-clause-heard c = λ books are.
     let item = c.index_mut.result.now in
     let there = rw c.as_slice.ensures.value at c.in-Some.ensures.found in
-    let (told, is, heard) = is_found _ _ item.1 (found (is_at (nat_cmp c.args.account)) books c.args.list.now.items are)
+    let (booked, is, heard) = is_found _ _ item.1 (found (is_at (nat_cmp c.args.account)) books c.args.list.now.items are)
     (present c.args.account c.args.list.now.items c.in-Some.place item c.requires.rising there c.index_mut.ensures.value) in
     rw is
-    (heard_by told (entry_data c.args.entry) c.in_ok-hear.field-0 (λ none. c.in_ok-hear.ensures.right none told.opening told.until (reverse told.history) heard)
-    (IfSome_then c.in_ok-hear.field-0 c.in_ok-hear.ensures.wrong (λ right says. says told.opening told.until (reverse told.history) heard)))
+    (heard_by booked (entry_data c.args.entry) c.in_ok-hear.field-0 (λ none. c.in_ok-hear.ensures.right none booked.opening booked.until (reverse booked.history) heard)
+    (IfSome_then c.in_ok-hear.field-0 c.in_ok-hear.ensures.wrong (λ right says. says booked.opening booked.until (reverse booked.history) heard)))

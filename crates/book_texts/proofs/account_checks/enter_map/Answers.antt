@@ -19,21 +19,21 @@ returns-in_default-clause-heard c = λ books are.
 pub hear-requires : goal.hear-requires
 hear-requires c =
     let (books, are) = c.requires in
-    let (told, is, heard) = is_found _ _ c.in-Some.check.now (found (is_at (nat_cmp c.args.account)) books c.args.map.now.entries are) (sym c.in-Some.ensures.value) in
-    (told.opening, told.until, reverse told.history, heard)
+    let (booked, is, heard) = is_found _ _ c.in-Some.check.now (found (is_at (nat_cmp c.args.account)) books c.args.map.now.entries are) (sym c.in-Some.ensures.value) in
+    (booked.opening, booked.until, reverse booked.history, heard)
 
 pub returns-clause-comes : goal.returns-clause-comes
 returns-clause-comes c = λ books are.
-    let (told, is, heard) = is_found _ _ c.in-Some.check.now (found (is_at (nat_cmp c.args.account)) books c.args.map.now.entries are) (sym c.in-Some.ensures.value) in
+    let (booked, is, heard) = is_found _ _ c.in-Some.check.now (found (is_at (nat_cmp c.args.account)) books c.args.map.now.entries are) (sym c.in-Some.ensures.value) in
     let event = entry_data c.args.entry in
-    let after = c.in_ok-hear.ensures.heard told.opening told.until (reverse told.history) heard in
+    let after = c.in_ok-hear.ensures.heard booked.opening booked.until (reverse booked.history) heard in
     rw (is, (c.get_mut.follows.holds c.hear.new.self).0)
-    (checks_set (is_at (nat_cmp c.args.account)) (record told { history = told.history ++ event ∷ [] }) c.hear.new.self
-    (rw (reverse-append told.history (event ∷ [])) after) books c.args.map.now.entries are)
+    (checks_set (is_at (nat_cmp c.args.account)) (record booked { history = booked.history ++ event ∷ [] }) c.hear.new.self
+    (rw (reverse-append booked.history (event ∷ [])) after) books c.args.map.now.entries are)
 
 pub returns-clause-heard : goal.returns-clause-heard
 returns-clause-heard c = λ books are.
-    let (told, is, heard) = is_found _ _ c.in-Some.check.now (found (is_at (nat_cmp c.args.account)) books c.args.map.now.entries are) (sym c.in-Some.ensures.value) in
+    let (booked, is, heard) = is_found _ _ c.in-Some.check.now (found (is_at (nat_cmp c.args.account)) books c.args.map.now.entries are) (sym c.in-Some.ensures.value) in
     rw is
-    (heard_by told (entry_data c.args.entry) c.in_ok-hear.field-0 (λ none. c.in_ok-hear.ensures.right none told.opening told.until (reverse told.history) heard)
-    (IfSome_then c.in_ok-hear.field-0 c.in_ok-hear.ensures.wrong (λ right says. says told.opening told.until (reverse told.history) heard)))
+    (heard_by booked (entry_data c.args.entry) c.in_ok-hear.field-0 (λ none. c.in_ok-hear.ensures.right none booked.opening booked.until (reverse booked.history) heard)
+    (IfSome_then c.in_ok-hear.field-0 c.in_ok-hear.ensures.wrong (λ right says. says booked.opening booked.until (reverse booked.history) heard)))

@@ -6,7 +6,7 @@ use Rattle.book_texts.proofs.account_checks.open_in.Goals as goal
 
 pub returns-then-contains_key : goal.returns-then-contains_key
 returns-then-contains_key c = λ books opening until are heard.
-    let (told, is) = is_known _ _ (found (is_at (nat_cmp c.args.account)) books c.args.map.now.entries are) (sym c.contains_key.ensures ∙ c.if-contains_key.true) in
+    let (booked, is) = is_known _ _ (found (is_at (nat_cmp c.args.account)) books c.args.map.now.entries are) (sym c.contains_key.ensures ∙ c.if-contains_key.true) in
     rw is (refl, are)
 
 pub returns : goal.returns

@@ -3,12 +3,12 @@ use Rattle.table_core.specs.Rows.{rows_of}
 use Rattle.table_core.proofs.TableLemmas.{ended, header_stays, not_opened, opened, refused, refuses, row_columns, stopped, taken}
 use Rattle.book_texts.specs.Books.{books_form, books_of}
 use Rattle.book_texts.specs.Sizes.{most_rows}
-use Rattle.book_texts.proofs.CheckLemmas.{checks_given, fault_told, has_columns, right_at_first, right_so_far, row_refused, row_taken}
+use Rattle.book_texts.proofs.CheckLemmas.{checks_given, fault_booked, has_columns, right_at_first, right_so_far, row_refused, row_taken}
 use Rattle.book_texts.proofs.audit.check_books.Goals as goal
 
 pub returns-in_err-table : goal.returns-in_err-table
 returns-in_err-table g c =
-    fault_told (most_rows c.args.size) (g.I.Read.remaining c.args.reader) c.from_residual.result c.in_err-table.field-0.0 _ (λ text. books_of (most_rows c.args.size) (rows_of text)) c.from_residual.ensures.1
+    fault_booked (most_rows c.args.size) (g.I.Read.remaining c.args.reader) c.from_residual.result c.in_err-table.field-0.0 _ (λ text. books_of (most_rows c.args.size) (rows_of text)) c.from_residual.ensures.1
     (not_opened (books_form (most_rows c.args.size)) g.I.Read.remaining _ c.in_err-table.field-0.0 c.in_err-table.ensures.opens)
     (λ text. refuses (books_form (most_rows c.args.size)) (λ row why. refl) (λ all. all) (λ why. refl) c.in_err-table.field-0.0 (books_of (most_rows c.args.size) (rows_of text)))
 
@@ -24,7 +24,7 @@ loop-wrongs-init g c =
 pub returns-in_err-next_row : goal.returns-in_err-next_row
 returns-in_err-next_row g c =
     let (books, read, are, right) = c.loop-wrongs.invariant in
-    fault_told (most_rows c.args.size) (g.I.Read.remaining c.args.reader) c.from_residual-in_err-next_row.result c.in_err-next_row.field-0.0 _ (λ text. books_of (most_rows c.args.size) (rows_of text)) c.from_residual-in_err-next_row.ensures.1
+    fault_booked (most_rows c.args.size) (g.I.Read.remaining c.args.reader) c.from_residual-in_err-next_row.result c.in_err-next_row.field-0.0 _ (λ text. books_of (most_rows c.args.size) (rows_of text)) c.from_residual-in_err-next_row.ensures.1
     (stopped (books_form (most_rows c.args.size)) g.I.Read.remaining _ c.loop-wrongs.table c.next_row.new.self books read c.in_err-next_row.field-0.0 c.in_err-next_row.ensures.steps)
     (λ text. refuses (books_form (most_rows c.args.size)) (λ row why. refl) (λ all. all) (λ why. refl) c.in_err-next_row.field-0.0 (books_of (most_rows c.args.size) (rows_of text)))
 

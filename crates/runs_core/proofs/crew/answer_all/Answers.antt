@@ -1,6 +1,6 @@
 use Rattle.std.proofs.Common.{arith, refl, rules}
 use Rattle.std.specs.Vec.Iter.{into_iter_items}
-use Rattle.runs_core.proofs.Goings.{all_going, none_going, one_going}
+use Rattle.runs_core.proofs.WorkerLemmas.{all_going, none_going, one_going}
 use Rattle.runs_core.proofs.Shifting.{empty_by}
 use Rattle.runs_core.proofs.crew.answer_all.Goals as goal
 use Rattle.workers_core.specs.Workers.{holding, number_by}

@@ -1,5 +1,5 @@
 use Rattle.std.specs.Vec.Iter.{into_iter_items}
-use Rattle.runs_core.proofs.Goings.{AreGoing}
+use Rattle.runs_core.proofs.WorkerLemmas.{AreGoing}
 use Rattle.runs_core.proofs.crew.answer_all.Given as goal
 use Rattle.workers_core.specs.Workers.{number_by}
 

@@ -4,7 +4,7 @@ use Rattle.std.proofs.lemmas.List.{length-set}
 use Rattle.std.specs.Result.{result_err}
 use Rattle.runs_core.specs.Sending.{heard_by, sent_by}
 use Rattle.runs_core.proofs.Finishing.{own_err, own_or}
-use Rattle.runs_core.proofs.Hearings.{none_heard, one_heard}
+use Rattle.runs_core.proofs.HearingLemmas.{none_heard, one_heard}
 use Rattle.runs_core.proofs.crew.hear_all.Goals as goal
 
 pub loop-at-init : goal.loop-at-init

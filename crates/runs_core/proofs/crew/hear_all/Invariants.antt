@@ -1,7 +1,7 @@
 use Rattle.std.proofs.Common.{◌≡◌, ◌≢◌, length, map, None, Some}
 use Rattle.runs_core.specs.Sending.{heard_by, promises_of, sent_by}
 use Rattle.runs_core.specs.declared.run_fault.RunFault.TheVariants as out
-use Rattle.runs_core.proofs.Hearings.{AreHeard}
+use Rattle.runs_core.proofs.HearingLemmas.{AreHeard}
 use Rattle.runs_core.proofs.crew.hear_all.Given as goal
 
 abbrev pub invariant-loop-at : goal.invariant-loop-at

@@ -1,7 +1,7 @@
 use Rattle.std.proofs.Common.{◌≡◌, arith, ap, length, refl, rules, sym, ◌∙◌}
 use Rattle.std.proofs.lemmas.List.{length-map}
-use Rattle.runs_core.proofs.Hearings.{all_taken, none_taken, take_one}
-use Rattle.runs_core.proofs.Roundings.{on_ok}
+use Rattle.runs_core.proofs.HearingLemmas.{all_taken, none_taken, take_one}
+use Rattle.runs_core.proofs.RoundLemmas.{on_ok}
 use Rattle.runs_core.specs.Shares.{worker_of}
 use Rattle.runs_core.proofs.rounds.merge.Goals as goal
 

@@ -1,5 +1,5 @@
 use Rattle.std.proofs.Common.{length, map, take}
-use Rattle.runs_core.proofs.Hearings.{AreTaken}
+use Rattle.runs_core.proofs.HearingLemmas.{AreTaken}
 use Rattle.runs_core.proofs.rounds.merge.Given as goal
 
 abbrev pub invariant-loop-place : goal.invariant-loop-place

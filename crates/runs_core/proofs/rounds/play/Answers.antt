@@ -1,7 +1,7 @@
 use Rattle.std.proofs.Common.{refl, rules, ◌∙◌}
 use Rattle.std.specs.Prelude.{true}
 use Rattle.runs_core.proofs.Finishing.{none_failed}
-use Rattle.runs_core.proofs.Roundings.{none_played, played_more, played_out}
+use Rattle.runs_core.proofs.RoundLemmas.{none_played, played_more, played_out}
 use Rattle.runs_core.proofs.rounds.play.Goals as goal
 use Rattle.workers_core.specs.Workers.{number_by}
 

@@ -1,7 +1,7 @@
 use Rattle.std.proofs.Common.{◌≡◌, ◌+◌, ◌∷◌, arith, ap, length, map, rules}
 use Rattle.std.specs.Vec.Iter.{into_iter_items}
 use Rattle.std.proofs.lemmas.List.{length-map}
-use Rattle.runs_core.proofs.Sendings.{added_slice}
+use Rattle.runs_core.proofs.HandOuts.{added_slice}
 use Rattle.runs_core.specs.Crews.{count_of}
 use Rattle.runs_core.proofs.rounds.play_round.Goals as goal
 

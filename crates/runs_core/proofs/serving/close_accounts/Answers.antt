@@ -6,7 +6,7 @@ use Rattle.std.proofs.lemmas.List.{length-map, length-replicate}
 use Rattle.std.proofs.lemmas.List.Elements.{All-head, All-map, All-tail}
 use Rattle.std.proofs.lemmas.Result.{IfOk-weaker}
 use Rattle.runs_core.proofs.Booking.{books_legal, books_owned, books_shown, in_books}
-use Rattle.runs_core.proofs.Columns.{AreEven, dealt_many, laid, laid_even, map_twice}
+use Rattle.runs_core.proofs.Columns.{AreEven, laid_out_many, laid, laid_even, map_twice}
 use Rattle.runs_core.proofs.Numbers.{all_there, rows_of, rows_rise, team_many, teams_even}
 use Rattle.runs_core.proofs.Shifting.{empty_by}
 use Rattle.runs_core.proofs.serving.close_accounts.Goals as goal
@@ -28,7 +28,7 @@ loop-team-preserved g c =
     let left = rw c.in-Some.ensures.steps.0 at c.loop-team.invariant in
     rw (c.in_ok-deal.ensures) (
       left.0,
-      dealt_many (map (λ row. row.items) c.loop-team.rows.items) c.in-Some.team.items ∙ left.1,
+      laid_out_many (map (λ row. row.items) c.loop-team.rows.items) c.in-Some.team.items ∙ left.1,
       All-tail (λ team. map g.S.Shared.reads.key team.items ≡ map g.S.Shared.key c.args.accounts.items) c.in-Some.team (into_iter_items c.next.new.self) left.2,
     )
 

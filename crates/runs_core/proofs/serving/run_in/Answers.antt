@@ -1,8 +1,8 @@
 use Rattle.std.proofs.Common.{map, rules, sym, ◌∙◌}
 use Rattle.runs_core.proofs.Finishing.{shut_by}
 use Rattle.runs_core.proofs.FirstFaults.{finished_well, gate_of, ran_well}
-use Rattle.runs_core.proofs.Goings.{begins}
-use Rattle.runs_core.proofs.Roundings.{has_left}
+use Rattle.runs_core.proofs.WorkerLemmas.{begins}
+use Rattle.runs_core.proofs.RoundLemmas.{has_left}
 use Rattle.runs_core.specs.RunFaults.{MayAskGate}
 use Rattle.runs_core.specs.Teams.{IsFresh}
 use Rattle.runs_core.proofs.serving.run_in.Goals as goal

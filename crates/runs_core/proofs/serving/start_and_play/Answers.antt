@@ -1,5 +1,5 @@
 use Rattle.std.proofs.Common.{rules}
-use Rattle.runs_core.proofs.Roundings.{none_served_by, on_ok, played_by}
+use Rattle.runs_core.proofs.RoundLemmas.{none_served_by, on_ok, played_by}
 use Rattle.runs_core.proofs.serving.start_and_play.Goals as goal
 use Rattle.workers_core.specs.Workers.{number_by}
 

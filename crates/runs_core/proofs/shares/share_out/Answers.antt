@@ -1,7 +1,7 @@
 use Rattle.std.proofs.Common.{arith, refl, rules, map, subst}
 use Rattle.std.proofs.lemmas.List.{length-map, take_all}
 use Rattle.runs_core.specs.Shares.{AreShares}
-use Rattle.runs_core.proofs.Sendings.{none_shared, share_more}
+use Rattle.runs_core.proofs.HandOuts.{none_shared, share_more}
 use Rattle.runs_core.proofs.shares.share_out.Goals as goal
 
 pub loop-place-init : goal.loop-place-init

@@ -4,7 +4,7 @@ use Rattle.workers_core.specs.Ends.{sent, taken}
 use Rattle.workers_core.specs.Handled.{answer_view}
 use Rattle.workers_core.specs.Workers.{number_by}
 use Rattle.runs_core.specs.Mails.{items_in}
-use Rattle.runs_core.proofs.Goings.{goes_none, goes_more}
+use Rattle.runs_core.proofs.WorkerLemmas.{goes_none, goes_more}
 use Rattle.runs_core.proofs.Mailing.{closes, items_closed, items_more}
 use Rattle.runs_core.proofs.worker_link.answer_rounds.Goals as goal
 

@@ -1,6 +1,6 @@
 use Rattle.std.proofs.Common.{◌≤◌, [], ◌∙◌, arith, refl}
 use Rattle.ssf_core.specs.Happenings.{Took}
-use Rattle.script_player.proofs.Startings.{has_begun}
+use Rattle.script_player.proofs.StartLemmas.{has_begun}
 use Rattle.script_player.proofs.network.begin.Goals as goal
 
 pub returns : goal.returns

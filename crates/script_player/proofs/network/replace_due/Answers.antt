@@ -1,5 +1,5 @@
 use Rattle.std.proofs.Common.{false, refl}
-use Rattle.script_player.proofs.Keepings.{Changed, replaces}
+use Rattle.script_player.proofs.DueMoments.{Changed, replaces}
 use Rattle.script_player.proofs.network.replace_due.Goals as goal
 use Rattle.script_player.proofs.network.replace_due.Goals.{in-Some, in_default}
 

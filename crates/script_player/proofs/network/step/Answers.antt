@@ -1,5 +1,5 @@
-use Rattle.script_player.proofs.Givings.{given_by}
-use Rattle.script_player.proofs.Goings.{goes_by}
+use Rattle.script_player.proofs.InputLemmas.{given_by}
+use Rattle.script_player.proofs.TraceLemmas.{goes_by}
 use Rattle.script_player.specs.declared.network.Input.TheVariants as input
 use Rattle.script_player.proofs.network.step.Goals as goal
 

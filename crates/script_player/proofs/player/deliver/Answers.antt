@@ -1,5 +1,5 @@
-use Rattle.script_player.proofs.Deliverings.{delivered_more, delivered_none, delivers_due}
-use Rattle.script_player.proofs.Tellings.{grows_on}
+use Rattle.script_player.proofs.DeliveryLemmas.{delivered_more, delivered_none, delivers_due}
+use Rattle.script_player.proofs.CallItems.{grows_on}
 use Rattle.script_player.proofs.player.deliver.Goals as goal
 
 pub loop-delivery-init : goal.loop-delivery-init

@@ -1,5 +1,5 @@
 use Rattle.std.proofs.Common.{length}
-use Rattle.script_player.proofs.Deliverings.{HaveDelivered}
+use Rattle.script_player.proofs.DeliveryLemmas.{HaveDelivered}
 use Rattle.script_player.proofs.player.deliver.Given as goal
 
 abbrev pub invariant-loop-delivery : goal.invariant-loop-delivery

@@ -1,6 +1,6 @@
 use Rattle.std.proofs.Common.{◌++◌, Some, None, refl, sym, append-nil}
 use Rattle.script_player.specs.Deliveries.{deliveries_of}
-use Rattle.script_player.proofs.Sendings.{deliveries_of-step, slice_get-at, slice_get-past}
+use Rattle.script_player.proofs.AnswerLemmas.{deliveries_of-step, slice_get-at, slice_get-past}
 use Rattle.script_player.proofs.player.put_down.Goals as goal
 use Rattle.script_player.proofs.player.put_down.Goals.{in-Some+in_ok-send_to, in_default}
 

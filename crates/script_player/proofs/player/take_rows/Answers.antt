@@ -1,6 +1,6 @@
 use Rattle.std.proofs.Common.{◌+◌, ◌≤◌, arith, drop, length, take}
-use Rattle.script_player.proofs.Playings.{played_more, same_moment}
-use Rattle.script_player.proofs.Takings.{adds_on, adds_row, follows_grown, follows_more}
+use Rattle.script_player.proofs.DueRows.{played_more, same_moment}
+use Rattle.script_player.proofs.RowLemmas.{adds_on, adds_row, follows_grown, follows_more}
 use Rattle.script_player.proofs.player.take_rows.Goals as goal
 
 pub loop-taken-preserved : goal.loop-taken-preserved

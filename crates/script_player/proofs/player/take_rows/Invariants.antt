@@ -1,6 +1,6 @@
 use Rattle.std.proofs.Common.{◌≤◌, ◌-◌, length, drop, take}
 use Rattle.script_player.specs.Rows.{Adds, FollowsRows}
-use Rattle.script_player.proofs.Playings.{HavePlayed}
+use Rattle.script_player.proofs.DueRows.{HavePlayed}
 use Rattle.script_player.proofs.player.take_rows.Given as goal
 
 abbrev pub invariant-loop-taken : goal.invariant-loop-taken

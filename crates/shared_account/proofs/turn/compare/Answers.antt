@@ -1,5 +1,5 @@
 use Rattle.std.proofs.Common.{rules}
-use Rattle.shared_account.proofs.Meetings.{compares}
+use Rattle.shared_account.proofs.MeetLemmas.{compares}
 use Rattle.shared_account.proofs.turn.compare.Goals as goal
 
 pub load-requires : goal.load-requires

@@ -1,5 +1,5 @@
 use Rattle.std.proofs.Common.{rules, ap}
-use Rattle.shared_account.proofs.Meetings.{hears, notes}
+use Rattle.shared_account.proofs.MeetLemmas.{hears, notes}
 use Rattle.shared_account.proofs.turn.hear.Goals as goal
 
 pub split_seat-note-requires : goal.split_seat-note-requires

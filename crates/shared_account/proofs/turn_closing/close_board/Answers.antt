@@ -16,10 +16,10 @@ pub returns-clause-book : goal.returns-clause-book
 returns-clause-book c =
     let seats : List TurnSeatView = c.args.seats.items in
     let account : Ledger = c.clear.result in
-    let told : c.are_all.result ≡ true = grind rules in
+    let response : c.are_all.result ≡ true = grind rules in
     let whole : c.are_all.result ≡ are_all c.args.count (map (λ (s : TurnSeatView). s.number) seats) =
     subst (λ (xs : List TurnSeatView). c.are_all.result ≡ are_all c.args.count (map (λ (s : TurnSeatView). s.number) xs)) c.as_slice.ensures.value c.are_all.ensures in
-    let all : are_all c.args.count (map (λ (s : TurnSeatView). s.number) seats) ≡ true = sym whole ∙ told in
+    let all : are_all c.args.count (map (λ (s : TurnSeatView). s.number) seats) ≡ true = sym whole ∙ response in
     let numbered = (first_by (length (map (λ (s : TurnSeatView). s.number) seats) == c.args.count) (are_numbered 0 (map (λ (s : TurnSeatView). s.number) seats)) all).1 in
     let have : HaveEnded account 0 (map (λ (s : TurnSeatView). s.view) seats) = subst (HaveEnded account 0) c.gather-chair.ensures.taken c.clear.ensures.each in
     let others : All (λ event. event.seat < length (map (λ (s : TurnSeatView). s.view) seats)) account.history =

@@ -1,4 +1,4 @@
-use Rattle.tariff_core.proofs.Lawfuls.{coming_follows, coming_stands, may_stay, read_times_are}
+use Rattle.tariff_core.proofs.LawfulLemmas.{coming_follows, coming_stands, may_stay, read_times_are}
 use Rattle.tariff_core.proofs.laws.lawful_times_follow.Goals as goal
 
 pub returns : goal.returns

@@ -7,8 +7,8 @@ use Rattle.dialogue_core.specs.Views.{phase_of, says_of}
 use Rattle.dialogue_core.specs.Talks.{is_ask, orders_sent_by}
 use Rattle.workers_core.specs.Handled.{answer_view}
 use Rattle.workers_core.specs.Workers.{standings_in}
-use Rattle.workers_core.proofs.Doings.{as_many, grown_at, mine_at, numbered_at, on_ok, own_account, recharged_by, same_seats, stands_now, talked_by, was_at, was_there}
-use Rattle.workers_core.proofs.Talking.{calls_for, fault_told, right_known, rights_known, so_ended, spoken, spoken_out}
+use Rattle.workers_core.proofs.CaseLemmas.{as_many, grown_at, mine_at, numbered_at, on_ok, own_account, recharged_by, same_seats, stands_now, talked_by, was_at, was_there}
+use Rattle.workers_core.proofs.Talking.{calls_for, fault_answer, right_known, rights_known, so_ended, spoken, spoken_out}
 use Rattle.workers_core.specs.Refusals.{WasAt}
 use Rattle.shared_account.specs.Refusals.{IsRefusedAt}
 use Rattle.std.specs.Prelude.{slice_index_or, slice_set}
@@ -131,6 +131,6 @@ returns-in-Ok-clause-called g c =
         called = calls_for _ _ g.S.Shared.reads g.S.Shared.was g.S.Shared.calls _ _ talk.gots _ talk.are_got;
         rests = ap (λ said. is_ask said.0) talk.talks ∙ talk.rests;
         orders = talk.sends ∙ ap (λ said. orders_sent_by said.0) (sym talk.talks);
-        refused = fault_told _ _ g.S.Shared.reads g.S.Shared.was g.S.Shared.calls _ _ talk.gots _ talk.are_got refl;
+        refused = fault_answer _ _ g.S.Shared.reads g.S.Shared.was g.S.Shared.calls _ _ talk.gots _ talk.are_got refl;
       };
     })

@@ -1,5 +1,5 @@
 use Rattle.rising_map.proofs.RisingLemmas.{kept_there, looked_up_at}
-use Rattle.workers_core.proofs.Doings.{stands_now}
+use Rattle.workers_core.proofs.CaseLemmas.{stands_now}
 use Rattle.workers_core.proofs.acting.make_room.Goals as goal
 
 pub returns-in_ok-insert-clause-room : goal.returns-in_ok-insert-clause-room

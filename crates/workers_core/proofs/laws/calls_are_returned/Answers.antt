@@ -1,4 +1,4 @@
-use Rattle.workers_core.proofs.Returnings as returnings
+use Rattle.workers_core.proofs.ReturnedOnce as returnings
 use Rattle.workers_core.proofs.laws.calls_are_returned.Goals as goal
 
 pub returns : goal.returns

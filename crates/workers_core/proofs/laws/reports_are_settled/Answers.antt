@@ -1,4 +1,4 @@
-use Rattle.workers_core.proofs.Settlings as settlings
+use Rattle.workers_core.proofs.SettledOnce as settlings
 use Rattle.workers_core.proofs.laws.reports_are_settled.Goals as goal
 
 pub returns : goal.returns

@@ -1,9 +1,9 @@
 use Rattle.account_core.specs.Events.{asked_of}
-use Rattle.account_core.proofs.Kindly.{account_moves}
+use Rattle.account_core.proofs.FittingAnswers.{account_moves}
 use Rattle.account_core.proofs.account_port.AccountPortPort.ask.Goals as goal
 
 pub returns-clause-moves : goal.returns-clause-moves
 returns-clause-moves c = λ call.
-    account_moves c.answers_are_kindly.ensures c.args.self.now.account c.apply.new.self c.args.self.now.seat call (asked_of c.args.op) c.apply.result
+    account_moves c.answers_fit_their_operations.ensures c.args.self.now.account c.apply.new.self c.args.self.now.seat call (asked_of c.args.op) c.apply.result
     c.history-entries.ensures.small c.history-entries.ensures.legal c.apply.ensures.answered c.apply.ensures.entered c.apply.ensures.admitted
     c.apply.ensures.kept

@@ -36,4 +36,4 @@ returns-clause-right c =
 
 pub returns-clause-wrong : goal.returns-clause-wrong
 returns-clause-wrong c =
-    IfOk-weaker c.judge.result _ _ (λ wrong told. IfSome_then wrong told (λ right all opening until h check. all opening until h (c.begin.ensures.same opening until h check))) c.judge.ensures.wrong
+    IfOk-weaker c.judge.result _ _ (λ wrong response. IfSome_then wrong response (λ right all opening until h check. all opening until h (c.begin.ensures.same opening until h check))) c.judge.ensures.wrong

@@ -10,9 +10,9 @@ loop-book-init c = λ before are. subst (λ (b : List Closed). AreLinesOf b c.ar
 
 pub loop-book-preserved : goal.loop-book-preserved
 loop-book-preserved c =
-    let told = c.in_ok-summary.ensures in
+    let booked = c.in_ok-summary.ensures in
     λ before are. next_lines before c.args.books.now c.loop-book.book-index c.book-item.result _ _ _ _ _ _ _ c.loop-book-test.true c.book-item.is
-    told.account told.opening told.available told.entries told.calls c.in_ok-add_one.ensures.accounts c.in_ok-add_one.ensures.calls (c.loop-book.invariant before are)
+    booked.account booked.opening booked.available booked.entries booked.calls c.in_ok-add_one.ensures.accounts c.in_ok-add_one.ensures.calls (c.loop-book.invariant before are)
 
 pub returns : goal.returns
 returns c =

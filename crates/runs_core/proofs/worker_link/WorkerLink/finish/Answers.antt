@@ -16,5 +16,5 @@ returns-clause-left g c =
     let all = c.compare.ensures.whole (search rules) in
     let posts : items_in (taken left.inbox) ≡ items_in (sent c.args.self.outbox) = ap items_in all ∙ same_items c.send_mail.result _ _ c.send_mail.ensures.sent in
     let Its = IsLeft g.S.Shared.reads g.S.Shared.was (map g.S.Shared.key promise.accounts.now) promise.setup.now promise.number in
-    subst (λ told. Its (items_in (sent c.args.self.outbox)) (map answer_view told) left.seats.items) heard
+    subst (λ answer. Its (items_in (sent c.args.self.outbox)) (map answer_view answer) left.seats.items) heard
     (subst (λ given. Its given (map answer_view (items_in (sent left.outbox))) left.seats.items) posts (search rules))

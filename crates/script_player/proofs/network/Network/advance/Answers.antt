@@ -1,6 +1,6 @@
 use Rattle.std.proofs.Common.{refl}
-use Rattle.script_player.proofs.Tellings.{grows_on}
-use Rattle.script_player.proofs.Waitings.{runs_timers, waited_more, waited_none}
+use Rattle.script_player.proofs.CallItems.{grows_on}
+use Rattle.script_player.proofs.TimerLemmas.{runs_timers, waited_more, waited_none}
 use Rattle.script_player.proofs.network.Network.advance.Goals as goal
 
 pub loop-call-init : goal.loop-call-init

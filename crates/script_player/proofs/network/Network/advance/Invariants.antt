@@ -1,4 +1,4 @@
-use Rattle.script_player.proofs.Waitings.{HaveWaited}
+use Rattle.script_player.proofs.TimerLemmas.{HaveWaited}
 use Rattle.script_player.proofs.network.Network.advance.Given as goal
 
 abbrev pub invariant-loop-call : goal.invariant-loop-call

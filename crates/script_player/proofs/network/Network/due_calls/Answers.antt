@@ -1,5 +1,5 @@
 use Rattle.std.proofs.Common.{[], ◌∷◌, ◌++◌, ◌∙◌, sym, ap, append_assoc, append-nil}
-use Rattle.script_player.proofs.Listings.{listed, listed_more}
+use Rattle.script_player.proofs.DueCalls.{listed, listed_more}
 use Rattle.script_player.proofs.network.Network.due_calls.Goals as goal
 
 pub loop-due-preserved : goal.loop-due-preserved

@@ -1,13 +1,13 @@
 use Rattle.std.proofs.Common.{false, refl}
 use Rattle.script_player.proofs.Changes.{dues_fed, gives_fed, shown, waited}
-use Rattle.script_player.proofs.Tellings.{grows_posted, has_some, told_moved}
+use Rattle.script_player.proofs.CallItems.{grows_posted, has_some, gave_moved}
 use Rattle.script_player.proofs.network.Network.give.Goals as goal
 
 pub invariant_of-self-2 : goal.invariant_of-self-2
 invariant_of-self-2 c =
     rw (c.post.ensures.items, c.as_slice.ensures.value, c.in_ok-reserve.ensures.items)
     ((
-      told_moved c.self.inside.config c.self.inside.calls c.feed.new.calls c.args.call c.self.inside.given.items c.in-Some.fed.sent.items c.self.invariant.0 c.in-Some.ensures.some.moves,
+      gave_moved c.self.inside.config c.self.inside.calls c.feed.new.calls c.args.call c.self.inside.given.items c.in-Some.fed.sent.items c.self.invariant.0 c.in-Some.ensures.some.moves,
       λ whole. dues_fed c.self.inside.config c.self.inside.calls c.feed.new.calls c.self.inside.dues c.replace_due.new.dues c.args.now c.args.call c.self.inside.given.items c.args.input c.in-Some.fed
           c.self.invariant.0 (c.self.invariant.1 whole) c.in-Some.ensures.some c.in_ok-replace_due.ensures,
     ))
@@ -16,7 +16,7 @@ pub invariant_of-self-in_err-replace_due : goal.invariant_of-self-in_err-replace
 invariant_of-self-in_err-replace_due c =
     rw (c.post.ensures.items, c.as_slice.ensures.value, c.in_ok-reserve.ensures.items)
     ((
-      told_moved c.self.inside.config c.self.inside.calls c.feed.new.calls c.args.call c.self.inside.given.items c.in-Some.fed.sent.items c.self.invariant.0 c.in-Some.ensures.some.moves,
+      gave_moved c.self.inside.config c.self.inside.calls c.feed.new.calls c.args.call c.self.inside.given.items c.in-Some.fed.sent.items c.self.invariant.0 c.in-Some.ensures.some.moves,
       λ whole. cc,
     ))
 

@@ -1,4 +1,4 @@
-use Rattle.script_player.proofs.Tellings.{played}
+use Rattle.script_player.proofs.CallItems.{played}
 use Rattle.script_player.proofs.network.Network.given.Goals as goal
 
 pub returns-clause-calls : goal.returns-clause-calls

@@ -1,5 +1,5 @@
 use Rattle.std.proofs.Common.{◌++◌}
-use Rattle.script_player.proofs.Doings.{run_lived}
+use Rattle.script_player.proofs.DeedLemmas.{run_lived}
 use Rattle.script_player.proofs.player.ScriptPlayerDriver.ended.Goals as goal
 
 pub returns-clause-lives : goal.returns-clause-lives

@@ -1,8 +1,8 @@
 use Rattle.std.proofs.Common.{true, false, refl, ◌++◌, ◌∙◌, append_assoc, sym, take}
 use Rattle.script_player.specs.Plays.{play_at}
-use Rattle.script_player.proofs.Endings.{none_left}
-use Rattle.script_player.proofs.Roundings.{end_is, heard_more, next_is, reached_more, reached_whole, round_is}
-use Rattle.script_player.proofs.Takings.{follows_grown, kept_grown, kept_on}
+use Rattle.script_player.proofs.EndLemmas.{none_left}
+use Rattle.script_player.proofs.RoundLemmas.{end_is, heard_more, next_is, reached_more, reached_whole, round_is}
+use Rattle.script_player.proofs.RowLemmas.{follows_grown, kept_grown, kept_on}
 use Rattle.script_player.proofs.player.ScriptPlayerDriver.round.Goals as goal
 
 pub returns-clause-grows : goal.returns-clause-grows

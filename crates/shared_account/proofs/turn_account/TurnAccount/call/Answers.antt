@@ -32,10 +32,10 @@ pub returns-clause-own : goal.returns-clause-own
 returns-clause-own g c =
     let number = c.seat.inside.number in
     let asked = asked_of c.args.op in
-    let told = c.enter-result.result in
+    let response = c.enter-result.result in
     let before : List EntryData = own number c.seat.inside.chair.me.0.seen.history in
-    let O : List EntryData → Type 0 = λ h. MatchResult told (λ reply. own number h ≡ before ++ event_by number asked reply ∷ []) (λ _. own number h ≡ before) in
+    let O : List EntryData → Type 0 = λ h. MatchResult response (λ reply. own number h ≡ before ++ event_by number asked reply ∷ []) (λ _. own number h ≡ before) in
     let S : TurnSeatView → Type 0 = λ s. let now = own number c.hand_on.new.chair.me.0.seen.history in
-    MatchResult told (λ reply. now ≡ own_of s ++ event_by s.number asked reply ∷ []) (λ _. now ≡ own_of s) in
-    subst S c.seat.view_is (subst O (seen g c) (owns c.seat.inside.chair.me.0 c.take_turn.new.chair.me.0 c.take_turn.ensures.later c.enter-result.new.chair.me.0 asked number told
+    MatchResult response (λ reply. now ≡ own_of s ++ event_by s.number asked reply ∷ []) (λ _. now ≡ own_of s) in
+    subst S c.seat.view_is (subst O (seen g c) (owns c.seat.inside.chair.me.0 c.take_turn.new.chair.me.0 c.take_turn.ensures.later c.enter-result.new.chair.me.0 asked number response
     c.seat.invariant.number c.enter-result.ensures.entered c.enter-result.ensures.kept))

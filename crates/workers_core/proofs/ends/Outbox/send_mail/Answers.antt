@@ -10,7 +10,7 @@ use Rattle.workers_core.proofs.ends.Outbox.send_mail.Goals as goal
 pub send_as-requires-clause-rule : goal.send_as-requires-clause-rule
 send_as-requires-clause-rule g c =
     let outbox = c.args.self.now in
-    let told = outbox.closed_is in
+    let answer = outbox.closed_is in
     let open_yet = c.if-self.false in
     let none : has_close (view outbox.pass).sent ≡ false = cc in
     (sends (ruled_capacity (sends_on outbox.sender)) outbox.pass.id (view outbox.pass) c.args.mail outbox.may_send none, λ items views rule here. tt)
@@ -19,7 +19,7 @@ pub invariant_of-self : goal.invariant_of-self
 invariant_of-self g c =
     let outbox = c.args.self.now in
     let before : Log g.row.T.Denot = view outbox.pass in
-    let told = outbox.closed_is in
+    let answer = outbox.closed_is in
     let open_yet = c.if-self.false in
     let none : has_close before.sent ≡ false = cc in
     let grown = c.in-Ok.ensures.rule in

@@ -2,17 +2,17 @@
 
 ghost use Rattle.std.specs.Prelude.{◌≡◌, ◌++◌, OnOk, string_bytes};
 ghost use Rattle.account_core.specs.Events.{asked_of};
-ghost use Rattle.entry_rows.specs.Told.{granted_text, reply_text, told_text, operation_word};
+ghost use Rattle.entry_rows.specs.Responses.{granted_text, reply_text, response_text, operation_word};
 
 use account_core::{AccountFault, Op, Reply};
 use std::alloc::AllocError;
 
 /// Adds what an account answers an operation: its reply, such as `settled paid 550 available 450`,
 /// or `refused` and the name of the fault.
-pub fn write_told(text: &mut String, told: Result<Reply, AccountFault>) -> Result<(), AllocError>
-    ensures { OnOk result (string_bytes text.new ≡ string_bytes text.old ++ told_text told) }
+pub fn write_response(text: &mut String, response: Result<Reply, AccountFault>) -> Result<(), AllocError>
+    ensures { OnOk result (string_bytes text.new ≡ string_bytes text.old ++ response_text response) }
 {
-    match told {
+    match response {
         Ok(reply) => write_reply(text, reply),
         Err(fault) => write!(text, "refused {fault}"),
     }

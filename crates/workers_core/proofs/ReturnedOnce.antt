@@ -14,14 +14,14 @@ use Rattle.cap_values.specs.declared.message.SsfMsg.TheVariants as msg
 use Rattle.dialogue_core.specs.Phases.{Conditions, Phase, Says, Sequel, Running, Returning, Asks}
 use Rattle.dialogue_core.specs.Phases as phase
 use Rattle.dialogue_core.specs.Table.{Step, going_on, on_begin, on_message}
-use Rattle.workers_core.proofs.Abouts.{SaysOf, TakesTo, begun_about, begun_says, takes_told}
+use Rattle.workers_core.proofs.OwnCalls.{SaysOf, TakesTo, begun_about, begun_says, takes_answer}
 use Rattle.workers_core.proofs.Asking.{taken_on}
 use Rattle.workers_core.proofs.AtRest.{nothing_asked}
 use Rattle.workers_core.proofs.Chaining.{first_sound, once_sound}
 use Rattle.workers_core.proofs.Entering.{none_at_first}
 use Rattle.workers_core.proofs.Growing.{place_within, read_as_before, read_talked}
 use Rattle.workers_core.proofs.Handling.{Means, at_place, is_itself, many_keys, means_on, own_of, same_number}
-use Rattle.workers_core.proofs.Through.{IsOver, ReturnsLast, StepIsOver, StepReturnsLast, is_through, last_begun, last_told, not_before, over_told, returns_none, talk_returns, talk_returns_once, through_still}
+use Rattle.workers_core.proofs.Through.{IsOver, ReturnsLast, StepIsOver, StepReturnsLast, is_through, last_begun, last_answer, not_before, over_answer, returns_none, talk_returns, talk_returns_once, through_still}
 use Rattle.workers_core.specs.Chains.{AreHandled, at_first, seat_numbers}
 use Rattle.workers_core.specs.Handled.{Holding, IsDone, IsTalked, AnswerView}
 use Rattle.workers_core.specs.Laws.{AreReturnedFor, CallsAreReturned, ends_call}
@@ -129,10 +129,10 @@ before_by setup numbers posts post call (Begins its at called) old new t sound m
 before_by setup numbers posts post call (GoesOn its at said phase) old new t sound m done not =
     let own = own_of (length (keys_of setup.accounts)) posts its m.standing (old.talks its) m.stands (sound.talks its) in
     let P : Step → Type 0 = λ step. TakesTo its post.number m.message step in
-    let takes : TakesTo its post.number m.message (Ok (said, phase)) = subst P m.takes (takes_told its post.number post.at m.standing.phase m.message own.is.about) in
-    let last : StepReturnsLast (Ok (said, phase)) = subst StepReturnsLast m.takes (last_told post.number post.at m.standing.phase m.message) in
+    let takes : TakesTo its post.number m.message (Ok (said, phase)) = subst P m.takes (takes_answer its post.number post.at m.standing.phase m.message own.is.about) in
+    let last : StepReturnsLast (Ok (said, phase)) = subst StepReturnsLast m.takes (last_answer post.number post.at m.standing.phase m.message) in
     let through : is_through m.standing.phase ≡ true → is_through phase ≡ true =
-    λ is. let over : StepIsOver (Ok (said, phase)) = subst StepIsOver m.takes (over_told post.number post.at m.standing.phase m.message is) in over.1 in
+    λ is. let over : StepIsOver (Ok (said, phase)) = subst StepIsOver m.takes (over_answer post.number post.at m.standing.phase m.message is) in over.1 in
     let Q : ℕ → Type 0 = λ c. has_ended (old.talks c) ≡ false in
     before_talk numbers call its at (said, phase) old new t (call == its) refl (place_within setup posts old at sound (rw (← m.same, ← many_keys setup) own.is.placed)) takes.0 takes.1 last
     (λ same began. subst Q (sym same) (ap has_ended m.stands ∙ not_before (is_through m.standing.phase) (is_through phase) through began)) done not
@@ -146,7 +146,7 @@ before_all setup numbers call done (post ∷ posts) [] old new sound are not = a
 before_all setup numbers call done (post ∷ posts) (refusal ∷ refusals) old new sound are not =
     let rest = before_all setup numbers call (done ++ post ∷ []) posts refusals are.0 new (once_sound setup numbers done post refusal old are.0 sound are.1) are.2 not in
     let once =
-    before_by setup numbers done post call (verdict_on setup old.talks post.number post.at post.body) old are.0 are.1.told sound (means_on setup old.talks post.number post.at post.body)
+    before_by setup numbers done post call (verdict_on setup old.talks post.number post.at post.body) old are.0 are.1.answer sound (means_on setup old.talks post.number post.at post.body)
     are.1.handled.done rest.0 in
     (once.0, λ place. adds_both call place old are.0 new (once.1 place) (rest.1 place))
 
@@ -182,11 +182,11 @@ after_by setup numbers posts post call (Begins its at called) old new t sound m 
 after_by setup numbers posts post call (GoesOn its at said phase) old new t sound m done ended =
     let own = own_of (length (keys_of setup.accounts)) posts its m.standing (old.talks its) m.stands (sound.talks its) in
     let P : Step → Type 0 = λ step. TakesTo its post.number m.message step in
-    let takes : TakesTo its post.number m.message (Ok (said, phase)) = subst P m.takes (takes_told its post.number post.at m.standing.phase m.message own.is.about) in
+    let takes : TakesTo its post.number m.message (Ok (said, phase)) = subst P m.takes (takes_answer its post.number post.at m.standing.phase m.message own.is.about) in
     let Q : ℕ → Type 0 = λ c. has_ended (old.talks c) ≡ true in
     after_talk numbers call its at (said, phase) old new t (call == its) refl (place_within setup posts old at sound (rw (← m.same, ← many_keys setup) own.is.placed)) takes.0 takes.1
     (λ same. let through : is_through m.standing.phase ≡ true = ap has_ended (sym m.stands) ∙ subst Q same ended in
-    let over : StepIsOver (Ok (said, phase)) = subst StepIsOver m.takes (over_told post.number post.at m.standing.phase m.message through) in over) done ended
+    let over : StepIsOver (Ok (said, phase)) = subst StepIsOver m.takes (over_answer post.number post.at m.standing.phase m.message through) in over) done ended
 
 after_all : (setup : Setup) (numbers : List ℕ) (call : ℕ) (done posts : List Post) (refusals : List (Option AccountFault)) (old new : Holding) (place : ℕ) → IsSoundHolding (keys_of setup.accounts) done old
     → AreHandled setup numbers posts refusals old new → has_ended (old.talks call) ≡ true → AddsOthers call place old new
@@ -195,7 +195,7 @@ after_all setup numbers call done [] (refusal ∷ refusals) old new place sound 
 after_all setup numbers call done (post ∷ posts) [] old new place sound are ended = absurd are
 after_all setup numbers call done (post ∷ posts) (refusal ∷ refusals) old new place sound are ended =
     let once =
-    after_by setup numbers done post call (verdict_on setup old.talks post.number post.at post.body) old are.0 are.1.told sound (means_on setup old.talks post.number post.at post.body)
+    after_by setup numbers done post call (verdict_on setup old.talks post.number post.at post.body) old are.0 are.1.answer sound (means_on setup old.talks post.number post.at post.body)
     are.1.handled.done ended in
     adds_both call place old are.0 new (once.1 place)
     (after_all setup numbers call (done ++ post ∷ []) posts refusals are.0 new place (once_sound setup numbers done post refusal old are.0 sound are.1) are.2 once.0)
@@ -226,10 +226,10 @@ calls_are_returned setup number before post lists old call place message is runn
     let talk = taken.0.talk in
     let once = talk_returns_once (slice_index_or numbers place 0) its (sequel_to message) talk.phase talk.last talk.gots talk.asked talk.talk talk.rests (sym talk.refused ∙ is.handles.refused) in
     let gained =
-    read_talked (λ (e : EntryData). returned_in e.asked) numbers call place at (Asks (Returns its), to) old is.between is.handles.told taken.0.within talk
+    read_talked (λ (e : EntryData). returned_in e.asked) numbers call place at (Asks (Returns its), to) old is.between is.handles.answer taken.0.within talk
     ∙ ap (λ l. returns_of (slice_index_or old.lists at []) ++ (if at == place then l else [])) once in
     let still : is_through talk.phase ≡ true = ap (λ (p : Says × Phase). is_through p.1) (sym talk.talk) ∙ through_still (Asks (Returns its), to) talk.gots refl in
-    let ended = ap has_ended (talks_now call call place true numbers (Asks (Returns its), to) old is.between is.handles.told (is_itself call) talk) ∙ still in
+    let ended = ap has_ended (talks_now call call place true numbers (Asks (Returns its), to) old is.between is.handles.answer (is_itself call) talk) ∙ still in
     let earlier = (before_all setup numbers call [] before is.refused (at_first setup) old (first_sound setup) is.begins (ap has_ended running.is)).1 at in
     let later =
     after_all setup numbers call (before ++ post ∷ []) is.after is.refused_after is.between is.new at

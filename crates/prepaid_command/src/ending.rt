@@ -18,20 +18,20 @@ use std::io::Error;
 
 /// What is told: an answer, or a fault, and what is said of that behind its line.
 #[derive(Drop)]
-pub(crate) struct Told {
+pub(crate) struct Ending {
     /// The answer, or the fault.
     pub answer: Result<Answer, Fault>,
     /// What is said of the fault.
     pub more: Option<String>,
 }
 
-impl Told {
+impl Ending {
     /// An answer, or a fault of which nothing is said.
-    pub fn plain(answer: Result<Answer, Fault>) -> Told
+    pub fn plain(answer: Result<Answer, Fault>) -> Ending
         ensures answer { result.answer ≡ answer }
         ensures more { result.more ≡ None }
     {
-        Told { answer, more: None }
+        Ending { answer, more: None }
     }
 
     /// An answer, or a fault of which is said what the input shows, if it was kept, and how long it
@@ -42,7 +42,7 @@ impl Told {
         in_parts: bool,
         input: &Option<Vec<u8>>,
         answer: Result<Answer, Fault>,
-    ) -> Told
+    ) -> Ending
         ensures answer { result.answer ≡ answer }
         ensures only { explains ≡ false → result.more ≡ None }
         ensures plain { IfOk answer (λ _. result.more ≡ None) }
@@ -56,7 +56,7 @@ impl Told {
             (Err(Fault::TooLong), None) if explains => said_of_length(alloc).ok(),
             _ => None,
         };
-        Told { answer, more }
+        Ending { answer, more }
     }
 
     /// What a run comes to: of its fault is said what the input shows, as `over` has it; and of an
@@ -67,7 +67,7 @@ impl Told {
         options: &RunOptions,
         input: &Option<Vec<u8>>,
         answer: Result<Answer, Fault>,
-    ) -> Told
+    ) -> Ending
         ensures answer { result.answer ≡ answer }
         ensures only { explains ≡ false → result.more ≡ None }
         ensures none { IfNone input.now (IfErr answer (λ why. IfSome result.more
@@ -81,10 +81,10 @@ impl Told {
         match (&answer, input) {
             (Ok(_), Some(bytes)) if explains => {
                 let more = strangers_of(alloc, options, bytes);
-                Told { answer, more }
+                Ending { answer, more }
             }
-            (Ok(_), _) => Told::plain(answer),
-            (Err(_), _) => Told::over(alloc, explains, true, input, answer),
+            (Ok(_), _) => Ending::plain(answer),
+            (Err(_), _) => Ending::over(alloc, explains, true, input, answer),
         }
     }
 
@@ -97,7 +97,7 @@ impl Told {
         input: &Option<Vec<u8>>,
         failed: &Option<Error>,
         answer: Result<Answer, Fault>,
-    ) -> Told
+    ) -> Ending
         ensures answer { result.answer ≡ answer }
         ensures only { explains ≡ false → result.more ≡ None }
         ensures none { IfNone input.now (IfErr answer (λ why. IfSome result.more
@@ -111,15 +111,15 @@ impl Told {
         match (&answer, failed) {
             (Err(Fault::Into), Some(error)) if explains => {
                 let more = said_of_files(alloc, error).ok();
-                Told { answer, more }
+                Ending { answer, more }
             }
-            _ => Told::of_run(alloc, explains, options, input, answer),
+            _ => Ending::of_run(alloc, explains, options, input, answer),
         }
     }
 
     /// The fault of words, and what is said of them where that is asked for: what `clap` says, or
     /// which time is out of its range.
-    pub fn of_words<S: AsStr>(alloc: Global, explains: bool, words: &[S], why: WordsFault) -> Told
+    pub fn of_words<S: AsStr>(alloc: Global, explains: bool, words: &[S], why: WordsFault) -> Ending
         ensures answer { result.answer ≡ Err (of_words why) }
         ensures only { explains ≡ false → result.more ≡ None }
         ensures words { IfSome result.more (λ more. IsOfWords (of_words why)) }
@@ -130,7 +130,7 @@ impl Told {
             }
             _ => None,
         };
-        Told {
+        Ending {
             answer: Err(Fault::from(why)),
             more,
         }

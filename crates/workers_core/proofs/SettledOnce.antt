@@ -11,7 +11,7 @@ use Rattle.cap_values.specs.declared.message.SsfMsg.TheVariants as msg
 use Rattle.dialogue_core.specs.Phases.{Phase, Says, Settling, Asks}
 use Rattle.dialogue_core.specs.Table.{Step, on_begin}
 use Rattle.tariff_core.specs.declared.times.TimeInfo.{TimeInfo}
-use Rattle.workers_core.proofs.Abouts.{TakesTo, begun_about, begun_settles, kept_got, no_settle, settled_by, takes_told, talk_settles, talked_about}
+use Rattle.workers_core.proofs.OwnCalls.{TakesTo, begun_about, begun_settles, kept_got, no_settle, settled_by, takes_answer, talk_settles, talked_about}
 use Rattle.workers_core.proofs.Asking.{taken_on}
 use Rattle.workers_core.proofs.Chaining.{once_sound}
 use Rattle.workers_core.proofs.Growing.{place_within, read_as_before, read_talked}
@@ -77,7 +77,7 @@ adds_by setup numbers posts post place (Begins call at called) old new t sound m
 adds_by setup numbers posts post place (GoesOn call at said phase) old new t sound m done =
     let own = own_of (length (keys_of setup.accounts)) posts call m.standing (old.talks call) m.stands (sound.talks call) in
     let P : Step → Type 0 = λ step. TakesTo call post.number m.message step in
-    let takes : TakesTo call post.number m.message (Ok (said, phase)) = subst P m.takes (takes_told call post.number post.at m.standing.phase m.message own.is.about) in
+    let takes : TakesTo call post.number m.message (Ok (said, phase)) = subst P m.takes (takes_answer call post.number post.at m.standing.phase m.message own.is.about) in
     talk_adds numbers call at place (said, phase) old new t (reported_in post.number post.body) (place_within setup posts old at sound (rw (← m.same, ← many_keys setup) own.is.placed)) takes.0
     (rw m.is takes.2) done
 
@@ -89,7 +89,7 @@ adds_after setup numbers place done [] (refusal ∷ refusals) old new sound are 
 adds_after setup numbers place done (post ∷ posts) [] old new sound are = absurd are
 adds_after setup numbers place done (post ∷ posts) (refusal ∷ refusals) old new sound are =
     let once =
-    adds_by setup numbers done post place (verdict_on setup old.talks post.number post.at post.body) old are.0 are.1.told sound (means_on setup old.talks post.number post.at post.body) are.1.handled.done in
+    adds_by setup numbers done post place (verdict_on setup old.talks post.number post.at post.body) old are.0 are.1.answer sound (means_on setup old.talks post.number post.at post.body) are.1.handled.done in
     let rest = adds_after setup numbers place (done ++ post ∷ []) posts refusals are.0 new (once_sound setup numbers done post refusal old are.0 sound are.1) are.2 in
     record {
       more = once.more ++ rest.more;
@@ -135,7 +135,7 @@ reports_are_settled setup number before post lists old call place active info is
     let talk = taken.0.talk in
     let once = talk_settles_once (slice_index_or numbers place 0) its post.number info to talk.phase talk.last talk.gots refl talk.talk talk.rests (sym talk.refused ∙ is.handles.refused) in
     let gained =
-    read_talked (λ (e : EntryData). settled_in e.asked) numbers call place at (Asks (Settles its post.number info), to) old is.between is.handles.told taken.0.within talk
+    read_talked (λ (e : EntryData). settled_in e.asked) numbers call place at (Asks (Settles its post.number info), to) old is.between is.handles.answer taken.0.within talk
     ∙ ap (λ l. settles_of (slice_index_or old.lists at []) ++ (if at == place then l else [])) once in
     let rest =
     adds_after setup numbers at (before ++ post ∷ []) is.after is.refused_after is.between is.new (once_sound setup numbers before post None old is.between taken.0.sound is.handles) is.ends in

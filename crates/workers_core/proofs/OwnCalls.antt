@@ -185,20 +185,20 @@ abbrev pub TakesTo : ℕ → ℕ → SsfMsg → Step → Type 0
 TakesTo call number message (Ok next) = IsAbout call next.1 × SaysOf call next.0 × IsPart (settled_by next.0) (report_in number call message)
 TakesTo call number message (Err fault) = Unit {0}
 
-pub takes_told : (call number at : ℕ) (phase : Phase) (message : SsfMsg) → IsAbout call phase → TakesTo call number message (on_message phase number at message)
-takes_told call number at (FirstAsk t) message about = tt
-takes_told call number at (Running t) (msg.InitialDp other calling called) about = tt
-takes_told call number at (Running t) (msg.EventReport event.Answer leg mode) about = (about, tt, tt)
-takes_told call number at (Running t) (msg.EventReport event leg mode) about = (tt, about, tt)
-takes_told call number at (Running t) (msg.ChargingReport active info) about = (about, about, inl (ap (λ c. (number, c, info)) about, tt))
-takes_told call number at (Running t) msg.Ended about = (tt, about, tt)
-takes_told call number at (Settling t active since) message about = tt
-takes_told call number at (MoreAsk t) message about = tt
-takes_told call number at (Returning after) message about = tt
-takes_told call number at Ending (msg.InitialDp other calling called) about = tt
-takes_told call number at Ending (msg.EventReport event leg Interrupted) about = (tt, tt, tt)
-takes_told call number at Ending (msg.EventReport event leg NotifyAndContinue) about = (tt, tt, tt)
-takes_told call number at Ending (msg.EventReport event leg Transparent) about = (tt, tt, tt)
-takes_told call number at Ending (msg.ChargingReport active info) about = tt
-takes_told call number at Ending msg.Ended about = (tt, tt, tt)
-takes_told call number at Closed message about = tt
+pub takes_answer : (call number at : ℕ) (phase : Phase) (message : SsfMsg) → IsAbout call phase → TakesTo call number message (on_message phase number at message)
+takes_answer call number at (FirstAsk t) message about = tt
+takes_answer call number at (Running t) (msg.InitialDp other calling called) about = tt
+takes_answer call number at (Running t) (msg.EventReport event.Answer leg mode) about = (about, tt, tt)
+takes_answer call number at (Running t) (msg.EventReport event leg mode) about = (tt, about, tt)
+takes_answer call number at (Running t) (msg.ChargingReport active info) about = (about, about, inl (ap (λ c. (number, c, info)) about, tt))
+takes_answer call number at (Running t) msg.Ended about = (tt, about, tt)
+takes_answer call number at (Settling t active since) message about = tt
+takes_answer call number at (MoreAsk t) message about = tt
+takes_answer call number at (Returning after) message about = tt
+takes_answer call number at Ending (msg.InitialDp other calling called) about = tt
+takes_answer call number at Ending (msg.EventReport event leg Interrupted) about = (tt, tt, tt)
+takes_answer call number at Ending (msg.EventReport event leg NotifyAndContinue) about = (tt, tt, tt)
+takes_answer call number at Ending (msg.EventReport event leg Transparent) about = (tt, tt, tt)
+takes_answer call number at Ending (msg.ChargingReport active info) about = tt
+takes_answer call number at Ending msg.Ended about = (tt, tt, tt)
+takes_answer call number at Closed message about = tt

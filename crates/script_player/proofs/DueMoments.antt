@@ -11,8 +11,8 @@ use Rattle.ssf_core.specs.Happenings.{Happening}
 use Rattle.script_player.specs.Dues.{AreDues, HasTimer, Replaces, pair_cmp, ssf_of}
 use Rattle.script_player.specs.Inputs.{IsNextTimer}
 use Rattle.script_player.specs.Steps.{Sets}
-use Rattle.script_player.proofs.Givings.{same_next}
-use Rattle.script_player.proofs.Tellings.{apart_at}
+use Rattle.script_player.proofs.InputLemmas.{same_next}
+use Rattle.script_player.proofs.CallItems.{apart_at}
 
 apart_second : (at call here other : ℕ) → (call == other) ≡ false → is_at (pair_cmp (at, call)) (here, other) ≡ false
 apart_second at call here other apart = grind (arith, nat_tests)

@@ -19,7 +19,7 @@ use Rattle.script_player.specs.Steps.{GetsSsf, FeedsSsf, SendsItems}
 use Rattle.script_player.specs.declared.network.Input.{Input}
 use Rattle.script_player.specs.declared.network.Input.TheVariants as what
 use Rattle.script_player.proofs.Items.{items_of-other, items_of-own, posts_of-append, same_true}
-use Rattle.script_player.proofs.Takings.{items_of-recharged}
+use Rattle.script_player.proofs.RowLemmas.{items_of-recharged}
 
 -- a gsmSSF stands for the life of its call, and its messages were given
 record IsAlive (config : SsfConfig) (call : ℕ) (given : List (ℕ × Body)) (view : View) (life : Life) : Type 0 where
@@ -250,15 +250,15 @@ lives_through config call before after (deed ∷ deeds) life chain same agrees =
     let rest = lives_through config call chain.0 after deeds step.0 chain.1.1 (does_config deed.0 deed.1 before chain.0 chain.1.0 ∙ same) step.1.1 in
     (rest.0, ((step.0, (step.1.0, rest.1.0)), rest.1.1))
 
-told_by : (config : SsfConfig) (call : ℕ) (given : List (ℕ × Body)) (found : Option View) (life : Option Life) → Agrees config call given found life → items_of call given ≡ posts_of call (sent_in_life life)
-told_by config call given None None agrees = agrees
-told_by config call given (Some view) (Some life) agrees = agrees.same
-told_by config call given None (Some life) agrees = absurd agrees
-told_by config call given (Some view) None agrees = absurd agrees
+gave_by : (config : SsfConfig) (call : ℕ) (given : List (ℕ × Body)) (found : Option View) (life : Option Life) → Agrees config call given found life → items_of call given ≡ posts_of call (sent_in_life life)
+gave_by config call given None None agrees = agrees
+gave_by config call given (Some view) (Some life) agrees = agrees.same
+gave_by config call given None (Some life) agrees = absurd agrees
+gave_by config call given (Some view) None agrees = absurd agrees
 
 pub has_lived : (config : SsfConfig) (call : ℕ) (before after : Shown) (deeds : List (ℕ × Deed)) → before.config ≡ config → before.ssfs ≡ [] → before.given ≡ [] → Chain DoesDeed before deeds after
     → HasLived config deeds call after.given
 has_lived config call before after deeds same none empty chain =
     let P : List (ℕ × View) → Type 0 = λ ssfs. Agrees config call before.given (ssf_of ssfs call) None in
     let lives = lives_through config call before after deeds None chain same (subst P (sym none) (ap (items_of call) empty)) in
-    record { life = lives.0; lived = lives.1.0; same = told_by config call after.given (ssf_of after.ssfs call) lives.0 lives.1.1 }
+    record { life = lives.0; lived = lives.1.0; same = gave_by config call after.given (ssf_of after.ssfs call) lives.0 lives.1.1 }

@@ -13,7 +13,7 @@ use Rattle.script_player.specs.Rounds.{IsTurn}
 use Rattle.script_player.specs.Runs.{Hears, IsReached, deeds_in, deeds_of_run, deeds_of_turn, fresh_play}
 use Rattle.script_player.specs.Steps.{Delivers, HappensAt, PlaysRow, Waits}
 use Rattle.ssf_core.specs.declared.deliveries.Delivery.{Delivery}
-use Rattle.script_player.proofs.Livings.{has_lived}
+use Rattle.script_player.proofs.LifeLemmas.{has_lived}
 
 chain_append : {S X : Type 0} (Step : S → X → S → Type 0) (before between after : S) (xs ys : List X) → Chain Step before xs between → Chain Step between ys after → Chain Step before (xs ++ ys) after
 chain_append {S} Step before between after [] ys first second =

@@ -8,8 +8,8 @@ use Rattle.ssf_core.specs.Deliveries.{TakesDue, next_delivery}
 use Rattle.script_player.specs.Networks.{Grows, Shown}
 use Rattle.script_player.specs.Steps.{Delivers, DeliversDue}
 use Rattle.ssf_core.specs.declared.deliveries.Delivery.{Delivery}
-use Rattle.script_player.proofs.Chainings.{chain_more}
-use Rattle.script_player.proofs.Tellings.{grows_not, grows_on}
+use Rattle.script_player.proofs.ChainLemmas.{chain_more}
+use Rattle.script_player.proofs.CallItems.{grows_not, grows_on}
 
 -- some deliveries that were due were delivered, in order
 pub record HaveDelivered (now : ℕ) (before after : Shown) (waiting left : List Delivery) : Type 0 where

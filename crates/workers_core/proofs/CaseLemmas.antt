@@ -97,12 +97,12 @@ pub mine_at : {T : Type 0} (mine_of : T → List EntryData) (seats : List T) (pl
     → mine_of seat ≡ slice_index_or (map mine_of seats) place []
 mine_at mine_of seats place seat within is = ap mine_of is ∙ sym (get_or-map mine_of seats place seat [] within)
 
-pub recharged_by : (Shows : Showing) (numbers : List ℕ) (place amount : ℕ) (until : Option ℕ) (seat : ℕ) (lists grew : List (List EntryData)) (talks : ℕ → Option DialogueAt) (before after : List EntryData) (told : AnswerView)
-    → IsCredited Shows seat (Credits amount until) before after told → seat ≡ slice_index_or numbers place 0 → before ≡ slice_index_or lists place []
+pub recharged_by : (Shows : Showing) (numbers : List ℕ) (place amount : ℕ) (until : Option ℕ) (seat : ℕ) (lists grew : List (List EntryData)) (talks : ℕ → Option DialogueAt) (before after : List EntryData) (answer : AnswerView)
+    → IsCredited Shows seat (Credits amount until) before after answer → seat ≡ slice_index_or numbers place 0 → before ≡ slice_index_or lists place []
     → ((entries : List EntryData) → after ≡ before ++ entries → grew ≡ grown lists place entries)
-    → (done : IsRecharged numbers place amount until (record { lists = lists; talks = talks }) (record { lists = grew; talks = talks }) told)
+    → (done : IsRecharged numbers place amount until (record { lists = lists; talks = talks }) (record { lists = grew; talks = talks }) answer)
     × IsRightlyGot Shows (slice_index_or lists place []) (Asks (Credits amount until)) done.got
-recharged_by Shows numbers place amount until seat lists grew talks before after told is number mine grows = (
+recharged_by Shows numbers place amount until seat lists grew talks before after answer is number mine grows = (
   record {
     got = is.got;
     orders = is.orders;
@@ -115,13 +115,13 @@ recharged_by Shows numbers place amount until seat lists grew talks before after
 )
 
 pub talked_by : (Shows : Showing) (numbers : List ℕ) (call place seat : ℕ) (first : Says × Phase) (phase : Phase) (lists grew : List (List EntryData)) (talks now : ℕ → Option DialogueAt)
-    (before after : List EntryData) (orders : List Order) (refused : Option AccountFault) (told : AnswerView)
+    (before after : List EntryData) (orders : List Order) (refused : Option AccountFault) (answer : AnswerView)
     → IsTalk Shows seat first before after phase orders refused → seat ≡ slice_index_or numbers place 0 → before ≡ slice_index_or lists place []
     → ((entries : List EntryData) → after ≡ before ++ entries → grew ≡ grown lists place entries)
-    → StandsNow call (record { phase = phase; place = place }) talks now → told.orders ≡ orders → told.stray ≡ false → told.refused ≡ refused
-    → (done : IsTalked numbers call place first (record { lists = lists; talks = talks }) (record { lists = grew; talks = now }) told)
+    → StandsNow call (record { phase = phase; place = place }) talks now → answer.orders ≡ orders → answer.stray ≡ false → answer.refused ≡ refused
+    → (done : IsTalked numbers call place first (record { lists = lists; talks = talks }) (record { lists = grew; talks = now }) answer)
     × AreRightlyGot Shows (slice_index_or numbers place 0) first (slice_index_or lists place []) done.gots
-talked_by Shows numbers call place seat first phase lists grew talks now before after orders refused told is number mine grows stands ordered stray why = (
+talked_by Shows numbers call place seat first phase lists grew talks now before after orders refused answer is number mine grows stands ordered stray why = (
   record {
     gots = is.gots;
     asked = is.asked;

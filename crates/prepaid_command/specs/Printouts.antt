@@ -6,27 +6,27 @@ use Rattle.prepaid_command.specs.Refused.{refused_line}
 use Rattle.prepaid_command.specs.declared.answer.Answer.{Answer}
 
 -- a text, whether all is right that was asked about, and the line about what a run refused
-pub record Telling : Type 0 where
+pub record Printout : Type 0 where
   pub text : List ℕ
   pub passes : Bool
   pub refused : List ℕ
 
 -- a text that finds nothing wrong, and of no run that refused anything
-abbrev pub plain : List ℕ → Telling
+abbrev pub plain : List ℕ → Printout
 plain text = record { text = text; passes = true; refused = [] }
 
 -- what a run says
-abbrev pub telling_of_run : RunSaid → Telling
-telling_of_run ran = record { text = ran.text; passes = true; refused = refused_line ran.refusals }
+abbrev pub printout_of_run : RunSaid → Printout
+printout_of_run ran = record { text = ran.text; passes = true; refused = refused_line ran.refusals }
 
 -- what a run says whose lines and tables went into files
-abbrev pub telling_of_files : TablesSaid → Telling
-telling_of_files tables = record { text = []; passes = true; refused = refused_line tables.refusals }
+abbrev pub printout_of_files : TablesSaid → Printout
+printout_of_files tables = record { text = []; passes = true; refused = refused_line tables.refusals }
 
 -- the status that goes with a text
-abbrev pub status_of_telling : Telling → ℕ
-status_of_telling telling = if telling.passes then 0 else 3
+abbrev pub status_of_printout : Printout → ℕ
+status_of_printout printout = if printout.passes then 0 else 3
 
 -- what an answer of the code says
-abbrev pub telling_of : Answer → Telling
-telling_of answer = record { text = string_bytes answer.text; passes = answer.passes; refused = refused_line answer.refusals }
+abbrev pub printout_of : Answer → Printout
+printout_of answer = record { text = string_bytes answer.text; passes = answer.passes; refused = refused_line answer.refusals }

@@ -13,9 +13,9 @@ use Rattle.script_player.specs.Networks.{Grows, Shown}
 use Rattle.script_player.specs.Steps.{FeedsSsf, RunsTimers, Waits}
 use Rattle.script_player.specs.declared.network.Input.{Input}
 use Rattle.script_player.specs.declared.network.Input.TheVariants as what
-use Rattle.script_player.proofs.Chainings.{chain_more}
-use Rattle.script_player.proofs.Keepings.{timer_was}
-use Rattle.script_player.proofs.Tellings.{grows_not, grows_on}
+use Rattle.script_player.proofs.ChainLemmas.{chain_more}
+use Rattle.script_player.proofs.DueMoments.{timer_was}
+use Rattle.script_player.proofs.CallItems.{grows_not, grows_on}
 
 -- time has passed for the first of these calls: each timer that is due is of a call that is left
 pub record HaveWaited (now : ℕ) (before after : Shown) (all left : List ℕ) : Type 0 where

@@ -30,11 +30,11 @@ goes_none account_number key read Was worker ready = record {
 }
 
 -- one after the other
-pub goes_more : {K S T : Type 0} (account_number : S → ℕ) (key : S → K) (read : Reads K T) (Was : T → Knowing) (old : Worker S T) (posts later : List Post) (answers told : List AnswerView) (between new : Worker S T)
-    → GoesOn account_number key read Was old posts answers between → GoesOn account_number key read Was between later told new
-    → GoesOn account_number key read Was old (posts ++ later) (answers ++ told) new
-goes_more account_number key read Was old posts later answers told between new first then_on =
-    let Its : Setup → List ℕ → Type 0 = λ s ns. AreAnswered (RefusesAt Was (seats_of new)) s ns later told (holding read.mine between) (holding read.mine new) in
+pub goes_more : {K S T : Type 0} (account_number : S → ℕ) (key : S → K) (read : Reads K T) (Was : T → Knowing) (old : Worker S T) (posts later : List Post) (answers view : List AnswerView) (between new : Worker S T)
+    → GoesOn account_number key read Was old posts answers between → GoesOn account_number key read Was between later view new
+    → GoesOn account_number key read Was old (posts ++ later) (answers ++ view) new
+goes_more account_number key read Was old posts later answers view between new first then_on =
+    let Its : Setup → List ℕ → Type 0 = λ s ns. AreAnswered (RefusesAt Was (seats_of new)) s ns later view (holding read.mine between) (holding read.mine new) in
     record {
       ready = then_on.ready;
       same_setup = then_on.same_setup ∙ first.same_setup;
@@ -42,24 +42,24 @@ goes_more account_number key read Was old posts later answers told between new f
       same_number = then_on.same_number ∙ first.same_number;
       same_numbers = then_on.same_numbers ∙ first.same_numbers;
       was = λ place mine refusal known. then_on.was place mine refusal (first.was place mine refusal known);
-      answered = more_after (RefusesAt Was (seats_of new)) (setup_of old) (map read.number (seats_of old)) posts later answers told (holding read.mine old) (holding read.mine between) (holding read.mine new)
+      answered = more_after (RefusesAt Was (seats_of new)) (setup_of old) (map read.number (seats_of old)) posts later answers view (holding read.mine old) (holding read.mine between) (holding read.mine new)
           (answered_still (WasAt Was (seats_of between)) (WasAt Was (seats_of new)) then_on.was (setup_of old) (map read.number (seats_of old)) posts answers (holding read.mine old) (holding read.mine between) first.answered)
           (subst (λ ns. Its (setup_of old) ns) first.same_numbers (subst (λ s. Its s (map read.number (seats_of between))) first.same_setup then_on.answered));
     }
 
 -- from the first post on
-pub answered_more : {K S T : Type 0} (account_number : S → ℕ) (key : S → K) (read : Reads K T) (Was : T → Knowing) (setup : Setup) (accounts : List S) (number : ℕ) (posts later : List Post) (answers told : List AnswerView) (old new : Worker S T)
-    → HasAnswered account_number key read Was setup accounts number posts answers old → GoesOn account_number key read Was old later told new
-    → HasAnswered account_number key read Was setup accounts number (posts ++ later) (answers ++ told) new
-answered_more account_number key read Was setup accounts number posts later answers told old new first then_on =
-    let Its : Setup → List ℕ → Type 0 = λ s ns. AreAnswered (RefusesAt Was (seats_of new)) s ns later told (holding read.mine old) (holding read.mine new) in
+pub answered_more : {K S T : Type 0} (account_number : S → ℕ) (key : S → K) (read : Reads K T) (Was : T → Knowing) (setup : Setup) (accounts : List S) (number : ℕ) (posts later : List Post) (answers view : List AnswerView) (old new : Worker S T)
+    → HasAnswered account_number key read Was setup accounts number posts answers old → GoesOn account_number key read Was old later view new
+    → HasAnswered account_number key read Was setup accounts number (posts ++ later) (answers ++ view) new
+answered_more account_number key read Was setup accounts number posts later answers view old new first then_on =
+    let Its : Setup → List ℕ → Type 0 = λ s ns. AreAnswered (RefusesAt Was (seats_of new)) s ns later view (holding read.mine old) (holding read.mine new) in
     record {
       ready = then_on.ready;
       setup_is = then_on.same_setup ∙ first.setup_is;
       accounts_are = then_on.same_accounts ∙ first.accounts_are;
       number_is = then_on.same_number ∙ first.number_is;
       numbers_are = then_on.same_numbers ∙ first.numbers_are;
-      answered = more_after (RefusesAt Was (seats_of new)) setup (seat_numbers number setup) posts later answers told (at_first setup) (holding read.mine old) (holding read.mine new)
+      answered = more_after (RefusesAt Was (seats_of new)) setup (seat_numbers number setup) posts later answers view (at_first setup) (holding read.mine old) (holding read.mine new)
           (answered_still (WasAt Was (seats_of old)) (WasAt Was (seats_of new)) then_on.was setup (seat_numbers number setup) posts answers (at_first setup) (holding read.mine old) first.answered)
           (subst (λ ns. Its setup ns) first.numbers_are (subst (λ s. Its s (map read.number (seats_of old))) first.setup_is then_on.answered));
     }

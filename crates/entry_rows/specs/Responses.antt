@@ -35,9 +35,9 @@ reply_text (reply.Forfeit paid available) = codes "forfeit" ++ paid_text paid av
 reply_text (reply.Returned paid available) = codes "returned" ++ paid_text paid available
 
 -- a reply, or `refused` and the fault in its place
-abbrev pub told_text : Result Reply AccountFault → List ℕ
-told_text (Ok reply) = reply_text reply
-told_text (Err why) = codes "refused " ++ account_fault_name why
+abbrev pub response_text : Result Reply AccountFault → List ℕ
+response_text (Ok reply) = reply_text reply
+response_text (Err why) = codes "refused " ++ account_fault_name why
 
 -- the word of an operation
 abbrev pub operation_word : Asked → List ℕ

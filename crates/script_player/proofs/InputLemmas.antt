@@ -9,7 +9,7 @@ use Rattle.ssf_core.specs.declared.item.Out.{Out}
 use Rattle.script_player.specs.Inputs.{GoesOnBy, IsGiven, IsNextTimer}
 use Rattle.script_player.specs.declared.network.Input.{Input}
 use Rattle.script_player.specs.declared.network.Input.TheVariants as input
-use Rattle.script_player.proofs.Goings.{Backwards}
+use Rattle.script_player.proofs.TraceLemmas.{Backwards}
 
 config_stays : (before after : View) (now : ℕ) (sent : List Out) (why : Option SsfFault) → Backwards before after now why sent
     → (before.last ≤ now → (after.last ≡ now) × (after.config ≡ before.config)) → after.config ≡ before.config

@@ -8,7 +8,7 @@ use Rattle.script_player.specs.Chains.{Chain}
 use Rattle.script_player.specs.Networks.{Shown}
 use Rattle.script_player.specs.Rows.{next_row}
 use Rattle.script_player.specs.Steps.{PlaysDue, PlaysRow}
-use Rattle.script_player.proofs.Chainings.{chain_more}
+use Rattle.script_player.proofs.ChainLemmas.{chain_more}
 
 -- some rows that were due were played, in order
 pub record HavePlayed (now : ℕ) (before after : Shown) (waiting left : List ScriptRow) : Type 0 where

@@ -13,9 +13,9 @@ use Rattle.workers_core.specs.Handled.{answer_view}
 use Rattle.workers_core.specs.Workers.{accounts_of, seats_of, setup_of}
 use Rattle.workers_core.specs.declared.worker.Worker.{Worker}
 use Rattle.runs_core.proofs.Finishing.{left_at, left_many}
-use Rattle.runs_core.proofs.Goings.{answered_more, left_by}
-use Rattle.runs_core.proofs.Hearings.{AreRounds, all_heard-more, answers_more, round_last, round_more}
-use Rattle.runs_core.proofs.Sendings.{handled_more, none_handled}
+use Rattle.runs_core.proofs.WorkerLemmas.{answered_more, left_by}
+use Rattle.runs_core.proofs.HearingLemmas.{AreRounds, all_heard-more, answers_more, round_last, round_more}
+use Rattle.runs_core.proofs.HandOuts.{handled_more, none_handled}
 use Rattle.runs_core.specs.Crews.{HasPlayed, HasServed, IsServedRound, count_of}
 use Rattle.runs_core.specs.Goings.{HasAnswered}
 use Rattle.runs_core.specs.Hearing.{HasLeft, all_heard}

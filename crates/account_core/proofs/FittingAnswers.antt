@@ -12,10 +12,10 @@ use Rattle.account_core.specs.Available.{available}
 use Rattle.account_core.specs.Events.{EntryData}
 use Rattle.account_core.specs.Expiry.{is_past, last_moment}
 use Rattle.account_core.specs.Known.{CallFacts, deed, known, known_after, plan_in_force, taken_of}
-use Rattle.account_core.specs.Laws.{AnswersAreKindly}
+use Rattle.account_core.specs.Laws.{AnswersFitTheirOperations}
 use Rattle.account_core.specs.Ledger.{Ledger, answer_of, event_by, refusal_of}
 use Rattle.account_core.specs.Sound.{IsSound}
-use Rattle.account_core.specs.Standing.{IsKindly, FitsCall, MovesCall}
+use Rattle.account_core.specs.Standing.{FitsOperation, FitsCall, MovesCall}
 use Rattle.account_core.specs.TariffLaws.{TariffLaws}
 use Rattle.account_core.specs.declared.entry.Reply.{Reply}
 use Rattle.account_core.specs.declared.entry.Reply.TheVariants as reply
@@ -79,7 +79,7 @@ call_here c (Settles other number info) here h is =
 call_here c (Returns other) here h is =
     let P : ℕ → Type 0 = λ n. misplaced (known n h) (Returns other) ≡ None in subst P here (in_place h (Returns other) is).1
 
-pub kindly : TariffLaws → AnswersAreKindly
+pub kindly : TariffLaws → AnswersFitTheirOperations
 kindly laws opening until history call asked small legal is here = (
   call_here call asked here (reverse history) is,
   kindly_here laws opening until (reverse history) call asked ((legal_is_sound laws opening until (reverse history) small legal).each call) here,
@@ -87,29 +87,29 @@ kindly laws opening until history call asked small legal is here = (
 
 -- ---- the entry of any seat does the same
 
-deed_of_any : (seat call : ℕ) (asked : Asked) (told : Reply) → deed call (event_by seat asked told) ≡ deed call (event_by 0 asked told)
+deed_of_any : (seat call : ℕ) (asked : Asked) (response : Reply) → deed call (event_by seat asked response) ≡ deed call (event_by 0 asked response)
 unfolding deed
-deed_of_any seat call asked told = refl
+deed_of_any seat call asked response = refl
 
-entry_moves : (history later : List EntryData) (seat call : ℕ) (asked : Asked) (told : Reply) → later ≡ history ++ event_by seat asked told ∷ []
-    → known call (reverse later) ≡ known_after (known call (reverse history)) (deed call (event_by 0 asked told))
-entry_moves history later seat call asked told is =
+entry_moves : (history later : List EntryData) (seat call : ℕ) (asked : Asked) (response : Reply) → later ≡ history ++ event_by seat asked response ∷ []
+    → known call (reverse later) ≡ known_after (known call (reverse history)) (deed call (event_by 0 asked response))
+entry_moves history later seat call asked response is =
     ap (λ h. known call (reverse h)) is
-    ∙ (ap (known call) (reverse-append history (event_by seat asked told ∷ []))
-    ∙ ap (known_after (known call (reverse history))) (deed_of_any seat call asked told))
+    ∙ (ap (known call) (reverse-append history (event_by seat asked response ∷ []))
+    ∙ ap (known_after (known call (reverse history))) (deed_of_any seat call asked response))
 
 -- what an account answers moves each call of its history
-pub account_moves : AnswersAreKindly → (before later : Ledger) (seat call : ℕ) (asked : Asked) (result : Result Reply AccountFault)
+pub account_moves : AnswersFitTheirOperations → (before later : Ledger) (seat call : ℕ) (asked : Asked) (result : Result Reply AccountFault)
     → before.opening ≤ 1000000000000000 → IsLegal before.opening before.until before.history
-    → IfOk result (λ told. told ≡ answer_of before asked)
-    → IfOk result (λ told. later ≡ record before { history = before.history ++ event_by seat asked told ∷ [] })
+    → IfOk result (λ response. response ≡ answer_of before asked)
+    → IfOk result (λ response. later ≡ record before { history = before.history ++ event_by seat asked response ∷ [] })
     → OnOk result (refusal_of before asked ≡ None) → OnErr result (later ≡ before)
     → MovesCall call (known call (reverse before.history)) asked result (Some (known call (reverse later.history)))
 account_moves kind before later seat call asked (Err fault) small legal answered entered open_yet kept =
     ap (λ l. Some (known call (reverse l.history))) kept
-account_moves kind before later seat call asked (Ok told) small legal answered entered open_yet kept =
-    let P : Reply → Type 0 = λ r. IsKindly call (known call (reverse before.history)) asked r in (
-      ap Some (entry_moves before.history later.history seat call asked told (ap (λ l. l.history) entered)),
+account_moves kind before later seat call asked (Ok response) small legal answered entered open_yet kept =
+    let P : Reply → Type 0 = λ r. FitsOperation call (known call (reverse before.history)) asked r in (
+      ap Some (entry_moves before.history later.history seat call asked response (ap (λ l. l.history) entered)),
       subst P (sym answered)
           (kind before.opening before.until before.history call asked small legal (admitted before.limit (reverse before.history) asked open_yet).0),
     )

@@ -22,8 +22,8 @@ use Rattle.script_player.specs.Steps.{Delivers, DeliversDue, GetsSsf, FeedsSsf, 
 use Rattle.ssf_core.specs.declared.deliveries.Delivery.{Delivery}
 use Rattle.script_player.specs.declared.network.Input.{Input}
 use Rattle.script_player.specs.declared.network.Input.TheVariants as what
-use Rattle.script_player.proofs.Chainings.{chain_more}
-use Rattle.script_player.proofs.Endings.{delivery_past, none_left, timer_past}
+use Rattle.script_player.proofs.ChainLemmas.{chain_more}
+use Rattle.script_player.proofs.EndLemmas.{delivery_past, none_left, timer_past}
 
 -- ---- a network stays whole
 

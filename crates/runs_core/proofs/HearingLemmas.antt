@@ -10,7 +10,7 @@ use Rattle.std.proofs.lemmas.List.Elements.{All-head, All-tail}
 use Rattle.run_values.specs.declared.post.Answer.{Answer}
 use Rattle.run_values.specs.declared.post.Body.{Body}
 use Rattle.runs_core.proofs.Joins.{joined_at, joined_length, joined_next, joined_none}
-use Rattle.runs_core.proofs.Sendings.{agrees, differs, numbered-append}
+use Rattle.runs_core.proofs.HandOuts.{agrees, differs, numbered-append}
 use Rattle.runs_core.specs.Crews.{joined_lists}
 use Rattle.runs_core.specs.Hearing.{AnswersEach, AreAnswers, HearsMore, HearsRounds, all_heard, answers_to}
 use Rattle.runs_core.specs.Shares.{Item, numbered, worker_of}
@@ -153,7 +153,7 @@ AreRounds {D} given ended hears before_this old (answers ∷ heard) new =
 
 hears_after : {D : Type 0} (given : D → List (ℕ × Body)) (hears : D → List Answer → D → Type 0) (before_this then_this : List Answer) (old : D) (answers : List Answer) (new : D) → before_this ≡ then_this
     → HearsMore given hears before_this old answers new → HearsMore given hears then_this old answers new
-hears_after given hears before_this then_this old answers new same more = subst (λ told. HearsMore given hears told old answers new) same more
+hears_after given hears before_this then_this old answers new same more = subst (λ view. HearsMore given hears view old answers new) same more
 
 -- a round more
 pub round_more : {D : Type 0} (given : D → List (ℕ × Body)) (ended : D → Bool) (hears : D → List Answer → D → Type 0) (before_this : List Answer) (old : D) (heard : List (List Answer)) (between : D) (answers : List Answer) (new : D)
