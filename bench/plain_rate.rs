@@ -5,7 +5,7 @@ use std::collections::HashMap;
 use std::io::{self, BufRead, BufReader, BufWriter};
 
 const DAY: u64 = 864_000;
-const LAST_MOMENT: u64 = 1_000_000_000_000;
+const MAX_MOMENT: u64 = 1_000_000_000_000;
 const MAX_MONEY: u64 = 1_000_000_000_000_000;
 const MAX_ROW: usize = 65_536;
 
@@ -89,7 +89,7 @@ fn rated<'a>(row: &'a ByteRecord, width: usize, places: [usize; 4], tariff: &Tar
     if called.is_empty() || called.len() > 15 || !called.iter().all(u8::is_ascii_digit) {
         return Err("Number");
     }
-    let at = optional(&row[places[1]], LAST_MOMENT)?;
+    let at = optional(&row[places[1]], MAX_MOMENT)?;
     let time = if at.is_some() { number(&row[places[2]], DAY)? } else { 0 };
     let paid = optional(&row[places[3]], MAX_MONEY)?;
     let Some(at) = at else {

@@ -7,7 +7,7 @@ from .rate import rate
 from .run import Options, Run, divided
 from .serve import serve
 from .tables import (
-    LAST_MOMENT,
+    MAX_MOMENT,
     MAX_RATE,
     Fault,
     band_at,
@@ -189,7 +189,7 @@ def do_quote(given, text):
     if time := re.fullmatch("([01][0-9]|2[0-3]):([0-5][0-9])", at):
         now = (int(time[1]) * 60 + int(time[2])) * 600
     else:
-        now = moment(at.encode(), LAST_MOMENT)
+        now = moment(at.encode(), MAX_MOMENT)
     if now is None:
         raise ARGUMENTS
     talk = number(given, "--for", most=DAY) if "--for" in given else None

@@ -3,7 +3,7 @@ import itertools
 import re
 
 from .account import DAY, MAX_MONEY, price
-from .tables import LAST_MOMENT, Fault, decimal, digits, first_part, moment, read_tariff, records, route
+from .tables import MAX_MOMENT, Fault, decimal, digits, first_part, moment, read_tariff, records, route
 
 MAX_ROW = 65_536
 MAX_SHOWN = 131_072
@@ -90,9 +90,9 @@ def said(fields, width, places):
     number_called = digits(fields[called])
     if number_called is None:
         raise Wrong("Number")
-    at, times = optional(fields[answer], LAST_MOMENT, moment), None
+    at, times = optional(fields[answer], MAX_MOMENT, moment), None
     if at is not None:
-        times = [number(fields[it], *((LAST_MOMENT, moment) if kind == "end" else (DAY,))) for it in of_times]
+        times = [number(fields[it], *((MAX_MOMENT, moment) if kind == "end" else (DAY,))) for it in of_times]
         if kind == "split" and sum(times) > DAY:
             raise Wrong("Number")
     charged = None if paid is None else optional(fields[paid], MAX_MONEY)

@@ -3,7 +3,7 @@ from . import calls, trace
 from .account import DAY, MAX_MONEY
 from .log import Log
 from .run import Options, Run
-from .tables import HORIZON, LAST_MOMENT, MAX_PART, Fault, decimal, digits, moment, read_setup, read_tariff, records
+from .tables import HORIZON, MAX_MOMENT, MAX_PART, Fault, decimal, digits, moment, read_setup, read_tariff, records
 
 MAX_LINE = 4096
 # The events of a row, in the words of a script.
@@ -58,7 +58,7 @@ def message(fields):
     empty, word = [], what.decode()
     call = None if word == "Recharge" else number(call, 2**64 - 1)
     if word == "Recharge":
-        until = None if x[2] == b"" else needed(moment(x[2], LAST_MOMENT))
+        until = None if x[2] == b"" else needed(moment(x[2], MAX_MOMENT))
         rest = number(x[0], 2**32 - 1), number(x[1], MAX_MONEY), until
         said, empty = ("recharge", *rest), [fields[2], x[3]]
     elif word == "InitialDP":

@@ -7,7 +7,7 @@ from .account import DAY, MAX_MONEY, Plan, Times, lawful
 MAX_RATE = 10**9
 # The most bytes of a part that is read as it comes, its divider counted.
 MAX_PART = 16_777_216
-LAST_MOMENT = 10**12
+MAX_MOMENT = 10**12
 HORIZON = 2 * 10**12
 EPOCH, UNIT = datetime.datetime(1970, 1, 1), datetime.timedelta(milliseconds=100)
 # The headers that a table may have, the oldest first.
@@ -265,7 +265,7 @@ def read_setup(text):
         fail(("TooManyRows", kind == b"account" and len(accounts) == 1000), ("What", kind not in (b"account", b"subscriber")))
         if kind == b"account":
             number, opening = decimal(key, 2**32 - 1), decimal(value, MAX_MONEY)
-            last = moment(until[0], LAST_MOMENT) if any(until) else None
+            last = moment(until[0], MAX_MOMENT) if any(until) else None
             fail(("Number", number is None or opening is None or any(until) and last is None), ("Repeated", number in accounts))
             accounts[number] = opening, last
         else:
@@ -285,13 +285,13 @@ def read_script(text, accounts):
     for _, (at, call, what, x, y, *z), fail in rows_of("script", text, SCRIPT, 1_000_000):
         word = what.decode("latin-1")
         fail(("What", word not in WORDS))
-        numbers, empty, until = [moment(at, LAST_MOMENT)], [], None
+        numbers, empty, until = [moment(at, MAX_MOMENT)], [], None
         numbers += [] if word == "recharge" else [decimal(call, 2**64 - 1)]
         empty += [call] if word == "recharge" else []
         if word == "start":
             numbers += [digits(x), digits(y)]
         elif word == "recharge":
-            until = moment(z[0], LAST_MOMENT) if any(z) else None
+            until = moment(z[0], MAX_MOMENT) if any(z) else None
             numbers += [decimal(x, 2**32 - 1), decimal(y, MAX_MONEY), None if any(z) and until is None else 0]
         elif word == "disconnect":
             numbers.append(decimal(x, 2, 1))

@@ -43,7 +43,7 @@ response_apart h event call apart = ap (paid_after (paid_at_return call h)) (dee
 ended_yet : (call : CallFacts) → is_open call ≡ true → call.returned ≡ true → ⊥
 ended_yet call is ended = let yet = (open_parts call.plan call.returned is).1 in cc
 
--- a call that is returned told what it has paid
+-- the Returned of a call says what it has paid
 response_by : (credit : ℕ) (call : CallFacts) (before : Option ℕ) (deed : EntryDeed) → IsAllowed credit call deed → (call.returned ≡ true → before ≡ Some (paid_of call))
     → (known_after call deed).returned ≡ true → paid_after before deed ≡ Some (paid_of (known_after call deed))
 response_by credit call before (Grants plan units) grant known_each ended = let yet = grant.unreturned in cc

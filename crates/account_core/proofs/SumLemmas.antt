@@ -1,4 +1,4 @@
--- The sums that an account's states tell are those of its history.
+-- The sums of an account's states are those of its history.
 use Rattle.std.proofs.Common.{◌≡◌, ℕ, Bool, true, false, Option, Some, None, List, [], ◌∷◌, ◌++◌, refl, sym, ap, ◌∙◌, arith, subst}
 use Rattle.std.specs.Prelude.{◌==◌, if◌then◌else◌, map, option_to_list, unwrap_or}
 use Rattle.std.specs.BTreeMap.{is_at}

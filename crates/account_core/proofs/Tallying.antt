@@ -62,7 +62,7 @@ module _ (opening : ℕ) (until : Option ℕ) (h : List EntryData) (event : Entr
       let admissible : inadmissible h event.asked ≡ None = sym admissible_is ∙ none in
       record { admissible = admissible; answered = sym same ∙ response_answer sounds fits admissible reply reply_is }
 
-  -- the fault by what is kept is what the account tells, and so is a reply by it that isn't the entry's
+  -- the fault by what is kept is what the account answers, and so is a reply by it that isn't the entry's
   pub refused_response : (why : AccountFault) → Some why ≡ inadmissible_for call event.asked → IsWrong opening until h event (Err why)
   refused_response why why_is =
       record { is_response = sym (ap (λ found. response_of found (answer opening until h event.asked)) (sym admissible_is ∙ sym why_is)); differs = λ same. cc }

@@ -22,12 +22,12 @@ abbrev pub NoBalanceIsNegative : Type 0
 NoBalanceIsNegative = (opening : ℕ) (until : Option ℕ) (history later : List EntryData) → opening ≤ MAX_MONEY → IsLegal opening until (history ++ later)
     → taken_by_all (reverse history) ≤ opening + credits (reverse history)
 
--- what the Returned of a call told that it paid in all
+-- what the Returned of a call said that it paid in all
 abbrev pub paid_after : Option ℕ → EntryDeed → Option ℕ
 paid_after before (Ends paid) = Some paid
 paid_after before other = before
 
--- what the last Returned of a call told that it paid in all, after a history
+-- what the last Returned of a call said that it paid in all, after a history
 abbrev pub paid_at_return : ℕ → List EntryData → Option ℕ
 paid_at_return call [] = None
 paid_at_return call (event ∷ h) = paid_after (paid_at_return call h) (deed call event)

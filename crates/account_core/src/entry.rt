@@ -32,7 +32,7 @@ pub enum Op {
         /// The moment of asking.
         at: u64,
     },
-    /// Tells what an open call has used, as its charging report states it.
+    /// What an open call has used, as its charging report states it.
     Settle {
         /// The call.
         call: u64,

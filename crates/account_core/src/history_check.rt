@@ -1,4 +1,4 @@
-//! Whether a history that is told entry by entry is legal.
+//! Whether a history that is given entry by entry is legal.
 
 ghost use Rattle.std.specs.Prelude.{◌≡◌, ◌≤◌, ◌∷◌, [], None, Ok, true, false, map, ℕ, List, Option, IfOk, IfSome, OnErr, OnOk};
 ghost use Rattle.std.specs.Bool.{Decides};
@@ -9,7 +9,7 @@ ghost use Rattle.account_core.specs.Checked.{HasOpening, IsCheckOf, SumsUp};
 ghost use Rattle.account_core.specs.Known.{known, nothing_known};
 ghost use Rattle.account_core.specs.Wrong.{IsWrong};
 
-use crate::tally::{Tally, Response};
+use crate::tally::{Response, Tally};
 use crate::{Account, AccountFault, AccountSum, CallSum, Entry, Reply};
 use std::alloc::{AllocError, Global};
 use tariff_core::MAX_MONEY;
@@ -38,7 +38,7 @@ impl Account {
     }
 }
 
-/// The check of a history that is told entry by entry, oldest first. The entries aren't kept, but
+/// The check of a history that is given entry by entry, oldest first. The entries aren't kept, but
 /// what they come to while they are legal.
 #[derive(Drop)]
 pub struct HistoryCheck {

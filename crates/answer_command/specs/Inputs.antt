@@ -29,7 +29,7 @@ is_message_header line =
 abbrev pub behind_header : List ℕ → Result (List ℕ) ServeError
 behind_header text = if is_message_header (take_through 10 text) then Ok (drop_through 10 text) else Err error.Header
 
--- what a part says, its fault told as one of `serve`
+-- what a part says, its fault as one of `serve`
 abbrev pub as_serve_fault : {X : Type 0} → Result X InputFault → Result X ServeError
 as_serve_fault (Ok x) = Ok x
 as_serve_fault (Err why) = Err (error.Input why)

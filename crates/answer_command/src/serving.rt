@@ -89,7 +89,8 @@ fn serve_rows<R: Wait + Threads + Sync, I: BufRead + Drop, L: Write + Drop, O: W
     rows: Rows<I, L>,
     output: &mut O,
 ) -> Result<(), ServeError>
-    ensures ends { IfSome (I.remaining rows.input) (λ text. EndsServing end setup.now rows.replay text
+    ensures ends { IfSome (I.remaining rows.input)
+        (λ text. EndsServing end setup.now rows.replay text
         (O.contents output.old) (O.contents output.new) result) }
     ensures fault { IfErr result IsOfRun }
 {

@@ -37,7 +37,7 @@ use Rattle.book_texts.proofs.AboveLemmas.{IsAbove, above_is, at_first, next_abov
 use Rattle.book_texts.proofs.BookedLemmas.{AreFoundIn, all_found, books_ascend}
 use Rattle.book_texts.proofs.WrongLemmas.{entry_right, opening_right}
 
--- a check has heard what is told
+-- a check has heard what is booked
 abbrev pub HasHeard : Booked → HistoryCheck → Type 0
 HasHeard booked check = IsCheckOf booked.opening booked.until (reverse booked.history) check
 

@@ -17,7 +17,7 @@ use Rattle.book_texts.specs.Wrongs.{IsWrongRow}
 use Rattle.book_texts.specs.declared.wrong_row.WrongRow.{WrongRow}
 use Rattle.book_texts.proofs.BookedLemmas.{booked_set}
 
--- what is told of an account with one entry more
+-- what is booked of an account with one entry more
 abbrev with_event : Booked → EntryData → Booked
 with_event booked event = record booked { history = booked.history ++ event ∷ [] }
 

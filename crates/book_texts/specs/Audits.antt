@@ -60,7 +60,7 @@ pub record Audited : Type 0 where
 abbrev pub audited : Bool → List AccountVerdict → Audited
 audited shown verdicts = record { lines = flat_map (verdict_lines shown) verdicts; passes = list_all (λ verdict. is_none verdict.1) verdicts }
 
--- the book of what is told of an account
+-- the book of what is booked of an account
 abbrev pub book_by : ℕ × Booked → Closed
 book_by (account, booked) = record { account = account; opening = booked.opening; until = booked.until; limit = length booked.history; history = booked.history }
 

@@ -19,11 +19,11 @@ pub record Booked : Type 0 where
   pub until : Option ℕ
   pub history : List EntryData
 
--- what is told of each account, by rising number
+-- what is booked of each account, by rising number
 abbrev pub Books : Type 0
 Books = List (ℕ × Booked)
 
--- what was told of an account so far
+-- what was booked of an account so far
 abbrev pub account_so_far : ℕ → Books → Option Booked
 account_so_far account books = lookup (is_at (nat_cmp account)) books
 

@@ -67,7 +67,7 @@ abbrev pub HearsBy : Booked → EntryData → Option (Result Reply AccountFault)
 HearsBy booked event None = IsLegal booked.opening booked.until booked.history → IsAnswered booked.opening booked.until (reverse booked.history) event
 HearsBy booked event (Some right) = IsLegal booked.opening booked.until booked.history × IsWrong booked.opening booked.until (reverse booked.history) event right
 
--- an entry was heard, or refused, since nothing was told of its account
+-- an entry was heard, or refused, since its account isn't open
 abbrev pub IsHeard : Option Booked → EntryData → Result (Option (Result Reply AccountFault)) RowKind → Type 0
 IsHeard None event (Ok wrong) = ⊥
 IsHeard (Some booked) event (Ok wrong) = HearsBy booked event wrong
@@ -79,7 +79,7 @@ IsHeard booked event (Err kind) = booked ≡ None
 abbrev pub wrong_of : ℕ → List (ℕ × WrongRow) → Option WrongRow
 wrong_of account wrongs = lookup (is_at (nat_cmp account)) wrongs
 
--- what is told of an account, if it is open, has its verdict by the rows so far
+-- what is booked of an account, if it is open, has its verdict by the rows so far
 abbrev pub HasItsVerdict : ℕ → List Fields → ℕ → Option Booked → Option WrongRow → Type 0
 HasItsVerdict most rows account None wrong = wrong ≡ None
 HasItsVerdict most rows account (Some booked) wrong = HasVerdict most rows account booked wrong

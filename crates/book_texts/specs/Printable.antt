@@ -25,6 +25,6 @@ pub record ArePrintable (most : ℕ) (books : List Closed) : Type 0 where
   pub fit : All FitsBook books
   pub room : row_count books ≤ most
 
--- what is told of the account of a book
+-- what is booked of the account of a book
 abbrev pub account_of_book : Closed → ℕ × Booked
 account_of_book book = (book.account, record { opening = book.opening; until = book.until; history = book.history })

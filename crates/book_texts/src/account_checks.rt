@@ -49,7 +49,8 @@ impl AccountChecks {
         requires small { opening ≤ MAX_MONEY }
         requires have { (books : Books) × HaveChecks books self.old }
         ensures { IfOk result (λ refused. (books : Books) → HaveChecks books self.old
-            → Comes books refused (opened account opening until books (account_so_far account books))
+            → Comes books refused (opened account opening until books
+            (account_so_far account books))
             self.new) }
     {
         let account = u64::from(account);
@@ -147,7 +148,8 @@ fn open_in(
 ) -> Result<Option<RowKind>, AllocError>
     ensures { IfOk result (λ refused. (books : Books) (opening : ℕ) (until : Option ℕ)
         → AreChecks books map.old.entries → IsCheckOf opening until [] check
-        → ListComes books refused (opened account opening until books (account_so_far account books))
+        → ListComes books refused (opened account opening until books
+        (account_so_far account books))
         map.new.entries) }
 {
     if map.contains_key(&account) {

@@ -245,7 +245,8 @@ fn enter(
 ) -> Result<Option<RowKind>, AllocError>
     requires { (books : Books) × HaveChecks books checks.old }
     ensures comes { IfOk result (λ refused. (books : Books) → HaveChecks books checks.old
-        → Comes books refused (entered_in_books account (entry_data entry) books (account_so_far account books))
+        → Comes books refused (entered_in_books account (entry_data entry) books
+        (account_so_far account books))
         checks.new) }
     ensures noted { IfOk result (λ refused. (books : Books) → HaveChecks books checks.old
         → AreNoted number books (Ok (Enters account (entry_data entry))) wrongs.old wrongs.new) }

@@ -176,7 +176,8 @@ pub(crate) fn add_calls(
     account: u64,
     sums: &[CallSum],
 ) -> Result<(), AllocError>
-    ensures { OnOk result (lines.new.items ≡ lines.old.items ++ map (call_line_of account) sums.now) }
+    ensures { OnOk result (lines.new.items ≡ lines.old.items ++ map
+        (call_line_of account) sums.now) }
 {
     for sum in sums {
         lines.push(CallLine { account, sum: *sum })?;

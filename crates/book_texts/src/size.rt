@@ -11,9 +11,9 @@ pub const MAX_LONG_ROWS: u32 = 4_294_967_293;
 pub struct AuditAsk {
     /// How long the table may be.
     pub size: BookSize,
-    /// Whether the first wrong row of each account is told.
+    /// Whether the first wrong row of each account is printed.
     pub rows: bool,
-    /// Whether the lines are told that a run prints of such books.
+    /// Whether the lines are printed that a run prints of such books.
     pub lines: bool,
 }
 

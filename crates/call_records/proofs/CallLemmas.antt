@@ -1,4 +1,4 @@
--- One post more: what it tells of a call.
+-- One post more: what it says of a call.
 use Rattle.std.proofs.Common.{◌≡◌, ◌==◌, ◌||◌, ◌+◌, ◌<◌, length, get_or, take, ℕ, Bool, true, false, Option, Some, None, List, [], ◌∷◌, ◌++◌, refl, sym, ap, ◌∙◌, arith}
 use Rattle.std.proofs.lemmas.Bool.Decides.{nat_tests}
 use Rattle.std.proofs.lemmas.List.{take_more}
@@ -24,7 +24,7 @@ pub or_none : {X : Type 0} (one : Option X) → option_or one None ≡ one
 or_none None = refl
 or_none (Some x) = refl
 
--- what is first told with one post more
+-- what is first said with one post more
 pub said_more : {X : Type 0} (call : ℕ) (tell : ℕ → SsfMsg → Option X) (given : List (ℕ × Body)) (post : ℕ × Body)
     → first_said call tell (given ++ post ∷ []) ≡ option_or (first_said call tell given) (message_of_call call (tell post.0) post.1)
 said_more call tell [] post = or_none (message_of_call call (tell post.0) post.1)
@@ -32,7 +32,7 @@ said_more call tell (first ∷ given) post =
     ap (λ later. option_or (message_of_call call (tell first.0) first.1) later) (said_more call tell given post)
     ∙ either (message_of_call call (tell first.0) first.1) (first_said call tell given) (message_of_call call (tell post.0) post.1)
 
--- what is known, or what is told now
+-- what is known, or what is said now
 abbrev pub known_or : Option ℕ → Option ℕ → Option ℕ
 known_or known None = known
 known_or known (Some moment) = option_or known (Some moment)
@@ -47,7 +47,7 @@ is_said_so None (Some moment) = refl
 is_said_so (Some known) None = refl
 is_said_so (Some known) (Some moment) = refl
 
--- the reports after a post that tells this
+-- the reports after a post that says this
 abbrev pub reports_with : CallReports → ((ℕ → SsfMsg → Option ℕ) → Option ℕ) → CallReports
 reports_with reports tells = record {
   answer = known_or reports.answer (tells (report_by event.Answer));

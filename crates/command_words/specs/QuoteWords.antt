@@ -6,7 +6,7 @@ use Rattle.cap_values.specs.Numbers.{is_number}
 use Rattle.moment_texts.specs.Reading.{moment_of}
 use Rattle.tariff_core.specs.TariffTable.{time_of}
 use Rattle.tariff_core.specs.declared.plan.TheConstants.{MAX_MONEY}
-use Rattle.tariff_core.specs.declared.times.TheConstants.{DAY, LAST_MOMENT}
+use Rattle.tariff_core.specs.declared.times.TheConstants.{DAY, MAX_MOMENT}
 use Rattle.command_words.specs.Options.{clock_by, has_flag, optional_number_in}
 use Rattle.command_words.specs.QuoteWishes.{QuoteWish}
 
@@ -14,9 +14,9 @@ use Rattle.command_words.specs.QuoteWishes.{QuoteWish}
 abbrev pub called_of : Text → Option (List ℕ)
 called_of text = if is_number text then Some text else None
 
--- the moment that is asked for: `HH:MM` of the first day, a number of units, or a date and a time, at most `LAST_MOMENT`
+-- the moment that is asked for: `HH:MM` of the first day, a number of units, or a date and a time, at most `MAX_MOMENT`
 abbrev pub moment_asked : Text → Option ℕ
-moment_asked text = option_or (time_of text) (moment_of LAST_MOMENT text)
+moment_asked text = option_or (time_of text) (moment_of MAX_MOMENT text)
 
 -- the called number
 abbrev pub wished_called : List Row → Option (List ℕ)

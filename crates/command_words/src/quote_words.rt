@@ -11,7 +11,7 @@ use crate::request::QuoteAsk;
 use cap_values::Number;
 use clap::ArgMatches;
 use moment_texts::moment;
-use tariff_core::{DAY, LAST_MOMENT, MAX_MONEY, time_of_day};
+use tariff_core::{DAY, MAX_MOMENT, MAX_MONEY, time_of_day};
 
 /// What the options ask for.
 #[tactic(auto, unfolding(crate::specs::QuoteWords::quote_in))]
@@ -42,10 +42,10 @@ fn called(text: &str) -> Option<Number>
 /// and a time.
 fn moment_asked(text: &str) -> Option<u64>
     ensures value { result ≡ moment_asked text.now }
-    ensures within { IfSome result (λ at. at ≤ LAST_MOMENT) }
+    ensures within { IfSome result (λ at. at ≤ MAX_MOMENT) }
 {
     match time_of_day(text.as_bytes()) {
         Some(time) => Some(u64::from(time)),
-        None => moment(text.as_bytes(), LAST_MOMENT),
+        None => moment(text.as_bytes(), MAX_MOMENT),
     }
 }

@@ -2,14 +2,14 @@
 
 ghost use Rattle.std.specs.Prelude.{◌≤◌, unwrap_or};
 ghost use Rattle.tariff_core.specs.declared.plan.TheConstants.{MAX_MONEY};
-ghost use Rattle.tariff_core.specs.declared.times.TheConstants.{DAY, LAST_MOMENT};
+ghost use Rattle.tariff_core.specs.declared.times.TheConstants.{DAY, MAX_MOMENT};
 
 use book_texts::AuditAsk;
 use cap_values::Number;
 use moment_texts::Clock;
 use rating::RateAsk;
 use run_options::{LiveOptions, LogAsk, RunOptions};
-use tariff_core::{DAY, LAST_MOMENT, MAX_MONEY, Plan};
+use tariff_core::{DAY, MAX_MOMENT, MAX_MONEY, Plan};
 
 /// What the words ask for.
 #[derive(Drop)]
@@ -42,7 +42,7 @@ pub enum Request<'a> {
 pub struct QuoteAsk {
     /// The called number.
     pub called: Number,
-    /// The moment of the answer, 0 to `LAST_MOMENT`, in units of 100 ms.
+    /// The moment of the answer, 0 to `MAX_MOMENT`, in units of 100 ms.
     pub at: u64,
     /// How long the call lasts whose price is asked for, 0 to `DAY`, in units of 100 ms.
     pub talk: Option<u32>,
@@ -50,7 +50,7 @@ pub struct QuoteAsk {
     pub credit: Option<u64>,
     /// How the moment of the switch is printed.
     pub clock: Clock,
-    pub ghost at_in_range: { at ≤ LAST_MOMENT },
+    pub ghost at_in_range: { at ≤ MAX_MOMENT },
     pub ghost talk_in_range: { unwrap_or talk 0 ≤ DAY },
     pub ghost credit_in_range: { unwrap_or credit 0 ≤ MAX_MONEY },
 }

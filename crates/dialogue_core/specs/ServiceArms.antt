@@ -9,7 +9,7 @@ use Rattle.cap_values.specs.declared.leg.Leg.{Leg}
 use Rattle.cap_values.specs.declared.leg.Leg.TheVariants.{One, Two}
 use Rattle.cap_values.specs.declared.mode.Mode.TheVariants.{Interrupted, NotifyAndContinue}
 
--- an event of which the service is told while the call goes on
+-- an event that is reported to the service while the call goes on
 abbrev pub notify_arming : Event → Arming
 notify_arming event = record { event = event; leg = None; mode = NotifyAndContinue }
 

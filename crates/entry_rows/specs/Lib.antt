@@ -4,6 +4,6 @@ pub mod Fits
 pub mod Laws
 pub mod Operations
 pub mod Replies
-pub mod Response
+pub mod Responses
 pub mod Versions
 pub mod Words

@@ -24,7 +24,8 @@ pub fn write_opening(
     write_no_steps(text, version)
 }
 
-/// Adds the columns of an operation, from op to x7, in version 4 to x9, each with a comma behind it.
+/// Adds the columns of an operation, from op to x7, in version 4 to x9, each with a comma behind
+/// it.
 pub fn write_operation(text: &mut String, version: Version, op: Op) -> Result<(), AllocError>
     ensures { OnOk result (string_bytes text.new ≡ string_bytes text.old
         ++ operation_text (operation_of version (asked_of op))) }

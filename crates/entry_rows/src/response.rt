@@ -9,8 +9,12 @@ use std::alloc::AllocError;
 
 /// Adds what an account answers an operation: its reply, such as `settled paid 550 available 450`,
 /// or `refused` and the name of the fault.
-pub fn write_response(text: &mut String, response: Result<Reply, AccountFault>) -> Result<(), AllocError>
-    ensures { OnOk result (string_bytes text.new ≡ string_bytes text.old ++ response_text response) }
+pub fn write_response(
+    text: &mut String,
+    response: Result<Reply, AccountFault>,
+) -> Result<(), AllocError>
+    ensures { OnOk result (string_bytes text.new ≡ string_bytes text.old
+        ++ response_text response) }
 {
     match response {
         Ok(reply) => write_reply(text, reply),

@@ -12,7 +12,8 @@ pub enum Version {
     Two,
     /// To `x7`, where a reserve has its moment; a credit has its last moment, or none, in `x2`.
     Three,
-    /// To `x9`, where a reserve has its billing steps: the least that is billed, and the step beyond.
+    /// To `x9`, where a reserve has its billing steps: the least that is billed, and the step
+    /// beyond.
     Four,
 }
 

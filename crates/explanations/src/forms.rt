@@ -4,7 +4,7 @@ use crate::Slip;
 use crate::found_rows::at;
 use crate::wants::{Column, Wants, first_refused};
 use csv::ByteRecord;
-use tariff_core::{DAY, HORIZON, LAST_MOMENT, MAX_MONEY, MAX_RATE};
+use tariff_core::{DAY, HORIZON, MAX_MOMENT, MAX_MONEY, MAX_RATE};
 
 /// Where the columns of an operation begin in a table of operations, and in one of books.
 const OP_OF_OPS: usize = 1;
@@ -25,7 +25,7 @@ pub(crate) const SCRIPT_WORDS: &[&str] = &[
 
 /// The column of a row of a script whose field the reader refuses.
 pub(crate) fn refused_in_script(row: &ByteRecord) -> Option<Column> {
-    let moment = column(0, Wants::Moment(LAST_MOMENT));
+    let moment = column(0, Wants::Moment(MAX_MOMENT));
     let call = column(1, Wants::Number(0, u64::MAX));
     let party = Wants::Digits(1, 15);
     let what = at(row, 2);
@@ -41,7 +41,7 @@ pub(crate) fn refused_in_script(row: &ByteRecord) -> Option<Column> {
     } else if what == b"recharge".as_slice() {
         let account = column(3, Wants::Number(0, u64::from(u32::MAX)));
         let amount = column(4, Wants::Number(0, MAX_MONEY));
-        let until = column(5, Wants::OptionalMoment(LAST_MOMENT));
+        let until = column(5, Wants::OptionalMoment(MAX_MOMENT));
         first_refused(row, end, &[moment, account, amount, until])
     } else {
         first_refused(row, end, &[moment, call])
@@ -53,7 +53,7 @@ pub(crate) fn refused_in_setup(row: &ByteRecord) -> Option<Column> {
     let number = Wants::Number(0, u64::from(u32::MAX));
     if at(row, 0) == b"account".as_slice() {
         let opening = column(2, Wants::Number(0, MAX_MONEY));
-        let until = column(3, Wants::OptionalMoment(LAST_MOMENT));
+        let until = column(3, Wants::OptionalMoment(MAX_MOMENT));
         first_refused(row, row.len(), &[column(1, number), opening, until])
     } else {
         let party = column(1, Wants::Digits(1, 15));

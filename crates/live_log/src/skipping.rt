@@ -28,7 +28,8 @@ impl<'a, L> Skipping<'a, L> {
 }
 
 impl<L: Write> Write for Skipping<'_, L> {
-    ghost contents = { λ skipping. in_front_of (left_of skipping) (L.contents (inner_of skipping)) };
+    ghost contents = { λ skipping. in_front_of (left_of skipping) (L.contents
+        (inner_of skipping)) };
 
     fn write(&mut self, buf: &[u8]) -> io::Result<usize> {
         if self.left.is_empty() {

@@ -84,7 +84,7 @@ pub record HoldAlike (one other : Holding) : Type 0 where
   pub lists : one.lists ≡ other.lists
   pub talks : (call : ℕ) → one.talks call ≡ other.talks call
 
--- two answers tell the same, and what the workers hold then is the same
+-- two answers say the same, and what the workers hold then is the same
 pub record AreAlike (answer also : AnswerView) (new other : Holding) : Type 0 where
   pub answer_is : answer ≡ also
   pub hold : HoldAlike new other

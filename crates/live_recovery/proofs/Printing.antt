@@ -1,4 +1,4 @@
--- What is printed of answers is in what they tell.
+-- What is printed of answers is in what they say.
 use Rattle.std.proofs.Common.{◌≡◌, ◌<◌, ◌≤◌, ◌++◌, ◌∙◌, ℕ, Option, Some, None, List, [], ◌∷◌, Ok, Err, map, refl, sym, ap, arith}
 use Rattle.std.proofs.lemmas.Option.{slice_get-map}
 use Rattle.std.specs.Fmt.{decimal}
@@ -39,7 +39,7 @@ all_said : (ops : List ScfOp) → map operation_said ops ≡ map order_said (ord
 all_said [] = refl
 all_said (op ∷ ops) = ap (λ s. s ∷ map operation_said ops) (one_said op) ∙ ap (λ l. order_said (order_of op) ∷ l) (all_said ops)
 
--- what an answer says is in what it tells
+-- what an answer says is in its view
 abbrev view_said : AnswerView → List Said
 view_said view = map order_said view.orders ++ (stray_said view.stray ++ refused_said view.refused)
 
@@ -54,7 +54,7 @@ rows_are : (head : List ℕ) (answer : Option Answer) → answer_rows head answe
 rows_are head None = refl
 rows_are head (Some answer) = ap (service_rows head) (answer_is answer)
 
--- the answers to the first so many messages tell the same
+-- the answers to the first so many messages say the same
 abbrev pub Agree : List Answer → List Answer → ℕ → Type 0
 Agree answers others count = (number : ℕ) → number < count → option_map answer_view (slice_get answers number) ≡ option_map answer_view (slice_get others number)
 
@@ -85,7 +85,7 @@ same_line answers others quiet line number count (Some (Ok message)) most agree 
     ap (λ rows. if nat_lt number quiet then [] else row_of number message ++ rows)
     (same_rows (slice_get answers number) (slice_get others number) (head_of_message number message) (agree number (omega (arith, most))))
 
--- what is printed of lines where the answers to their messages tell the same
+-- what is printed of lines where the answers to their messages say the same
 pub same_text : (replay : Replay) (answers others : List Answer) (line next : ℕ) (heard : List Heard) (count : ℕ) → next_behind next heard ≤ count → Agree answers others count
     → text_after replay answers line next heard ≡ text_after replay others line next heard
 same_text replay answers others line next [] count most agree = refl

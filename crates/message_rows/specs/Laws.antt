@@ -10,7 +10,7 @@ use Rattle.run_trace.specs.Said.{post_said}
 use Rattle.run_trace.specs.Tables.{head_of, trace_row, sender_of}
 use Rattle.run_values.specs.declared.post.Body.{Body}
 use Rattle.run_values.specs.declared.post.Body.TheVariants as body
-use Rattle.tariff_core.specs.declared.times.TheConstants.{LAST_MOMENT}
+use Rattle.tariff_core.specs.declared.times.TheConstants.{MAX_MOMENT}
 
 -- the times of a message fit their columns
 abbrev pub FitsMessage : SsfMsg → Type 0
@@ -22,7 +22,7 @@ FitsMessage message.Ended = Unit {0}
 -- the numbers of what is posted fit their columns
 abbrev pub FitsBody : Body → Type 0
 FitsBody (body.Ssf call msg) = IsWide call × FitsMessage msg
-FitsBody (body.Recharge account amount until) = (account ≤ 4294967295) × IsMoney amount × IfSome until (λ last. last ≤ LAST_MOMENT)
+FitsBody (body.Recharge account amount until) = (account ≤ 4294967295) × IsMoney amount × IfSome until (λ last. last ≤ MAX_MOMENT)
 
 -- the numbers of a post fit their columns
 pub record FitsPost (number : ℕ) (post : ℕ × Body) : Type 0 where

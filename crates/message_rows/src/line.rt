@@ -23,8 +23,8 @@ const COLUMNS: usize = 9;
 /// The message of a line, or none where it is empty: a line is read by itself, so that a bad one
 /// spoils no other.
 ///
-/// `Csv` where it hasn't just one row of nine fields, before the faults of `read_message`. The error
-/// is `OutOfMemory` where there is no memory for the fields of the line.
+/// `Csv` where it hasn't just one row of nine fields, before the faults of `read_message`. The
+/// error is `OutOfMemory` where there is no memory for the fields of the line.
 pub fn read_line(alloc: Global, line: &[u8]) -> Result<Option<Result<Message, RowKind>>, TableFault>
     ensures says { IfOk result (λ found. option_map (λ read.
         result_map_both view_of (λ kind. kind) read) found ≡ line_message line.now) }

@@ -30,8 +30,8 @@ pub struct Message {
 ///
 /// The words are those that a trace prints for a switch and for an operator. A moment is 0 to
 /// `HORIZON`; a number may be left out. Judged in this order: `What` where a word is another one;
-/// `Number` where a field isn't a decimal, a moment, or the digits of a party, within its range; `Empty`
-/// where a field that must be empty isn't.
+/// `Number` where a field isn't a decimal, a moment, or the digits of a party, within its range;
+/// `Empty` where a field that must be empty isn't.
 pub fn read_message(row: &ByteRecord) -> Result<Message, RowKind>
     requires { 8 < length (fields_of row.now) }
     ensures says { result_map_both view_of (λ kind. kind) result ≡ message_in (fields_of row.now) }
@@ -153,7 +153,8 @@ fn read_interval(row: &ByteRecord) -> Result<Option<u32>, RowKind>
 
 fn read_ended(row: &ByteRecord) -> Result<Body, RowKind>
     requires { 8 < length (fields_of row.now) }
-    ensures { result_map_both speech_of (λ kind. kind) result ≡ ended_message_in (fields_of row.now) }
+    ensures { result_map_both speech_of (λ kind. kind) result ≡ ended_message_in
+        (fields_of row.now) }
 {
     let call = read_call(row)?;
     let blank = is_blank(row, 5) && is_blank(row, 6) && is_blank(row, 7) && is_blank(row, 8);
@@ -168,7 +169,8 @@ fn read_ended(row: &ByteRecord) -> Result<Body, RowKind>
 
 fn read_recharge(row: &ByteRecord) -> Result<Body, RowKind>
     requires { 8 < length (fields_of row.now) }
-    ensures { result_map_both speech_of (λ kind. kind) result ≡ recharge_message_in (fields_of row.now) }
+    ensures { result_map_both speech_of (λ kind. kind) result ≡ recharge_message_in
+        (fields_of row.now) }
 {
     let account = account(row, 5)?;
     let amount = amount(row, 6)?;
@@ -183,7 +185,8 @@ fn read_recharge(row: &ByteRecord) -> Result<Body, RowKind>
 
 /// What is said, where the fields that must be empty are.
 fn when_blank(blank: bool, body: Body) -> Result<Body, RowKind>
-    ensures { result_map_both speech_of (λ kind. kind) result ≡ message_when_blank blank (speech_of body) }
+    ensures { result_map_both speech_of (λ kind. kind) result ≡ message_when_blank blank
+        (speech_of body) }
 {
     if blank { Ok(body) } else { Err(RowKind::Empty) }
 }

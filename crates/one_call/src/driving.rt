@@ -14,7 +14,7 @@ use cap_values::Number;
 use dialogue_core::ServiceConfig;
 use ssf_core::{BcsmEvent, Moment, SsfConfig};
 use std::alloc::Global;
-use tariff_core::{DAY, LAST_MOMENT, Route};
+use tariff_core::{DAY, MAX_MOMENT, Route};
 
 /// Drives one call (its number, the calling and the called party) from its start until no event,
 /// delivery or due moment is left, and says what it came to.
@@ -32,7 +32,7 @@ use tariff_core::{DAY, LAST_MOMENT, Route};
 /// the delay isn't 1 to the gsmSSF's `tccd`: then nothing is done. `OutOfMemory` where the queue of
 /// deliveries can't grow: what the port was asked by then is kept.
 ///
-/// Both configurations have the same `tccd`. The start and the events lie at 0 to `LAST_MOMENT`,
+/// Both configurations have the same `tccd`. The start and the events lie at 0 to `MAX_MOMENT`,
 /// and a switch of the route 1 to DAY units after the start.
 pub fn drive_call<P: Port>(
     alloc: Global,
@@ -46,8 +46,8 @@ pub fn drive_call<P: Port>(
     port: &mut P,
 ) -> Result<CallEnd, DriveFault>
     requires tccd { config.tccd ≡ service.now.tccd }
-    requires start { start ≤ LAST_MOMENT }
-    requires script { All (λ next. next.0 ≤ LAST_MOMENT) script.now }
+    requires start { start ≤ MAX_MOMENT }
+    requires script { All (λ next. next.0 ≤ MAX_MOMENT) script.now }
     requires route { ForSome route (λ route.
         ForSome route.switch_at (λ at. (start < at) × (at ≤ start + DAY))) }
     ensures forfeits { P.state port.old call.0 ≡ Some nothing_known

@@ -17,7 +17,7 @@ use dialogue_core::{Dialogue, ServiceConfig};
 use ssf_core::{BcsmEvent, Moment, Ssf, SsfConfig, send};
 use std::alloc::Global;
 use std::collections::VecDeque;
-use tariff_core::{DAY, HORIZON, LAST_MOMENT, Route};
+use tariff_core::{DAY, HORIZON, MAX_MOMENT, Route};
 
 /// Plays a call from its start until no event, delivery or due moment is left. The operations of an
 /// answer are delivered after a delay.
@@ -32,7 +32,7 @@ pub(crate) fn play<P: Port>(
     script: &[(Moment, BcsmEvent)],
     port: &mut P,
 ) -> Result<CallEnd, DriveFault>
-    requires start { start ≤ LAST_MOMENT }
+    requires start { start ≤ MAX_MOMENT }
     requires route { ForSome route (λ route.
         ForSome route.switch_at (λ at. (start < at) × (at ≤ start + DAY))) }
     ensures forfeits { P.state port.old call.0 ≡ Some nothing_known

@@ -200,7 +200,7 @@ filed_by ask (Err why) answer of_text is = rw is of_text
 pub filed_of : (ask : RunAsk) (folder input : List ℕ) (answer : Result Printout Fault) → IsAnswerTo (RunsInto ask folder) input answer → IfErr answer IsOfInput
 filed_of ask folder input answer is = filed_by ask (sized input) answer (sized_of input) is
 
--- ---- and is told
+-- ---- and is printed
 
 -- what is said over an input that was kept is said over the input
 said_over : {V W X : Type 0} (words : List (List ℕ)) (items : V → List ℕ) (text_of : W → List ℕ) (view : X → Printout) (known : Option (List ℕ)) (kept : Option V) (more : Option W)
@@ -306,7 +306,7 @@ module _ (words : List (List ℕ)) (status : ℕ) (old new : Written) where
 
 module _ {W X : Type 0} (text_of : W → List ℕ) (view : X → Printout) (words : List (List ℕ)) (status : ℕ) (old new : Written) (known : Option (List ℕ)) (more : Option W)
     (ending_answer : Result X Fault) where
-  -- the same, as the code tells it
+  -- the same, as the code says it
   pub helped_plainly : (answer : X) (text : List ℕ) → AsksHelp words ⊎ AsksVersion words → view answer ≡ plain text → ending_answer ≡ Ok answer → more ≡ None
       → IsSaidOrReported (option_map text_of more) (result_map_both view (λ why. why) ending_answer) status old new → Answers words known status old new
   helped_plainly answer text asked is answer_is none ending =

@@ -59,6 +59,6 @@ either_may_come : (is : Bool) → FaultMayAlwaysCome (if is then fault.Run run.O
 either_may_come true = tt
 either_may_come false = tt
 
--- what tells that an input failed may come at any input
+-- what says that an input failed may come at any input
 pub failed_may_come : (why : ErrorKind) (ending : Fault) → ending ≡ failed_input why → FaultMayAlwaysCome ending
 failed_may_come why ending is = rw is (either_may_come (is_out_of_memory why))

@@ -8,7 +8,7 @@ use Rattle.prepaid_command.specs.Input.{sized}
 use Rattle.prepaid_command.specs.Quotes.{IsQuoteText}
 use Rattle.prepaid_command.specs.Printouts.{Printout, plain}
 
--- the quote of the tariff that an input says is told
+-- the quote of the tariff that an input says is printed
 pub quoted : (wish : QuoteWish) (input bytes text : List ℕ) (bands : List Band) (printout : Printout) → sized input ≡ Ok bytes → tariff_in bytes ≡ Ok bands
     → IsQuoteText bands wish text → printout ≡ plain text → IsQuoteOfInput wish input (Ok printout)
 quoted wish input bytes text bands printout is_input is_tariff is_text ending =

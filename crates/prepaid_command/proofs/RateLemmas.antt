@@ -1,4 +1,4 @@
--- How a rating that has met a fault was told.
+-- How a rating that has met a fault was reported.
 use Rattle.std.proofs.Common.{ℕ, List, inl, inr, refl}
 use Rattle.rating.specs.Asks.{RateWish}
 use Rattle.rating.specs.Ends.{StopsBy}

@@ -54,7 +54,7 @@ abbrev pub replay_of_input : ℕ → ℕ → List ℕ → Result Printout Fault
 replay_of_input opening limit input = and_then (sized input) (λ text.
     and_then (meaning_in part.Ops (replayed opening limit (rows_of text))) (λ lines. Ok (plain lines)))
 
--- an answer of a run, its fault told as the program's
+-- an answer of a run, its fault as the program's
 pub record IsRunPrinted (ask : RunAsk) (text : List ℕ) (answer : Result Printout Fault) : Type 0 where
   pub made : Result RunSaid RunError
   pub is_made : IsRunAnswer ask text made
@@ -64,7 +64,7 @@ pub record IsRunPrinted (ask : RunAsk) (text : List ℕ) (answer : Result Printo
 abbrev pub IsRunOfInput : RunAsk → List ℕ → Result Printout Fault → Type 0
 IsRunOfInput ask input answer = MatchResult (sized input) (λ text. IsRunPrinted ask text answer) (λ why. answer ≡ Err why)
 
--- an answer of a run whose lines and tables go into files: nothing is printed once these are written, and a fault is told where they couldn't be; else the fault of the run is
+-- an answer of a run whose lines and tables go into files: nothing is printed once these are written, and a fault is reported where they couldn't be; else the fault of the run is
 pub record IsFiledRun (ask : RunAsk) (text : List ℕ) (answer : Result Printout Fault) : Type 0 where
   pub made : Result TablesSaid RunError
   pub is_made : IsTablesAnswer ask text made
@@ -78,7 +78,7 @@ IsFiledRunOfInput ask input answer = MatchResult (sized input) (λ text. IsFiled
 abbrev pub printout_of_audit : Audited → Printout
 printout_of_audit audit = record { text = audit.lines; passes = audit.passes; refused = [] }
 
--- an audit of the books of a table is told
+-- an audit of the books of a table is printed
 pub record IsAuditPrinted (ask : AuditAsk) (text : List ℕ) (books : Books) (answer : Result Printout Fault) : Type 0 where
   pub audit : Audited
   pub is_audit : IsAuditOf (most_rows ask.size) ask.lines ask.rows (rows_of text) books audit
@@ -93,7 +93,7 @@ IsAuditOfTable ask text answer =
 abbrev pub IsAuditOfInput : AuditAsk → List ℕ → Result Printout Fault → Type 0
 IsAuditOfInput ask input answer = MatchResult (sized_as ask.size input) (λ text. IsAuditOfTable ask text answer) (λ why. answer ≡ Err why)
 
--- a quote of this tariff is told
+-- a quote of this tariff is printed
 pub record IsQuotePrinted (bands : List Band) (wish : QuoteWish) (answer : Result Printout Fault) : Type 0 where
   pub text : List ℕ
   pub is_text : IsQuoteText bands wish text
@@ -160,7 +160,7 @@ pub record IsReportedWith (why : Fault) (text : List ℕ) (status : ℕ) (old ne
   pub line : AppendsFront old.faults new.faults (line_of_fault why ++ (codes "\n" ++ text))
   pub output : Keeps old.output new.output
 
--- an answer was told, or a fault, and what is said of it
+-- an answer was printed, or a fault reported, and what is said of it
 abbrev pub IsSaidOrReported : Option (List ℕ) → Result Printout Fault → ℕ → Written → Written → Type 0
 IsSaidOrReported more (Ok printout) status old new = IsPrinted printout (unwrap_or more []) status old new ⊎ IsCutOff printout status old new
 IsSaidOrReported None (Err why) status old new = IsReported why status old new
@@ -196,7 +196,7 @@ pub record IsRatedInput (wish : RateWish) (text : List ℕ) (status : ℕ) (old 
   pub status_is : status ≡ status_of_rating tally
   pub line : AppendsFront old.faults new.faults (summary_of wish tally)
 
--- the tariff or the header has a fault, which is told, and the output stays as it was
+-- the tariff or the header has a fault, which is reported, and the output stays as it was
 pub record IsRatingRefused (wish : RateWish) (text : List ℕ) (status : ℕ) (old new : Written) : Type 0 where
   pub why : RateFault
   pub refused : rate_input_of wish.names text ≡ Err why
@@ -210,7 +210,7 @@ pub record IsBroken (wish : RateWish) (text : List ℕ) (status : ℕ) (old new 
   pub front : Keeps old.output new.output ⊎ IsInPart wish.differing (rate_input_of wish.names text) old.output new.output
   pub line : IsOfFailure old.faults new.faults
 
--- how records that are rated as they come were told: whole, refused, or broken off
+-- how records that are rated as they come were printed: whole, refused, or broken off
 abbrev pub IsRatedByWish : RateWish → List ℕ → ℕ → Written → Written → Type 0
 IsRatedByWish wish text status old new = IsRatedInput wish text status old new ⊎ IsRatingRefused wish text status old new ⊎ IsBroken wish text status old new
 

@@ -122,7 +122,7 @@ of_serve (serve.Live live.Output) = None
 of_serve (serve.Live live.Log) = Some (fault.Log log.Device)
 of_serve (serve.Run why) = Some (fault.Run why)
 
--- what a part of the input of a run means, its faults told as the program's
+-- what a part of the input of a run means, its faults as the program's
 abbrev pub meaning_of_part : {X : Type 0} → Result X InputFault → Result X Fault
 meaning_of_part (Ok x) = Ok x
 meaning_of_part (Err why) = Err (of_run_input why)

@@ -16,7 +16,7 @@ use std::alloc::{AllocError, Global};
 use std::convert::AsStr;
 use std::io::Error;
 
-/// What is told: an answer, or a fault, and what is said of that behind its line.
+/// How a command ends: an answer, or a fault, and what is said of that behind its line.
 #[derive(Drop)]
 pub(crate) struct Ending {
     /// The answer, or the fault.

@@ -23,7 +23,8 @@ pub fn read_reports<I: Read + Drop>(
     reader: I,
 ) -> Result<Vec<Times>, TableFault>
     ensures { IfSome (I.remaining reader) (λ text.
-        GivesTable (λ reports. reports.items) result (table_reports_of (rates_of plan.now) (rows_of text))) }
+        GivesTable (λ reports. reports.items) result (table_reports_of (rates_of plan.now)
+        (rows_of text))) }
 {
     let mut table = Table::open(alloc, reader, &[&["before", "after"]], MAX_ROWS)?;
     let mut reports = Vec::new(alloc);

@@ -13,6 +13,7 @@ ghost use Rattle.prepaid_command.specs.Refused.{refused_line};
 ghost use Rattle.prepaid_command.specs.Printouts.{printout_of};
 
 use crate::answer::Answer;
+use crate::ending::Ending;
 use crate::error_lines::{refused_line, report, report_with, write_both};
 use crate::fault::{Fault, Part};
 use crate::input::read_input;
@@ -22,7 +23,6 @@ use crate::rating_rows::rate_input;
 use crate::replaying::replay;
 use crate::running::{Folder, run_into_folder, run_script};
 use crate::serving::serve_messages;
-use crate::ending::Ending;
 use book_texts::{AuditAsk, BookSize, audit_books};
 use command_words::{Opening, QuoteAsk, Request, explains, read_words};
 use rating::write_text;
@@ -134,7 +134,11 @@ where
         Ok(Request::Serve(options, log)) => {
             serve_messages(rt, alloc, &options, log, input, output, faults)
         }
-        Err(why) => tell(output, faults, Ending::of_words(alloc, explains, words, why)),
+        Err(why) => tell(
+            output,
+            faults,
+            Ending::of_words(alloc, explains, words, why),
+        ),
     }
 }
 

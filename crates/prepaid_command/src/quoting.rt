@@ -10,7 +10,7 @@ use moment_texts::{Clock, MomentField, TimeOfDay};
 use rating::{Charge, charge_call};
 use std::alloc::{AllocError, Global};
 use table_core::write_digits;
-use tariff_core::{DAY, HORIZON, LAST_MOMENT, Plan, Quote, Route, Tariff, Times, afford};
+use tariff_core::{DAY, HORIZON, MAX_MOMENT, Plan, Quote, Route, Tariff, Times, afford};
 
 /// What a call to a number costs at a moment: the band and the switch, and the price of a call and
 /// the units that a credit affords where they are asked for; `no route` where no prefix fits.
@@ -36,7 +36,8 @@ fn write_quote(text: &mut String, ask: &QuoteAsk, quote: &Quote<'_>) -> Result<(
     requires { IfSome quote.now.route.switch_at (λ at. (ask.now.at < at)
         × (at ≤ ask.now.at + DAY)) }
     ensures { OnOk result (string_bytes text.new ≡ string_bytes text.old
-        ++ quote_lines (quote_wish_of ask.now) quote.now.prefix.now quote.now.start quote.now.route) }
+        ++ quote_lines (quote_wish_of ask.now) quote.now.prefix.now quote.now.start
+        quote.now.route) }
 {
     let plan = &quote.route.plan;
     write_band(text, quote.prefix, quote.start, plan)?;

@@ -30,7 +30,8 @@ pub(crate) fn rate_input<I: Read + Drop, O: Write, E: Write>(
     output: &mut O,
     faults: &mut E,
 ) -> u8
-    ensures rated { IfSome (I.remaining input) (λ text. IsRatedByWish (rate_wish_of ask.now) text result
+    ensures rated { IfSome (I.remaining input) (λ text. IsRatedByWish
+        (rate_wish_of ask.now) text result
         (record { output = O.contents output.old; faults = E.contents faults.old })
         (record { output = O.contents output.new; faults = E.contents faults.new })) }
     ensures silent { result ≡ 1 → Keeps (O.contents output.old) (O.contents output.new) }

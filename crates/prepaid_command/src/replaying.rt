@@ -64,7 +64,8 @@ pub fn replay<I: Read + Drop>(
 
 /// Adds the line of an answer. Memory that runs out has no line: it ends the replay.
 fn write_answer(text: &mut String, answer: Result<Reply, AccountFault>) -> Result<(), TableFault>
-    ensures line { OnOk result (string_bytes text.new ≡ string_bytes text.old ++ response_line answer) }
+    ensures line { OnOk result (string_bytes text.new ≡ string_bytes text.old
+        ++ response_line answer) }
     ensures ending { OnOk result (answer ≢ Err AccountFault.OutOfMemory) }
     ensures fault { IfErr result (λ fault. fault ≡ out.OutOfMemory) }
 {

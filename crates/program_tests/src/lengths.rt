@@ -70,8 +70,8 @@ impl Read for Zeros<'_> {
 
 #[test]
 fn bounds_the_input(rt: HostRuntime) -> Result<(), Fail> {
-    // How many bytes there are, how many of them are taken, and the fault. They are taken a buffer of
-    // 8192 bytes at a time: a byte above the limit is in the 2049th.
+    // How many bytes there are, how many of them are taken, and the fault. They are taken a buffer
+    // of 8192 bytes at a time: a byte above the limit is in the 2049th.
     let rows = [
         (16_777_216, 16_777_216, "prepaid: reports row 1: Header\n"),
         (16_777_217, 16_777_217, "prepaid: input: TooLong\n"),

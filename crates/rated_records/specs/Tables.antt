@@ -24,7 +24,7 @@ use Rattle.shared_account.specs.Closed.{Closed}
 use Rattle.shared_account.specs.Refusals.{Knowing}
 use Rattle.table_core.specs.Decimals.{digits_text}
 use Rattle.table_core.specs.Rows.{Fields}
-use Rattle.tariff_core.specs.declared.times.TheConstants.{LAST_MOMENT}
+use Rattle.tariff_core.specs.declared.times.TheConstants.{MAX_MOMENT}
 
 -- what `rate --answer start` is asked for: the usual names, but for the start in place of the answer
 abbrev pub names_by_start : NamesWish
@@ -46,7 +46,7 @@ record_fields clock call =
 pub record IsPrintable (call : CallRecord) : Type 0 where
   pub number : call.call < 2 ^ 64
   pub account : IfSome call.account (λ account. account < 2 ^ 64)
-  pub start : call.start ≤ LAST_MOMENT
+  pub start : call.start ≤ MAX_MOMENT
   pub answer : IfSome call.answer (λ at. at < 2 ^ 64)
   pub end : IfSome call.end (λ at. at < 2 ^ 64)
 

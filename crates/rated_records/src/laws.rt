@@ -32,7 +32,7 @@ pub fn records_have_no_difference<S: Shared>()
 /// `--differing`, and all rows pass.
 ///
 /// It takes what `records_have_no_difference` takes of a run, and that the numbers of the records
-/// have 64 bits and their starts are moments up to `LAST_MOMENT` (`IsPrintable`). That the tariff
+/// have 64 bits and their starts are moments up to `MAX_MOMENT` (`IsPrintable`). That the tariff
 /// is proper needs no premise, since `rate` reads it.
 pub fn tables_have_no_difference<S: Shared>()
     ensures rated { TablesHaveNoDifference S.stood }

@@ -1,5 +1,5 @@
-//! The records of a run's calls, held against its tariff: what `run --calls` prints, `rate` finds to
-//! be right.
+//! The records of a run's calls, held against its tariff: what `run --calls` prints, `rate` finds
+//! to be right.
 #![tactic(auto)]
 
 mod laws;

@@ -9,7 +9,7 @@ use Rattle.table_core.specs.Fields.{field_in, is_blank}
 use Rattle.table_core.specs.Judging.{and_then}
 use Rattle.table_core.specs.Rows.{Fields}
 use Rattle.tariff_core.specs.declared.plan.TheConstants.{MAX_MONEY}
-use Rattle.tariff_core.specs.declared.times.TheConstants.{DAY, LAST_MOMENT}
+use Rattle.tariff_core.specs.declared.times.TheConstants.{DAY, MAX_MOMENT}
 use Rattle.rating.specs.declared.call.Answered.{Answered}
 use Rattle.rating.specs.declared.call.Talk.{Talk}
 use Rattle.rating.specs.declared.call.Talk.TheVariants as talk
@@ -44,7 +44,7 @@ needed_number fields place most = ok_or (decimal_of most (field_in fields place)
 
 -- a moment that must be there
 abbrev pub needed_moment : Fields → ℕ → Result ℕ RateKind
-needed_moment fields place = ok_or (moment_of LAST_MOMENT (field_in fields place)) kind.Number
+needed_moment fields place = ok_or (moment_of MAX_MOMENT (field_in fields place)) kind.Number
 
 -- a number where the field isn't empty
 abbrev pub present_number : Result ℕ RateKind → Result (Option ℕ) RateKind
@@ -82,7 +82,7 @@ abbrev pub charged_in : Fields → Option ℕ → Result (Option ℕ) RateKind
 charged_in fields None = Ok None
 charged_in fields (Some place) = optional_number fields place MAX_MONEY
 
--- what the columns of a row say; that an end is out of order is told last
+-- what the columns of a row say; that an end is out of order is found last
 unfoldable pub call_in : Fields → Columns → Result CallSaid RateKind
 call_in fields columns =
     and_then (called_in fields columns.called) (λ called. and_then (charged_in fields columns.paid) (λ paid. and_then (answered_in fields columns) (λ answered.
@@ -100,5 +100,5 @@ IsWithinDay (talk.Splits before and_then) = before + and_then ≤ DAY
 
 -- the answer and the times lie in their ranges
 pub record AnsweredIsInRange (answered : Answered) : Type 0 where
-  pub at : answered.at ≤ LAST_MOMENT
+  pub at : answered.at ≤ MAX_MOMENT
   pub talk : IsWithinDay answered.talk

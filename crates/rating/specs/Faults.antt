@@ -12,7 +12,7 @@ abbrev pub of_rows : TableFault → RateFault
 of_rows table.OutOfMemory = fault.Input input.OutOfMemory
 of_rows _ = fault.Input input.Device
 
--- what an input says, its fault told as one of `rate`
+-- what an input says, its fault as one of `rate`
 abbrev pub as_rate_fault : {X : Type 0} → Result X InputFault → Result X RateFault
 as_rate_fault (Ok x) = Ok x
 as_rate_fault (Err why) = Err (fault.Input why)

@@ -13,7 +13,7 @@ use cap_values::MAX_DIGITS;
 use csv::ByteRecord;
 use moment_texts::moment;
 use table_core::{are_digits, decimal, field, is_blank};
-use tariff_core::{DAY, LAST_MOMENT, MAX_MONEY};
+use tariff_core::{DAY, MAX_MOMENT, MAX_MONEY};
 
 /// The most bytes of a row, as `csv` writes it, the end of its line counted as one.
 pub const MAX_ROW: usize = 65_536;
@@ -52,7 +52,8 @@ impl<'a> Call<'a> {
     #[tactic(auto, unfolding(crate::specs::Calls::call_in))]
     pub(crate) fn read(row: &'a ByteRecord, columns: &Columns) -> Result<Call<'a>, RateKind>
         requires { HasAllColumns (length (fields_of row.now)) columns.now }
-        ensures value { result_map_both said_by (λ kind. kind) result ≡ call_in (fields_of row.now) columns.now }
+        ensures value { result_map_both said_by (λ kind. kind) result ≡ call_in
+            (fields_of row.now) columns.now }
         ensures within { IfOk result (λ call. IfSome call.answered AnsweredIsInRange) }
         ensures paid { IfOk result (λ call. unwrap_or call.paid 0 ≤ MAX_MONEY) }
     {
@@ -70,7 +71,8 @@ impl<'a> Call<'a> {
 /// The number called.
 fn called(row: &ByteRecord, place: usize) -> Result<&[u8], RateKind>
     requires { place < length (fields_of row.now) }
-    ensures { result_map_both (λ digits. digits.now) (λ kind. kind) result ≡ called_in (fields_of row.now) place }
+    ensures { result_map_both (λ digits. digits.now) (λ kind. kind) result ≡ called_in
+        (fields_of row.now) place }
 {
     let digits = field(row, place);
     if !digits.is_empty() && digits.len() <= MAX_DIGITS && are_digits(digits) {
@@ -151,9 +153,9 @@ fn paid(row: &ByteRecord, place: Option<usize>) -> Result<Option<u64>, RateKind>
 fn read_moment(row: &ByteRecord, place: usize) -> Result<u64, RateKind>
     requires { place < length (fields_of row.now) }
     ensures value { result ≡ needed_moment (fields_of row.now) place }
-    ensures within { IfOk result (λ at. at ≤ LAST_MOMENT) }
+    ensures within { IfOk result (λ at. at ≤ MAX_MOMENT) }
 {
-    moment(field(row, place), LAST_MOMENT).ok_or(RateKind::Number)
+    moment(field(row, place), MAX_MOMENT).ok_or(RateKind::Number)
 }
 
 /// The number in a field, none where it is empty.

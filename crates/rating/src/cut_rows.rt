@@ -42,7 +42,8 @@ impl<R: Read> Read for CutRows<R> {
     ghost use Rattle.std.specs.Prelude.{option_map};
     ghost use Rattle.rating.specs.Cuts.{passed_text, cut_place, reader_of};
 
-    ghost remaining = { λ rows. option_map (passed_text (cut_place rows)) (R.remaining (reader_of rows)) };
+    ghost remaining = { λ rows. option_map (passed_text (cut_place rows)) (R.remaining
+        (reader_of rows)) };
 
     fn read(&mut self, buf: &mut [u8]) -> Result<usize> {
         for _turn in 0..u64::MAX {

@@ -13,7 +13,7 @@ use Rattle.run_options.specs.declared.options.RunAsk.{RunAsk}
 use Rattle.run_texts.specs.Views.{rows_are_in_order}
 use Rattle.run_texts.specs.declared.script.ScriptRow.{ScriptRow}
 use Rattle.run_values.specs.Setups.{Setup}
-use Rattle.tariff_core.specs.declared.times.TheConstants.{LAST_MOMENT}
+use Rattle.tariff_core.specs.declared.times.TheConstants.{MAX_MOMENT}
 
 -- what came of a part that was kept
 abbrev pub kept_as : Part → Result Part RunError
@@ -66,10 +66,10 @@ module _ {V : Type 0} (inside : V → List ScriptRow) (script_of : Turn → V) (
 
 -- the rows of each turn are in range and in order, where those of each script are
 pub all_in_order : {V : Type 0} (inside : V → List ScriptRow) (script_of : Turn → V) → ((turn : Turn) → inside (script_of turn) ≡ turn.script.items) → (turns : List Turn) (scripts : List V)
-    → map script_of turns ≡ scripts → All (λ rows. All (λ row. row.at ≤ LAST_MOMENT) (inside rows)) scripts → All (λ rows. rows_are_in_order 0 (inside rows) ≡ true) scripts → All IsInOrder turns
+    → map script_of turns ≡ scripts → All (λ rows. All (λ row. row.at ≤ MAX_MOMENT) (inside rows)) scripts → All (λ rows. rows_are_in_order 0 (inside rows) ≡ true) scripts → All IsInOrder turns
 all_in_order inside script_of same turns scripts are in_range in_order = λ k d within.
     let there : k < length (map script_of turns) = let many = length-map turns script_of in omega (arith, within, many) in
-    let In_range : List ScriptRow → Type 0 = λ rows. All (λ row. row.at ≤ LAST_MOMENT) rows in
+    let In_range : List ScriptRow → Type 0 = λ rows. All (λ row. row.at ≤ MAX_MOMENT) rows in
     let In_order : List ScriptRow → Type 0 = λ rows. rows_are_in_order 0 rows ≡ true in
     let own : All (λ rows. In_range (inside rows)) (map script_of turns) = subst (λ (s : List _). All (λ rows. In_range (inside rows)) s) (sym are) in_range in
     let ordered : All (λ rows. In_order (inside rows)) (map script_of turns) = subst (λ (s : List _). All (λ rows. In_order (inside rows)) s) (sym are) in_order in

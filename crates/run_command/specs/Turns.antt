@@ -6,11 +6,11 @@ use Rattle.run_command.specs.declared.turns.Turn.{Turn}
 use Rattle.run_options.specs.declared.options.RunAsk.{RunAsk}
 use Rattle.run_texts.specs.Views.{rows_are_in_order}
 use Rattle.run_values.specs.Setups.{Setup}
-use Rattle.tariff_core.specs.declared.times.TheConstants.{LAST_MOMENT}
+use Rattle.tariff_core.specs.declared.times.TheConstants.{MAX_MOMENT}
 
 -- the rows of a part are in range, and in order
 pub record IsInOrder (turn : Turn) : Type 0 where
-  pub in_range : All (λ row. row.at ≤ LAST_MOMENT) turn.script.items
+  pub in_range : All (λ row. row.at ≤ MAX_MOMENT) turn.script.items
   pub in_order : rows_are_in_order 0 turn.script.items ≡ true
 
 -- a part was played: this was kept of it, or it has a fault that such a run may have

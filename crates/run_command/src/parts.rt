@@ -24,7 +24,7 @@ use shared_account::Book;
 use std::alloc::{AllocError, Global};
 use std::sync::Wait;
 use std::thread::Threads;
-use tariff_core::LAST_MOMENT;
+use tariff_core::MAX_MOMENT;
 
 /// What is kept of a part that was played, or of all.
 #[derive(Drop)]
@@ -40,7 +40,7 @@ pub(crate) struct Part {
 }
 
 /// Plays a script in parts, by as many threads as are asked for, and prints what all of them come
-/// to. The fault told is that of the first part that has one.
+/// to. The fault is that of the first part that has one.
 pub(crate) fn run_in_parts<R: Wait + Threads + Sync>(
     rt: &R,
     alloc: Global,
@@ -49,7 +49,7 @@ pub(crate) fn run_in_parts<R: Wait + Threads + Sync>(
     setup: &RunSetup,
     script: Vec<ScriptRow>,
 ) -> Result<Ran, RunError>
-    requires in_range { All (λ row. row.at ≤ LAST_MOMENT) script.items }
+    requires in_range { All (λ row. row.at ≤ MAX_MOMENT) script.items }
     requires in_order { rows_are_in_order 0 script.items ≡ true }
     ensures ran { IfOk result (λ ran.
         IsInParts asked.count (ask_of options.now) setup.now script.items
@@ -76,7 +76,7 @@ pub(crate) fn play_part<R: Wait + Threads + Sync>(
     number: usize,
     script: Vec<ScriptRow>,
 ) -> Result<Part, RunError>
-    requires in_range { All (λ row. row.at ≤ LAST_MOMENT) script.items }
+    requires in_range { All (λ row. row.at ≤ MAX_MOMENT) script.items }
     requires in_order { rows_are_in_order 0 script.items ≡ true }
     ensures part { IfOk result (IsKeptPart
         (ask_of options.now) setup.now firsts.now number script.items) }

@@ -18,7 +18,7 @@ use shared_account::{Book, OpenGate};
 use std::alloc::Global;
 use std::sync::Wait;
 use std::thread::Threads;
-use tariff_core::LAST_MOMENT;
+use tariff_core::MAX_MOMENT;
 
 /// A script that was played.
 #[derive(Drop)]
@@ -37,7 +37,7 @@ pub(crate) fn play<R: Wait + Threads + Sync>(
     setup: &RunSetup,
     script: Vec<ScriptRow>,
 ) -> Result<Played, RunError>
-    requires in_range { All (λ row. row.at ≤ LAST_MOMENT) script.items }
+    requires in_range { All (λ row. row.at ≤ MAX_MOMENT) script.items }
     requires in_order { rows_are_in_order 0 script.items ≡ true }
     ensures workers { IfOk result (λ _. are_workers options.now.workers ≡ true) }
     ensures played { IfOk result (IsPlayedRun (ask_of options.now) setup.now script.items) }

@@ -23,7 +23,7 @@ use runs_core::Driver;
 use std::alloc::{AllocError, Global};
 use std::sync::Wait;
 use std::thread::Threads;
-use tariff_core::LAST_MOMENT;
+use tariff_core::MAX_MOMENT;
 
 /// What a run prints.
 #[derive(Drop)]
@@ -40,8 +40,9 @@ pub struct Ran {
 /// accounts and of all that the script says of them; its text is that of the books and the calls of
 /// all parts together.
 ///
-/// The input is judged first, its parts in order, and its first fault is told. `Workers` where
-/// there can't be so many workers; any other fault of a run comes as `runs_core::serve` has it.
+/// The input is judged first, its parts in order, and its first fault is the result. `Workers`
+/// where there can't be so many workers; any other fault of a run comes as `runs_core::serve` has
+/// it.
 pub fn run<R: Wait + Threads + Sync>(
     rt: &R,
     alloc: Global,
@@ -68,7 +69,7 @@ fn run_whole<R: Wait + Threads + Sync>(
     setup: &RunSetup,
     script: Vec<ScriptRow>,
 ) -> Result<Ran, RunError>
-    requires in_range { All (λ row. row.at ≤ LAST_MOMENT) script.items }
+    requires in_range { All (λ row. row.at ≤ MAX_MOMENT) script.items }
     requires in_order { rows_are_in_order 0 script.items ≡ true }
     ensures ran { IfOk result (λ ran.
         IsWhole (ask_of options.now) setup.now script.items (run_said_of ran)) }

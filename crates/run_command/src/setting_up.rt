@@ -11,7 +11,7 @@ use run_options::RunOptions;
 use run_texts::{ScriptRow, read_texts};
 use run_values::RunSetup;
 use std::alloc::Global;
-use tariff_core::LAST_MOMENT;
+use tariff_core::MAX_MOMENT;
 
 /// What a run begins with.
 #[derive(Drop)]
@@ -23,11 +23,11 @@ pub(crate) struct Start {
 }
 
 /// What the run of an input begins with. The input is judged, its parts in order, and its first
-/// fault is told.
+/// fault is the result.
 pub(crate) fn set_up(alloc: Global, options: &RunOptions, input: &[u8]) -> Result<Start, RunError>
     ensures start { IfOk result (λ start.
         IsStartOf (ask_of options.now) input.now start.setup start.script.items) }
-    ensures in_range { IfOk result (λ start. All (λ row. row.at ≤ LAST_MOMENT) start.script.items) }
+    ensures in_range { IfOk result (λ start. All (λ row. row.at ≤ MAX_MOMENT) start.script.items) }
     ensures in_order { IfOk result (λ start. rows_are_in_order 0 start.script.items ≡ true) }
     ensures fault { IfErr result (MayNotStart input.now) }
 {

@@ -21,7 +21,7 @@ use run_values::RunSetup;
 use std::alloc::{AllocError, Global};
 use std::sync::Wait;
 use std::thread::Threads;
-use tariff_core::LAST_MOMENT;
+use tariff_core::MAX_MOMENT;
 
 /// All that one and the same run prints.
 #[derive(Drop)]
@@ -66,7 +66,7 @@ fn play_tables<R: Wait + Threads + Sync>(
     setup: &RunSetup,
     script: Vec<ScriptRow>,
 ) -> Result<RunTables, RunError>
-    requires in_range { All (λ row. row.at ≤ LAST_MOMENT) script.items }
+    requires in_range { All (λ row. row.at ≤ MAX_MOMENT) script.items }
     requires in_order { rows_are_in_order 0 script.items ≡ true }
     ensures tables { IfOk result (λ tables.
         AreWhole (ask_of options.now) setup.now script.items (tables_said tables)) }

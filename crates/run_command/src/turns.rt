@@ -19,7 +19,7 @@ use std::alloc::{AllocError, Global};
 use std::sync::Wait;
 use std::thread::Threads;
 use std::{mem, thread};
-use tariff_core::LAST_MOMENT;
+use tariff_core::MAX_MOMENT;
 
 /// A part that is to be played, or was.
 #[derive(Drop)]
@@ -31,7 +31,7 @@ pub(crate) struct Turn {
 }
 
 /// Plays parts by at most so many threads, and gives what is kept of each, in order. All threads
-/// are waited for. The fault told is that of the first part that has one.
+/// are waited for. The fault is that of the first part that has one.
 pub(crate) fn play_all<R: Wait + Threads + Sync>(
     rt: &R,
     alloc: Global,
@@ -41,7 +41,7 @@ pub(crate) fn play_all<R: Wait + Threads + Sync>(
     firsts: &Firsts,
     scripts: Vec<Vec<ScriptRow>>,
 ) -> Result<Vec<Part>, RunError>
-    requires in_range { All (λ rows. All (λ row. row.at ≤ LAST_MOMENT) rows.items) scripts.items }
+    requires in_range { All (λ rows. All (λ row. row.at ≤ MAX_MOMENT) rows.items) scripts.items }
     requires in_order { All (λ rows. rows_are_in_order 0 rows.items ≡ true) scripts.items }
     ensures parts { IfOk result (λ parts. ArePlayed (ask_of options.now) setup.now firsts.now
         (map (λ rows. rows.items) scripts.items) parts.items) }

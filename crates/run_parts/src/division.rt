@@ -14,7 +14,7 @@ use run_texts::{Happening, ScriptRow};
 use run_values::RunSetup;
 use std::alloc::{AllocError, Global};
 use std::collections::BTreeMap;
-use tariff_core::LAST_MOMENT;
+use tariff_core::MAX_MOMENT;
 
 /// A script that is divided.
 #[derive(Drop)]
@@ -45,8 +45,8 @@ pub fn divide(
     ensures parts { IfOk result (λ division. AreParts division.firsts
         (payer_of (with_digits setup.now.subscribers) (map script_event script.items))
         script.items (map (λ rows. rows.items) division.scripts.items)) }
-    ensures in_range { IfOk result (λ division. All (λ row. row.at ≤ LAST_MOMENT) script.items
-        → All (λ rows. All (λ row. row.at ≤ LAST_MOMENT) rows.items) division.scripts.items) }
+    ensures in_range { IfOk result (λ division. All (λ row. row.at ≤ MAX_MOMENT) script.items
+        → All (λ rows. All (λ row. row.at ≤ MAX_MOMENT) rows.items) division.scripts.items) }
     ensures in_order { IfOk result (λ division. rows_are_in_order 0 script.items ≡ true
         → All (λ rows. rows_are_in_order 0 rows.items ≡ true) division.scripts.items) }
 {

@@ -15,7 +15,7 @@ pub record ScriptEvent : Type 0 where
   pub at : ℕ
   pub what : Happens
 
--- whether a recharge has a last moment of 0 to `LAST_MOMENT`, if it has one
+-- whether a recharge has a last moment of 0 to `MAX_MOMENT`, if it has one
 abbrev pub is_in_time : Happens → Bool
 is_in_time (Starts call calling called) = true
 is_in_time (Meets call event) = true

@@ -23,7 +23,7 @@ pub record RunInput : Type 0 where
 abbrev pub input_in : RunTexts → RunInput
 input_in texts = record { tariff = texts.tariff; setup = setup_in texts.directory; script = map script_event texts.script.items }
 
--- the meaning of a part, whose faults are told so
+-- the meaning of a part, whose faults are named so
 abbrev pub as_input_fault : {X E : Type 0} → (E → InputFault) → Result X E → Result X InputFault
 as_input_fault tell (Ok x) = Ok x
 as_input_fault tell (Err why) = Err (tell why)

@@ -17,7 +17,7 @@ use Rattle.run_texts.specs.declared.script.Word.{Word}
 use Rattle.run_texts.specs.declared.script.Word.TheVariants as word
 use Rattle.run_values.specs.Setups.{has_account}
 use Rattle.run_values.specs.declared.directory.OpeningCredit.{OpeningCredit}
-use Rattle.tariff_core.specs.declared.times.TheConstants.{LAST_MOMENT}
+use Rattle.tariff_core.specs.declared.times.TheConstants.{MAX_MOMENT}
 
 -- ---- words
 
@@ -74,7 +74,7 @@ happens_in fields word.Recharge = recharge_row_in fields
 
 -- what happens in a row, and its moment of 0 to 10^12
 abbrev pub read_in : List (List ℕ) → Result ScriptEvent RowKind
-read_in fields = and_then (row_word_in fields) (λ word. and_then (moment_in fields 0 LAST_MOMENT) (λ at. and_then (happens_in fields word) (λ what. Ok (record { at = at; what = what }))))
+read_in fields = and_then (row_word_in fields) (λ word. and_then (moment_in fields 0 MAX_MOMENT) (λ at. and_then (happens_in fields word) (λ what. Ok (record { at = at; what = what }))))
 
 -- ---- rows; the earlier ones newest first
 

@@ -17,7 +17,7 @@ use Rattle.moment_texts.specs.Fields.{optional_moment_in}
 use Rattle.run_values.specs.Setups.{has_account}
 use Rattle.run_values.specs.declared.directory.OpeningCredit.{OpeningCredit}
 use Rattle.tariff_core.specs.declared.plan.TheConstants.{MAX_MONEY}
-use Rattle.tariff_core.specs.declared.times.TheConstants.{LAST_MOMENT}
+use Rattle.tariff_core.specs.declared.times.TheConstants.{MAX_MOMENT}
 
 -- accounts in ascending order, each a number and its opening credit, and subscribers in the order of their digits, each with its account
 pub record TableSetup : Type 0 where
@@ -44,7 +44,7 @@ amount_in fields place = number_in fields place MAX_MONEY
 
 -- the last moment in the field at a place, 0 to 10^12; none where the field is empty, or isn't there under the table's header
 abbrev pub until_in : List (List ℕ) → ℕ → Result (Option ℕ) RowKind
-until_in fields place = optional_moment_in fields place LAST_MOMENT
+until_in fields place = optional_moment_in fields place MAX_MOMENT
 
 -- ---- rows; the fourth field is there under the second header alone, and empty elsewhere
 

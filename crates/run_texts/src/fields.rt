@@ -14,7 +14,7 @@ use moment_texts::moment_field;
 use ssf_core::Moment;
 use std::str;
 use table_core::{RowKind, field, is_blank, number};
-use tariff_core::{LAST_MOMENT, MAX_MONEY};
+use tariff_core::{MAX_MOMENT, MAX_MONEY};
 
 /// The number of an account: a decimal of 32 bits.
 pub fn account(row: &ByteRecord, place: usize) -> Result<u32, RowKind>
@@ -33,7 +33,7 @@ pub fn amount(row: &ByteRecord, place: usize) -> Result<u64, RowKind>
     number(row, place, MAX_MONEY)
 }
 
-/// The last moment in the field at `place`: 0 to `LAST_MOMENT`, as units or as a date and a time, or
+/// The last moment in the field at `place`: 0 to `MAX_MOMENT`, as units or as a date and a time, or
 /// none where the field is left out.
 pub fn until(row: &ByteRecord, place: usize) -> Result<Option<Moment>, RowKind>
     ensures value { result ≡ until_in (fields_of row.now) place }
@@ -42,7 +42,7 @@ pub fn until(row: &ByteRecord, place: usize) -> Result<Option<Moment>, RowKind>
     if is_left_out(row, place) {
         return Ok(None);
     }
-    Ok(Some(moment_field(row, place, LAST_MOMENT)?))
+    Ok(Some(moment_field(row, place, MAX_MOMENT)?))
 }
 
 /// Whether the field at `place` is empty, or the row ends before it.

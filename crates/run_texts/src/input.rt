@@ -17,7 +17,7 @@ ghost use Rattle.run_texts.specs.declared.input_fault.InputFault.TheVariants as 
 use crate::{InputFault, ScriptRow, script, setup};
 use run_values::Directory;
 use std::alloc::Global;
-use tariff_core::{LAST_MOMENT, Tariff};
+use tariff_core::{MAX_MOMENT, Tariff};
 
 /// What the input of a run says.
 #[derive(Drop)]
@@ -30,12 +30,12 @@ pub struct RunTexts {
     pub script: Vec<ScriptRow>,
 }
 
-/// Reads an input of three parts. The first fault is told, the parts judged in order.
+/// Reads an input of three parts. The first fault is the result, the parts judged in order.
 pub fn read_texts(alloc: Global, input: &[u8]) -> Result<RunTexts, InputFault>
     ensures means { GivesInput input_in result (input_of input.now) }
     ensures within { IfOk result (λ texts. ListingIsWithin texts.directory) }
     ensures in_range { IfOk result
-        (λ texts. All (λ row. row.at ≤ LAST_MOMENT) texts.script.items) }
+        (λ texts. All (λ row. row.at ≤ MAX_MOMENT) texts.script.items) }
     ensures in_time { IfOk result
         (λ texts. All (λ row. is_in_time (happens_of row.what) ≡ true) texts.script.items) }
     ensures in_order { IfOk result (λ texts. rows_are_in_order 0 texts.script.items ≡ true) }
@@ -55,7 +55,7 @@ pub fn read_texts(alloc: Global, input: &[u8]) -> Result<RunTexts, InputFault>
     })
 }
 
-/// Reads a tariff alone. Its first fault is told as that of an input.
+/// Reads a tariff alone. Its first fault is given as that of an input.
 pub fn read_tariff(alloc: Global, text: &[u8]) -> Result<Tariff, InputFault>
     ensures { GivesInput (λ tariff. tariff) result (tariff_in text.now) }
 {
@@ -65,9 +65,10 @@ pub fn read_tariff(alloc: Global, text: &[u8]) -> Result<Tariff, InputFault>
     }
 }
 
-/// Reads a setup alone. Its first fault is told as that of an input.
+/// Reads a setup alone. Its first fault is given as that of an input.
 pub fn read_directory(alloc: Global, text: &[u8]) -> Result<Directory, InputFault>
-    ensures means { GivesInput setup_in result (as_input_fault out.Setup (table_setup_of (rows_of text.now))) }
+    ensures means { GivesInput setup_in result (as_input_fault out.Setup (table_setup_of
+        (rows_of text.now))) }
     ensures within { IfOk result ListingIsWithin }
 {
     match setup::read_setup(alloc, text) {
@@ -83,7 +84,7 @@ fn read_script(
 ) -> Result<Vec<ScriptRow>, InputFault>
     ensures means { GivesInput (λ rows. map script_event rows.items) result
         (as_input_fault out.Script (script_of directory.now.accounts (rows_of text.now))) }
-    ensures in_range { IfOk result (λ rows. All (λ row. row.at ≤ LAST_MOMENT) rows.items) }
+    ensures in_range { IfOk result (λ rows. All (λ row. row.at ≤ MAX_MOMENT) rows.items) }
     ensures in_time { IfOk result (λ rows.
         All (λ row. is_in_time (happens_of row.what) ≡ true) rows.items) }
     ensures in_order { IfOk result (λ rows. rows_are_in_order 0 rows.items ≡ true) }

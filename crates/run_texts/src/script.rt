@@ -20,7 +20,7 @@ use std::alloc::{AllocError, Global};
 use std::collections::BTreeSet;
 use std::io::Read;
 use table_core::{RowKind, Table, TableFault, is_blank, is_word, number};
-use tariff_core::LAST_MOMENT;
+use tariff_core::MAX_MOMENT;
 
 /// The most rows of a script, its header not counted.
 const MAX_ROWS: u32 = 1_000_000;
@@ -34,10 +34,10 @@ const MAX_ROWS: u32 = 1_000_000;
 ///
 /// Rows are judged in order as they are read, a row in this order: `Csv` where it hasn't the
 /// header's fields; `TooManyRows` past 1,000,000 rows; `What` where its word is another one;
-/// `Number` where a field isn't a decimal, a moment, or digits, within its range; `Empty` where a field that
-/// must be empty isn't; `Order` where its moment lies below the one before; `Repeated` where a call
-/// starts again; `Unknown` where no earlier row starts its call, or the setup hasn't its account.
-/// `Header` is the fault of row 1.
+/// `Number` where a field isn't a decimal, a moment, or digits, within its range; `Empty` where a
+/// field that must be empty isn't; `Order` where its moment lies below the one before; `Repeated`
+/// where a call starts again; `Unknown` where no earlier row starts its call, or the setup hasn't
+/// its account. `Header` is the fault of row 1.
 pub fn read_script<I: Read + Drop>(
     alloc: Global,
     directory: &Directory,
@@ -46,7 +46,7 @@ pub fn read_script<I: Read + Drop>(
     ensures means { IfSome (I.remaining reader) (λ text.
         GivesTable (λ rows. map script_event rows.items) result
         (script_of directory.now.accounts (rows_of text))) }
-    ensures in_range { IfOk result (λ rows. All (λ row. row.at ≤ LAST_MOMENT) rows.items) }
+    ensures in_range { IfOk result (λ rows. All (λ row. row.at ≤ MAX_MOMENT) rows.items) }
     ensures in_time { IfOk result (λ rows.
         All (λ row. is_in_time (happens_of row.what) ≡ true) rows.items) }
     ensures in_order { IfOk result (λ rows. rows_are_in_order 0 rows.items ≡ true) }
@@ -83,7 +83,7 @@ fn judge(
     ensures says { (earlier : _) → HasCalls calls.now earlier → last ≡ last_row_moment earlier
         → result_map_both script_event (λ kind. kind) result
         ≡ row_at directory.now.accounts earlier (fields_of row.now) }
-    ensures in_range { IfOk result (λ row. row.at ≤ LAST_MOMENT) }
+    ensures in_range { IfOk result (λ row. row.at ≤ MAX_MOMENT) }
     ensures in_time { IfOk result (λ row. is_in_time (happens_of row.what) ≡ true) }
     ensures in_order { IfOk result (λ row. last ≤ row.at) }
 {
@@ -135,7 +135,7 @@ fn note(calls: &mut BTreeSet<u64>, what: Happening) -> Result<(), AllocError>
 /// What happens, and when.
 #[derive(Clone, Copy, Debug, PartialEq, Eq)]
 pub struct ScriptRow {
-    /// The moment, 0 to `LAST_MOMENT`.
+    /// The moment, 0 to `MAX_MOMENT`.
     pub at: Moment,
     /// What happens then.
     pub what: Happening,
@@ -166,7 +166,7 @@ pub enum Happening {
         account: u32,
         /// How much, 0 to `tariff_core::MAX_MONEY`.
         amount: u64,
-        /// Its last moment from then on, 0 to `LAST_MOMENT`; none leaves it as it is.
+        /// Its last moment from then on, 0 to `MAX_MOMENT`; none leaves it as it is.
         until: Option<Moment>,
     },
 }
@@ -176,11 +176,11 @@ fn read_row(row: &ByteRecord) -> Result<ScriptRow, RowKind>
     requires { 5 ≤ length (fields_of row.now) }
     ensures says { result_map_both script_event (λ kind. kind) result
         ≡ read_in (fields_of row.now) }
-    ensures in_range { IfOk result (λ row. row.at ≤ LAST_MOMENT) }
+    ensures in_range { IfOk result (λ row. row.at ≤ MAX_MOMENT) }
     ensures in_time { IfOk result (λ row. is_in_time (happens_of row.what) ≡ true) }
 {
     let word = read_word(row)?;
-    let at = moment_field(row, 0, LAST_MOMENT)?;
+    let at = moment_field(row, 0, MAX_MOMENT)?;
     let what = read_happening(row, word)?;
     Ok(ScriptRow { at, what })
 }

@@ -83,8 +83,8 @@ fn write_report(text: &mut String, active: bool, info: TimeInfo) -> Result<(), A
     }
 }
 
-/// Adds the rows of an answer, each behind the same head: its operations, in order, then whether the
-/// post was stray, and the fault that an ask of an account got.
+/// Adds the rows of an answer, each behind the same head: its operations, in order, then whether
+/// the post was stray, and the fault that an ask of an account got.
 pub(crate) fn write_answer(text: &mut String, head: &str, answer: &Answer) -> Result<(), AllocError>
     ensures { OnOk result (string_bytes text.new ≡ string_bytes text.old
         ++ answer_rows head.now (Some answer.now)) }

@@ -47,7 +47,7 @@ module _ {K V : Type 0} (R : K → K → Ordering) (test : K → Bool) (k : K) (
 
 -- ---- items that are listed one after another
 
--- how items are told apart and ordered by their keys, and judged by whether a key was named before
+-- how items are distinguished and ordered by their keys, and judged by whether a key was named before
 pub record Items (K V : Type 0) : Type 0 where
   pub order : K → K → Ordering
   pub same : K → K → Bool

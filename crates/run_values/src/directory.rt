@@ -12,7 +12,7 @@ use cap_values::Number;
 use std::alloc::{AllocError, Global};
 use std::collections::BTreeMap;
 use std::marker::Model;
-use tariff_core::{LAST_MOMENT, MAX_MONEY};
+use tariff_core::{MAX_MOMENT, MAX_MONEY};
 
 /// The accounts and the subscribers of a run, each of them judged as it came: no number is there
 /// twice, each opening credit is in its range, and each subscriber has one of the accounts.
@@ -53,7 +53,7 @@ impl Directory {
     /// Lists an account with its opening credit.
     ///
     /// `OutOfRange` comes where the credit is above `MAX_MONEY`, or its last moment above
-    /// `LAST_MOMENT`, then `Repeated` where the account is there already. After a fault the
+    /// `MAX_MOMENT`, then `Repeated` where the account is there already. After a fault the
     /// directory is as before.
     pub fn account(&mut self, number: u32, opening: OpeningCredit) -> Result<(), SetupFault>
         ensures made { OnOk result
@@ -160,12 +160,12 @@ pub struct OpeningCredit {
 }
 
 impl OpeningCredit {
-    /// Whether the amount is at most `MAX_MONEY`, and the last moment at most `LAST_MOMENT`.
+    /// Whether the amount is at most `MAX_MONEY`, and the last moment at most `MAX_MOMENT`.
     pub(crate) fn is_in_range(&self) -> bool
         ensures { result ≡ opening_is_in_range self.now }
     {
         let expires_in_time = match self.until {
-            Some(until) => until <= LAST_MOMENT,
+            Some(until) => until <= MAX_MOMENT,
             None => true,
         };
         self.amount <= MAX_MONEY && expires_in_time

@@ -59,7 +59,7 @@ impl Model for RunSetup {
 
 impl RunSetup {
     /// The setup of these accounts, each a number and an opening credit of 0 to `MAX_MONEY`, with a
-    /// last moment of 0 to `LAST_MOMENT` or none; of these subscribers, each a number and one of
+    /// last moment of 0 to `MAX_MOMENT` or none; of these subscribers, each a number and one of
     /// the accounts; and of a limit of `MIN_LIMIT` to `MAX_LIMIT`. At most 1,000 accounts and
     /// 10,000 subscribers; there may be none.
     ///
@@ -138,7 +138,7 @@ impl RunSetup {
     }
 
     /// The accounts by rising number, each with its opening credit of 0 to `MAX_MONEY` and a last
-    /// moment of 0 to `LAST_MOMENT`, if it has one.
+    /// moment of 0 to `MAX_MOMENT`, if it has one.
     pub fn accounts(&self) -> &[(u32, OpeningCredit)]
         ensures value { result.now ≡ self.now.accounts }
         ensures ordered { IsStrictlySortedBy nat_cmp (keys_of self.now.accounts) }

@@ -11,7 +11,8 @@ use std::fmt;
 /// Why a run can't be set up.
 ///
 /// The limit and the counts are judged first, then the accounts in order, then the subscribers in
-/// order; where several fit one item, the first of `OutOfRange`, `Repeated` and `Unknown` is told.
+/// order; where several fit one item, the first of `OutOfRange`, `Repeated` and `Unknown` is the
+/// fault.
 #[derive(Clone, Copy, Debug, PartialEq, Eq)]
 pub enum SetupFault {
     /// The number of an account, or of a subscriber, is named twice.

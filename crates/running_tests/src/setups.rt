@@ -7,7 +7,7 @@ use run_texts::read_setup;
 use run_values::{Directory, OpeningCredit, RunSetup, SetupFault};
 use std::alloc::Global;
 use std::test::Fail;
-use tariff_core::{LAST_MOMENT, Tariff};
+use tariff_core::{MAX_MOMENT, Tariff};
 
 /// One band for called numbers that begin with 49.
 pub(crate) const BAND: &[u8] = b"prefix,from,fee,rate\n49,00:00,50,1000\n";
@@ -137,14 +137,14 @@ fn a_directory_judges_one_after_another(rt: HostRuntime) -> Result<(), Fail> {
     let one = Number::new("491700001")?;
     let most = 1_000_000_000_000_000;
     let mut directory = list(rt.alloc(), &[(9, 300), (2, 100)])?;
-    let past = Some(LAST_MOMENT + 1);
+    let past = Some(MAX_MOMENT + 1);
     let accounts = [
         (7, most + 1, None, Err(SetupFault::OutOfRange)),
         (2, most + 1, None, Err(SetupFault::OutOfRange)),
         (7, 100, past, Err(SetupFault::OutOfRange)),
         (2, 100, past, Err(SetupFault::OutOfRange)),
         (2, 100, None, Err(SetupFault::Repeated)),
-        (7, most, Some(LAST_MOMENT), Ok(())),
+        (7, most, Some(MAX_MOMENT), Ok(())),
     ];
     for (number, amount, until, made) in accounts {
         let opening = OpeningCredit { amount, until };

@@ -129,7 +129,13 @@ fn expect_setup<R: Abort>(rt: &R, alloc: Global, text: &str, wanted: Wanted) {
 }
 
 /// Compares the first fault of a script, and that of one whose reader fails behind it.
-fn expect_script<R: Abort>(rt: &R, alloc: Global, directory: &Directory, text: &str, wanted: Wanted) {
+fn expect_script<R: Abort>(
+    rt: &R,
+    alloc: Global,
+    directory: &Directory,
+    text: &str,
+    wanted: Wanted,
+) {
     let fault = wanted.map(|(row, kind)| TableFault::Row(RowFault { row, kind }));
     let bytes = text.as_bytes();
     let read = read_script(alloc, directory, bytes);

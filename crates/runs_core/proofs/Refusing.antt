@@ -1,4 +1,4 @@
--- The refusals that the answers of a run tell, put down worker by worker.
+-- The refusals that the answers of a run name, put down worker by worker.
 use Rattle.std.proofs.Common.{◌≡◌, ◌<◌, ◌≤◌, ◌+◌, ◌++◌, ◌∷◌, ◌∙◌, ℕ, zero, suc, Bool, true, false, Option, List, [], length, map, refl, ap, sym, subst, arith, take}
 use Rattle.std.specs.Prelude.{◌==◌, if◌then◌else◌, replicate}
 use Rattle.std.proofs.Math.ListN.{get_or, get_or-map, set}

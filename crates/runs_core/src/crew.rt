@@ -117,7 +117,8 @@ fn send_all<S: Shared, R: Wait, G: Gate>(
     shares: IntoIter<Vec<Post>>,
 ) -> Result<(), RunFault>
     requires count { length (into_iter_items shares) ≡ length links.old.items }
-    ensures posts { OnOk result (map sent_by links.new.items ≡ joined_lists (map sent_by links.old.items)
+    ensures posts { OnOk result (map sent_by links.new.items ≡ joined_lists
+        (map sent_by links.old.items)
         (map (λ share. share.items) (into_iter_items shares))) }
     ensures heard { map heard_by links.new.items ≡ map heard_by links.old.items }
     ensures promises { promises_of links.new.items ≡ promises_of links.old.items }

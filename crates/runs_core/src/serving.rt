@@ -47,7 +47,7 @@ const MAX_WORKERS: u32 = 16;
 ///   started.
 /// * `gate`: `GateClosed` only with a gate that may answer false.
 ///
-/// After any fault but `Workers` all workers are waited for; the fault told is that of the failed
+/// After any fault but `Workers` all workers are waited for; the fault is that of the failed
 /// worker with the least number, else the run's own.
 pub fn serve<D: Driver, R: Wait + Threads + Sync, G: Gate + Sync>(
     rt: &R,
@@ -151,7 +151,7 @@ fn run_workers<D: Driver, S: Shared, R: Wait + Threads + Sync, G: Gate + Sync>(
 }
 
 /// Starts the workers but for the first in a scope, plays the rounds, and waits for the workers.
-/// The fault told is that of the failed worker with the least number, else the run's own.
+/// The fault is that of the failed worker with the least number, else the run's own.
 fn run_in<'s, E, D: Driver, S: Shared, R: Wait + Threads + Sync, G: Gate + Sync>(
     scope: &Scope<'s, E>,
     rt: &'s R,

@@ -78,8 +78,8 @@ fn start_one<'s, E, S: Shared, R: Wait + Threads + Sync, G: Gate + Sync>(
     Ok(())
 }
 
-/// Waits for all workers to end, after a last mail to each, and puts down what each leaves. Tells
-/// the fault of the failed worker with the least number.
+/// Waits for all workers to end, after a last mail to each, and puts down what each leaves. The
+/// fault is that of the failed worker with the least number.
 pub(crate) fn finish_all<S: Shared, R: Wait + Threads, G: Gate>(
     rt: &R,
     links: Vec<WorkerLink<'_, S, G>>,

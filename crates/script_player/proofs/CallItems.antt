@@ -22,7 +22,7 @@ use Rattle.script_player.specs.Posts.{initial, items_of, posts_of}
 use Rattle.script_player.specs.Rows.{Starts, unless_begun}
 use Rattle.script_player.proofs.Items.{items_of-other, items_of-own, posts_in_range, posts_of-append, recharges_in-posts}
 
--- what is told of a call, whether it has a gsmSSF or not
+-- what was given of a call, whether it has a gsmSSF or not
 abbrev HasGivenOf : SsfConfig → List (ℕ × Body) → ℕ → Option View → Type 0
 HasGivenOf config given call found = MatchOption found (items_of call given ≡ []) (HasGiven config call given)
 

@@ -28,7 +28,7 @@ pub record HasGiven (config : SsfConfig) (call : ℕ) (given : List (ℕ × Body
   pub same : items_of call given ≡ posts_of call (sent_in trace)
   pub some : items_of call given ≡ [] → ⊥
 
--- each gsmSSF is told so; a call without one has no items
+-- what was given of each gsmSSF; a call without one has no items
 pub record HaveGiven (config : SsfConfig) (calls : BTreeMap ℕ View) (given : List (ℕ × Body)) : Type 0 where
   pub gave : (call : ℕ) → MatchOption (get nat_cmp calls call) (items_of call given ≡ []) (HasGiven config call given)
   pub in_range : All (λ item. item.0 ≤ HORIZON) given

@@ -15,7 +15,7 @@ use ssf_core::{Delivery, Moment, SsfConfig, next_delivery, next_moment, send, ta
 use std::alloc::{AllocError, Global};
 use std::collections::VecDeque;
 use std::marker::Model;
-use tariff_core::{DAY, HORIZON, LAST_MOMENT};
+use tariff_core::{DAY, HORIZON, MAX_MOMENT};
 
 /// Plays a script: it drives a run by the rows of a script, with one gsmSSF for each call that has
 /// started.
@@ -78,7 +78,7 @@ impl ScriptPlayer {
     ) -> Result<ScriptPlayer, AllocError>
         requires delay_positive { 1 ≤ delay }
         requires delay_within_day { delay ≤ DAY }
-        requires in_range { All (λ row. row.at ≤ LAST_MOMENT) rows.items }
+        requires in_range { All (λ row. row.at ≤ MAX_MOMENT) rows.items }
         requires in_order { rows_are_in_order 0 rows.items ≡ true }
         ensures fresh { IfOk result (λ player. player ≡ fresh_play config delay rows.items) }
         ensures config { IfOk result (λ player. player.network.config ≡ config) }
@@ -221,7 +221,7 @@ fn take_rows(
     taken: &mut usize,
     now: Moment,
 ) -> Result<(), AllocError>
-    requires in_range { All (λ row. row.at ≤ LAST_MOMENT) rows.now }
+    requires in_range { All (λ row. row.at ≤ MAX_MOMENT) rows.now }
     requires within { taken.old ≤ length rows.now }
     requires follows { FollowsRows (take taken.old rows.now) network.old.given }
     ensures within { taken.new ≤ length rows.now }
@@ -239,7 +239,7 @@ fn take_rows(
 
 /// Takes a row.
 fn take_row(network: &mut Network, row: ScriptRow) -> Result<(), AllocError>
-    requires { row.at ≤ LAST_MOMENT }
+    requires { row.at ≤ MAX_MOMENT }
     ensures taken { OnOk result (TakesRow network.old network.new row.at row.what) }
     ensures plays { OnOk result (PlaysRow network.old row network.new) }
     ensures failed { OnErr result (Grows network.old network.new) }

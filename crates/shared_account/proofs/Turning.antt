@@ -1,4 +1,4 @@
--- The steps of a turn keep its rule, and tell what they are to tell.
+-- The steps of a turn keep its rule, and show what they are to show.
 use Rattle.std.proofs.Common.{◌≡◌, ◌≢◌, ◌≤◌, ◌<◌, ◌+◌, ◌-◌, ◌%◌, ◌^◌, ℕ, Option, Some, None, List, [], ◌∷◌, length, get_or, set, refl, sym, ap, ◌∙◌, arith, subst, length-append}
 use mathlib.Core.Logic.{dite}
 use mathlib.Core.Option.{none, some, some-injective}
@@ -44,7 +44,7 @@ home_if now homes views id t v (Some by) each apart there waits served lies =
     (apart by id lies.view v ne lies.there there).tickets t (ap ticket_of lies.serves ∙ ap (λ (n : ℕ). Some n) (turn.served ∙ sym served)) (ap ticket_of waits)))
 
 module _ (start : Start) where
-  -- ---- a ticket is drawn
+  -- ---- a ticket is issued
 
   pub draws : (slots id : ℕ) (m : Sitter) → m.0.stage ≡ Idles → Allows (Kept start) slots id m 0 (λ n. (n + 1) % 2 ^ 64) (issued (step slots 0 1 0 none) m)
   draws slots id m idle s kept count there fits =

@@ -33,7 +33,7 @@ pub record IsLater (before after : View) : Type 0 where
   pub own : own before.number after.seen.history ≡ own before.number before.seen.history
   pub ended : after.ended ≡ before.ended
 
--- a ticket is drawn
+-- a ticket is issued
 abbrev pub issued : At → Sitter → ℕ → Sitter → Type 0
 issued step before found after =
     (found ≡ its_ticket after.0.stage % 2 ^ 64) × (after.0 ≡ at_stage before.0 (Waits (its_ticket after.0.stage))) × (after.1 ≡ before.1)

@@ -23,7 +23,7 @@ pub record BoardState : Type 0 where
   pub out : ℕ
   pub holder : Option ℕ
 
--- the words: the ticket that is drawn next, the one that is served, and the number of entries
+-- the words: the ticket that is issued next, the one that is served, and the number of entries
 pub record AreWords (now : BoardState) (words : List ℕ) : Type 0 where
   pub wide : length words ≡ 3
   pub ticket : slice_index words 0 ≡ (now.served + now.out) % 2 ^ 64
@@ -57,7 +57,7 @@ pub record IsNumbered (now : BoardState) (view : View) : Type 0 where
   pub first : view.number ≡ 0 → view.made ≡ now.made
   pub own : own view.number view.seen.history ≡ own view.number now.account.history
 
--- a ticket was drawn, and isn't served yet
+-- a ticket was issued, and isn't served yet
 pub record IsOut (now : BoardState) (ticket : ℕ) : Type 0 where
   pub issued : now.served ≤ ticket
   pub unserved : ticket < now.served + now.out

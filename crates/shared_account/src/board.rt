@@ -19,7 +19,7 @@ use std::collections::LinkedList;
 use std::marker::{Brand, Model, PhantomData};
 use tariff_core::MAX_MONEY;
 
-/// The word that holds the ticket that is drawn next.
+/// The word that holds the ticket that is issued next.
 pub(crate) const TICKET: usize = 0;
 
 /// The word that holds the ticket that is served.
@@ -87,7 +87,7 @@ pub(crate) type Board = atomic_table::Table<Option<Account>, View, Start, Turns,
 /// A place at the board: it makes the steps, and has no bytes.
 pub(crate) type Chair = atomic_table::Seat<Option<Account>, View>;
 
-/// A ticket is drawn.
+/// A ticket is issued.
 pub(crate) struct Draw;
 
 impl Play<Option<Account>, View> for Draw {

@@ -17,9 +17,9 @@ use tariff_core::MAX_MONEY;
 /// are asking too, that `NotOpen`, `CallUsed` or `HistoryFull` was right; and nothing of who comes
 /// first, nor that a call returns.
 ///
-/// It also says which refusals a seat knows of (`was`), and which a book shows later (`stood`): when
-/// a seat's own entries were these, it asked for this, and the account, which was this, refused that
-/// with this fault. A fault comes with such a refusal.
+/// It also says which refusals a seat knows of (`was`), and which a book shows later (`stood`):
+/// when a seat's own entries were these, it asked for this, and the account, which was this,
+/// refused that with this fault. A fault comes with such a refusal.
 ///
 /// And it says that a call led from one state of a seat to the next (`calls`). Nothing but a call
 /// shows this, or a refusal: whoever is generic over the form can't claim an ask that wasn't put,

@@ -28,7 +28,7 @@ use tariff_core::MAX_MONEY;
 
 /// An account that its seats hand on by turns: a ticket lock.
 ///
-/// Who asks takes the door, draws a ticket and looks until it is served. Then the account is its
+/// Who asks takes the door, takes a ticket and looks until it is served. Then the account is its
 /// own: it asks, counts the entry and serves the next ticket. So what a seat has seen begins what
 /// it sees next, at each step, and no comparison is needed to know it.
 #[derive(Drop)]

@@ -67,7 +67,7 @@ setup_due setup Tcp = None
 setup_due setup Tccd = None
 setup_due setup Tssf = None
 
--- which timers run while the service is told of the end
+-- which timers run while the end is reported to the service
 abbrev pub down_due : ℕ → Timer → Option ℕ
 down_due moment Tsw = None
 down_due moment Tcp = None

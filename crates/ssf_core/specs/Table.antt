@@ -78,7 +78,7 @@ by_mode event leg Interrupted = goes (event_report event leg Interrupted) Down
 by_mode event leg NotifyAndContinue = ends (event_report event leg NotifyAndContinue)
 by_mode event leg Transparent = ends []
 
--- a mode in which the service is told of the event
+-- a mode in which the event is reported to the service
 abbrev pub is_watched : Mode → Bool
 is_watched Interrupted = true
 is_watched NotifyAndContinue = true

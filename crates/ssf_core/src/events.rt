@@ -136,7 +136,8 @@ fn fail(
     requires room { array_vec_len sent.old ≤ 5 }
     requires timely { IsTimelyStage now stage }
     ensures takes { (t : List Happening) (input : Input) → StageMatches config.now stage t
-        → IsTakenInput config.now t now input (on_failure event (mode_at t point) (ssf_phase_of stage))
+        → IsTakenInput config.now t now input (on_failure event (mode_at t point)
+        (ssf_phase_of stage))
         result sent.old.items sent.new.items }
     ensures timely { IsTimelyStage now (result_unwrap_or result stage) }
 {

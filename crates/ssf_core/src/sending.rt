@@ -99,7 +99,8 @@ pub(crate) fn by_mode(
 ) -> Stage
     requires moment { now ≤ HORIZON }
     requires room { array_vec_len sent.old ≤ 6 }
-    ensures follows { (t : List Happening) (input : Input) → FollowsEffect config.now t now (Took input)
+    ensures follows { (t : List Happening) (input : Input) → FollowsEffect config.now t now
+        (Took input)
         (by_mode event leg mode) result sent.old.items sent.new.items }
     ensures timely { IsTimelyStage now result }
     ensures room { array_vec_len sent.new ≤ array_vec_len sent.old + 2 }

@@ -61,7 +61,7 @@ Stops form (fault.Row refused) meaning = meaning ≡ Err (form.fault_at refused.
 Stops form fault.Device meaning = ⊤
 Stops form fault.OutOfMemory meaning = ⊤
 
--- where a form tells faults as they are, they are the table's
+-- where a form names faults as they are, they are the table's
 pub refuses : {S Y : Type 0} (form : TableForm S RowKind RowFault) → ((row : ℕ) (why : RowKind) → form.fault_at row (form.kind_of why) ≡ record { row = row; kind = why })
     → (next : Result S RowFault → Result Y RowFault) → ((why : RowFault) → next (Err why) ≡ Err why)
     → (why : TableFault) (meaning : Result S RowFault) → Stops form why meaning → RefusesTable why (next meaning)

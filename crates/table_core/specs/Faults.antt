@@ -23,7 +23,7 @@ row_kind_name kind.Unknown = codes "Unknown"
 abbrev pub row_fault_text : RowFault → List ℕ
 row_fault_text fault = codes "row " ++ (decimal fault.row ++ (codes ": " ++ row_kind_name fault.kind))
 
--- what is told of a table that was not read
+-- the text of the fault of a table that was not read
 abbrev pub table_fault_text : TableFault → List ℕ
 table_fault_text (fault.Row refused) = row_fault_text refused
 table_fault_text fault.Device = codes "the reader failed"

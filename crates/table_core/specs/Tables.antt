@@ -41,7 +41,7 @@ pub record TableForm (S K F : Type 0) : Type 0 where
   pub start : S
   -- a row, by the header that the table has, from 0
   pub judge : ℕ → S → Fields → Result S K
-  -- how a fault that any table may have is told, and a fault at the row of a number
+  -- how a fault that any table may have is named, and a fault at the row of a number
   pub kind_of : RowKind → K
   pub fault_at : ℕ → K → F
 

@@ -199,7 +199,8 @@ impl<R: Read + Drop> Rows<R> {
 
     /// All the rows of `reader`, its first included.
     pub fn new(alloc: Global, reader: R) -> Rows<R>
-        ensures { IfSome (R.remaining reader) (λ text. HasRowsLeft R.remaining result (rows_of text)) }
+        ensures { IfSome (R.remaining reader) (λ text. HasRowsLeft R.remaining result
+            (rows_of text)) }
     {
         let reader = ReaderBuilder::new()
             .has_headers(false)

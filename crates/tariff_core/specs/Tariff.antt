@@ -12,7 +12,7 @@ use Rattle.tariff_core.specs.declared.place.Place.{Place}
 abbrev pub band_of : Row → Band
 band_of row = record { prefix = text_of_digits row.prefix; start = row.start; fee = row.cost.fee; rate = row.cost.rate; free = row.cost.free; first = row.cost.first; step = row.cost.step; days = text_of_digits row.days }
 
--- what is told of a value, seen by `view`, is what its meaning says
+-- what was read of a value, seen by `view`, is what its meaning says
 abbrev pub ReadsAs : {X Y E : Type 0} → (X → Y) → Result X E → Result Y E → Type 0
 ReadsAs view (Ok x) meaning = meaning ≡ Ok (view x)
 ReadsAs view (Err why) meaning = meaning ≡ Err why

@@ -54,7 +54,8 @@ impl Model for Bands {
 impl Bands {
     /// The rows of a table, judged one after another as they are read.
     pub fn read<R: Read + Drop>(alloc: Global, reader: R) -> Result<Bands, TariffFault>
-        ensures { IfSome (R.remaining reader) (λ text. GivesBands result (bands_of (rows_of text))) }
+        ensures { IfSome (R.remaining reader) (λ text. GivesBands result (bands_of
+            (rows_of text))) }
     {
         let headers: &[&[&str]] = &[
             &["prefix", "from", "fee", "rate"],

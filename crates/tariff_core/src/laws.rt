@@ -7,13 +7,13 @@ ghost use Rattle.tariff_core.specs.Price.{price_of};
 ghost use Rattle.tariff_core.specs.Laws.{dearest_plan, AffordedAreCovered, AffordedAreLast, AffordedAreWithin, CeilingIsAttained, CeilingIsNotPassed, ComingIsTransitive, ComingTimesStand, OnePrefixCounts, ReadTariffsAreProper, ReadTimesAre, RoutesAreAlike, RoutesHavePrefixes, TimesMayStay};
 ghost use Rattle.tariff_core.specs.declared.plan.TheConstants.{MAX_MONEY, MAX_RATE};
 ghost use Rattle.tariff_core.specs.declared.pricing.TheConstants.{MAX_PRICE};
-ghost use Rattle.tariff_core.specs.declared.times.TheConstants.{DAY, HORIZON, LAST_MOMENT};
+ghost use Rattle.tariff_core.specs.declared.times.TheConstants.{DAY, HORIZON, MAX_MOMENT};
 
 /// The limits in plain numbers. The greatest price is what a day costs under the dearest plan.
 #[tactic(auto, unfolding(crate::specs::Price::billed))]
 pub fn limits_in_numbers()
     ensures day { DAY ≡ 864000 }
-    ensures last_moment { LAST_MOMENT ≡ 10 ^ 12 }
+    ensures last_moment { MAX_MOMENT ≡ 10 ^ 12 }
     ensures horizon { HORIZON ≡ 2 * 10 ^ 12 }
     ensures most_money { MAX_MONEY ≡ 10 ^ 15 }
     ensures highest_rate { MAX_RATE ≡ 10 ^ 9 }

@@ -27,4 +27,4 @@ pub use reading::read_times;
 pub use route::{Quote, Route};
 pub use tariff::Tariff;
 pub use tariff_fault::{TariffFault, TariffKind};
-pub use times::{DAY, HORIZON, LAST_MOMENT, TimeInfo, TimeRange, Times};
+pub use times::{DAY, HORIZON, MAX_MOMENT, TimeInfo, TimeRange, Times};

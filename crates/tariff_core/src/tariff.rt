@@ -61,7 +61,8 @@ impl Tariff {
     /// after the last row, at the first row whose prefix has that fault. OutOfMemory and Device
     /// come at the row that was being read.
     pub fn read<R: Read + Drop>(alloc: Global, reader: R) -> Result<Tariff, TariffFault>
-        ensures { IfSome (R.remaining reader) (λ text. GivesBands result (tariff_of (rows_of text))) }
+        ensures { IfSome (R.remaining reader) (λ text. GivesBands result (tariff_of
+            (rows_of text))) }
     {
         let bands = Bands::read(alloc, reader)?;
         match bands.without_midnight() {

@@ -15,7 +15,7 @@ use std::marker::Model;
 pub const DAY: u32 = 864_000;
 
 /// The last moment that an input may name, in units of 100 ms.
-pub const LAST_MOMENT: u64 = 1_000_000_000_000;
+pub const MAX_MOMENT: u64 = 1_000_000_000_000;
 
 /// The last moment that a switch takes, in units of 100 ms: twice the last that an input may name.
 /// What follows an input takes a few days, so no call comes there.

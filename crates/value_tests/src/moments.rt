@@ -4,13 +4,13 @@ use crate::looking::gives;
 use moment_texts::{Clock, MomentField, TimeOfDay, moment, moment_field, printed_moments_are_read};
 use std::test::Fail;
 use table_core::{RowKind, Table};
-use tariff_core::{HORIZON, LAST_MOMENT};
+use tariff_core::{HORIZON, MAX_MOMENT};
 
 /// Texts, and the moment that each writes.
 const MOMENTS: [(&str, u64); 18] = [
     ("0", 0),
     ("648080", 648_080),
-    ("01000000000000", LAST_MOMENT),
+    ("01000000000000", MAX_MOMENT),
     ("1970-01-01T00:00:00", 0),
     ("1970-01-01T00:00:00.1", 1),
     ("1970-01-01T18:00:08", 648_080),
@@ -25,7 +25,7 @@ const MOMENTS: [(&str, u64); 18] = [
     ("2000-03-01T00:00:00", 9_518_688_000),
     ("2100-02-28T23:59:59.9", 41_075_423_999),
     ("2100-03-01T00:00:00", 41_075_424_000),
-    ("5138-11-16T09:46:40.0", LAST_MOMENT),
+    ("5138-11-16T09:46:40.0", MAX_MOMENT),
 ];
 
 /// Texts that write no moment up to the last that an input may name.
@@ -78,7 +78,7 @@ const PRINTED: [(u64, &str); 12] = [
     (9_517_824_005, "2000-02-29T00:00:00.5"),
     (41_075_423_999, "2100-02-28T23:59:59.9"),
     (41_075_424_000, "2100-03-01T00:00:00.0"),
-    (LAST_MOMENT, "5138-11-16T09:46:40.0"),
+    (MAX_MOMENT, "5138-11-16T09:46:40.0"),
     (HORIZON, "8307-10-01T19:33:20.0"),
     (2_534_023_007_999, "9999-12-31T23:59:59.9"),
     (2_534_023_008_000, "2534023008000"),
@@ -104,11 +104,11 @@ fn prints_moments(rt: HostRuntime) -> Result<(), Fail> {
 #[test]
 fn reads_moments(rt: HostRuntime) {
     for &(text, want) in &MOMENTS {
-        let found = moment(text.as_bytes(), LAST_MOMENT);
+        let found = moment(text.as_bytes(), MAX_MOMENT);
         gives(&rt, &text, &found, &Some(want));
     }
     for text in &NO_MOMENTS {
-        let found = moment(text.as_bytes(), LAST_MOMENT);
+        let found = moment(text.as_bytes(), MAX_MOMENT);
         gives(&rt, text, &found, &None);
     }
     let last = moment(b"9999-12-31T23:59:59.9", u64::MAX);

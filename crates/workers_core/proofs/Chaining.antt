@@ -81,7 +81,7 @@ pub answered_still : (Was Later : ℕ → Knowing) → ((place : ℕ) (mine : Li
 answered_still Was Later still =
     still_answered (λ place. IsRefusedAt (Was place)) (λ place. IsRefusedAt (Later place)) (λ place. refused_still (Was place) (Later place) (still place))
 
--- ---- posts that were answered were handled, and those were refused of which the answers tell it
+-- ---- posts that were answered were handled, and those were refused of which the answers say it
 
 pub handled_so : (Shows : ℕ → Showing) (setup : Setup) (numbers : List ℕ) (posts : List Post) (answers : List AnswerView) (old new : Holding) → AreAnswered Shows setup numbers posts answers old new
     → AreHandled setup numbers posts (refusals_in answers) old new

@@ -44,8 +44,9 @@ pub fn calls_are_reserved()
     ensures { CallsAreReserved }
 {}
 
-/// What closes a call that is the seats' alone, its Return or its first Settle since its last grant,
-/// by the own entries of the seat that asks, is never refused by an account that the seat knows.
+/// What closes a call that is the seats' alone, its Return or its first Settle since its last
+/// grant, by the own entries of the seat that asks, is never refused by an account that the seat
+/// knows.
 pub fn closing_is_never_refused<S: Shared>()
     ensures { (seats : List S.Seat) (call : ℕ) → IsAloneWith S.was seats call
         → NeverRefusesClosing (RefusesAt S.was seats) call }

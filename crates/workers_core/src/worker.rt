@@ -75,9 +75,9 @@ impl<'s, S: Shared> Worker<'s, S> {
     /// dialogue: it sends no operation and asks no account. An InitialDp from a number that is no
     /// subscriber's is answered by ReleaseCall(21), and no account is asked. Else the dialogue of
     /// the call talks with its account until it sends operations or is done, or the account is
-    /// recharged. The answer has the last refusal of an ask for the post. Each ask that was refused,
-    /// in the answer or not, was refused by an account that the seat there knows, as it was at the
-    /// entries that the seat had then: so never with `GateClosed`.
+    /// recharged. The answer has the last refusal of an ask for the post. Each ask that was
+    /// refused, in the answer or not, was refused by an account that the seat there knows, as it
+    /// was at the entries that the seat had then: so never with `GateClosed`.
     ///
     /// The accounts are called for these asks, in order, and for nothing else: no ask is passed
     /// over and said to have been refused, and none is put that the answer doesn't speak of.

@@ -4,12 +4,12 @@ use Rattle.std.specs.Ordering.{nat_cmp}
 use Rattle.run_parts.proofs.Orders.{in_order, in_range, of_each}
 use Rattle.run_texts.specs.Views.{rows_are_in_order}
 use Rattle.run_texts.specs.declared.script.ScriptRow.{ScriptRow}
-use Rattle.tariff_core.specs.declared.times.TheConstants.{LAST_MOMENT}
+use Rattle.tariff_core.specs.declared.times.TheConstants.{MAX_MOMENT}
 use Rattle.run_parts.proofs.division.divide.Goals as goal
 
 pub returns-clause-in_range : goal.returns-clause-in_range
 returns-clause-in_range c =
-    let Within : ScriptRow → Type 0 = λ row. row.at ≤ LAST_MOMENT in
+    let Within : ScriptRow → Type 0 = λ row. row.at ≤ MAX_MOMENT in
     λ all. of_each (λ pile. pile.items) (λ rows. All Within rows) c.in_ok-firsts.firsts (get nat_cmp c.in_ok-payers.payers) c.args.script.items c.in_ok-scripts.scripts.items
     (rw (c.as_slice-4.ensures.value) at c.in_ok-scripts.ensures)
     (λ part. in_range Within c.in_ok-firsts.firsts (get nat_cmp c.in_ok-payers.payers) c.args.script.items part all)
