@@ -35,7 +35,7 @@ pub(crate) fn tell<O: Write>(
     answers: &[Answer],
 ) -> Result<u64, Stop>
     requires room { first < 2 ^ 63 }
-    ensures said_so { OnOk result (Appends (O.contents output.old) (O.contents output.new)
+    ensures printed { OnOk result (Appends (O.contents output.old) (O.contents output.new)
         (group_rows replay first answers.now before first (map line_view_of said.now))) }
     ensures line { IfOk result (λ line. line
         ≡ line_behind replay before first (map line_view_of said.now)) }

@@ -82,7 +82,7 @@ part_of (Err why) = run_input_of why
 
 quote_by : (wish : QuoteWish) (meaning : Result (List Band) Fault) (answer : Result Printout Fault) → IfErr meaning IsOfInput
     → MatchResult meaning (λ bands. IsQuotePrinted bands wish answer) (λ why. answer ≡ Err why) → IfErr answer IsOfInput
-quote_by wish (Ok bands) answer of_meaning ending = rw ending.ending tt
+quote_by wish (Ok bands) answer of_meaning ending = rw ending.printed tt
 quote_by wish (Err why) answer of_meaning is = rw is of_meaning
 
 pub quote_of : (wish : QuoteWish) (input : List ℕ) (answer : Result Printout Fault) → IsAnswerTo (Quotes wish) input answer → IfErr answer IsOfInput
@@ -96,7 +96,7 @@ books_of_part (Err why) = tt
 
 audit_by : (ask : AuditAsk) (text : List ℕ) (meaning : Result Books Fault) (answer : Result Printout Fault) → IfErr meaning IsOfInput
     → MatchResult meaning (λ books. IsAuditPrinted ask text books answer) (λ why. answer ≡ Err why) → IfErr answer IsOfInput
-audit_by ask text (Ok books) answer of_meaning ending = rw ending.ending tt
+audit_by ask text (Ok books) answer of_meaning ending = rw ending.printed tt
 audit_by ask text (Err why) answer of_meaning is = rw is of_meaning
 
 audit_in : (ask : AuditAsk) (text : Result (List ℕ) Fault) (answer : Result Printout Fault) → IfErr text IsOfInput
@@ -179,7 +179,7 @@ ending_run (Err (error.Run why)) = tt
 
 run_by : (ask : RunAsk) (text : Result (List ℕ) Fault) (answer : Result Printout Fault) → IfErr text IsOfInput
     → MatchResult text (λ read. IsRunPrinted ask read answer) (λ why. answer ≡ Err why) → IfErr answer IsOfInput
-run_by ask (Ok text) answer of_text is = rw is.ending (ending_run is.made)
+run_by ask (Ok text) answer of_text is = rw is.printed (ending_run is.made)
 run_by ask (Err why) answer of_text is = rw is of_text
 
 pub run_of : (ask : RunAsk) (input : List ℕ) (answer : Result Printout Fault) → IsAnswerTo (Runs ask) input answer → IfErr answer IsOfInput
@@ -194,7 +194,7 @@ filed_run_by (Err (error.Run why)) answer is = rw is tt
 
 filed_by : (ask : RunAsk) (text : Result (List ℕ) Fault) (answer : Result Printout Fault) → IfErr text IsOfInput
     → MatchResult text (λ read. IsFiledRun ask read answer) (λ why. answer ≡ Err why) → IfErr answer IsOfInput
-filed_by ask (Ok text) answer of_text is = filed_run_by is.made answer is.ending
+filed_by ask (Ok text) answer of_text is = filed_run_by is.made answer is.printed
 filed_by ask (Err why) answer of_text is = rw is of_text
 
 pub filed_of : (ask : RunAsk) (folder input : List ℕ) (answer : Result Printout Fault) → IsAnswerTo (RunsInto ask folder) input answer → IfErr answer IsOfInput
@@ -269,7 +269,7 @@ module _ {V W X : Type 0} (items : V → List ℕ) (text_of : W → List ℕ) (v
     only = λ off. none_said text_of more (only (explains_is ∙ off));
     said = said_over words items text_of view known kept more answer wish asked same none said;
     added = added;
-    ending = subst (λ (a : Result X Fault). IsSaidOrReported (option_map text_of more) (result_map_both view (λ why. why) a) status old new) same_answer ending;
+    printed = subst (λ (a : Result X Fault). IsSaidOrReported (option_map text_of more) (result_map_both view (λ why. why) a) status old new) same_answer ending;
   }
 
 pub price_wished : (plan : Rates) (input : List ℕ) (answer : Result Printout Fault) → IsAnswerTo (Prices plan) input answer → IfErr answer IsOfInput
@@ -286,14 +286,14 @@ module _ (words : List (List ℕ)) (status : ℕ) (old new : Written) where
   -- the help or the version
   pub helped : (known : Option (List ℕ)) (printout : Printout) (text : List ℕ) → AsksHelp words ⊎ AsksVersion words → printout ≡ plain text → IsSaidOrReported None (Ok printout) status old new
       → Answers words known status old new
-  helped None printout text asked is ending = record { answer = Ok printout; answered = tt; more = None; only = λ off. refl; said = tt; added = tt; ending = ending }
+  helped None printout text asked is ending = record { answer = Ok printout; answered = tt; more = None; only = λ off. refl; said = tt; added = tt; printed = ending }
   helped (Some input) printout text asked is ending =
-      record { answer = Ok printout; answered = inl (asked, ap (λ t. t.passes) is); more = None; only = λ off. refl; said = tt; added = tt; ending = ending }
+      record { answer = Ok printout; answered = inl (asked, ap (λ t. t.passes) is); more = None; only = λ off. refl; said = tt; added = tt; printed = ending }
 
   -- words that are refused, and what is said of them
   pub refused : (known more : Option (List ℕ)) (why : WordsFault) (fault : Fault) → IsRead words (Err why) → fault ≡ of_words why → (explains words ≡ false → more ≡ None)
       → (IfSome more (λ said. IsOfWords fault)) → IsSaidOrReported more (Err fault) status old new → Answers words known status old new
-  refused None more why fault read is only of_words ending = record { answer = Err fault; answered = tt; more = more; only = only; said = tt; added = tt; ending = ending }
+  refused None more why fault read is only of_words ending = record { answer = Err fault; answered = tt; more = more; only = only; said = tt; added = tt; printed = ending }
   refused (Some input) more why fault read is only of_words ending = record {
     answer = Err fault;
     answered = subst (λ (w : Fault). IsAnswer words input (Err w)) (sym is) (refused_words words input why read);
@@ -301,7 +301,7 @@ module _ (words : List (List ℕ)) (status : ℕ) (old new : Written) where
     only = only;
     said = said_of_words words input fault more of_words;
     added = tt;
-    ending = ending;
+    printed = ending;
   }
 
 module _ {W X : Type 0} (text_of : W → List ℕ) (view : X → Printout) (words : List (List ℕ)) (status : ℕ) (old new : Written) (known : Option (List ℕ)) (more : Option W)

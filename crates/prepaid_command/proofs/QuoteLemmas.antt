@@ -12,4 +12,4 @@ use Rattle.prepaid_command.specs.Printouts.{Printout, plain}
 pub quoted : (wish : QuoteWish) (input bytes text : List ℕ) (bands : List Band) (printout : Printout) → sized input ≡ Ok bytes → tariff_in bytes ≡ Ok bands
     → IsQuoteText bands wish text → printout ≡ plain text → IsQuoteOfInput wish input (Ok printout)
 quoted wish input bytes text bands printout is_input is_tariff is_text ending =
-    rw (is_input, is_tariff) (record { text = text; is_text = is_text; ending = ap (λ t. Ok t) ending })
+    rw (is_input, is_tariff) (record { text = text; is_text = is_text; printed = ap (λ t. Ok t) ending })

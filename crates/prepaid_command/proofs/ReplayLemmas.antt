@@ -64,8 +64,8 @@ none_replayed opening until limit = record { opened = refl; lasting = refl; limi
 -- ---- one operation
 
 -- what the answer to an ask does to the lines and to the history
-pub record IsStep (old new : Ledger) (ask : SeatAsk) (ending : Result Reply AccountFault) : Type 0 where
-  pub line : response_line ending ≡ line_of_ask old.opening old.until old.limit (reverse old.history) ask
+pub record IsStep (old new : Ledger) (ask : SeatAsk) (response : Result Reply AccountFault) : Type 0 where
+  pub line : response_line response ≡ line_of_ask old.opening old.until old.limit (reverse old.history) ask
   pub history : reverse new.history ≡ history_after old.opening old.until old.limit (reverse old.history) ask
   pub opening : new.opening ≡ old.opening
   pub until : new.until ≡ old.until
@@ -82,11 +82,11 @@ refused_step ledger seat asked why (inl refused) memory = record { line = rw ref
 refused_step ledger seat asked why (inr refused) memory = absurd (memory refused.1)
 
 module _ (old new : Teller) (ledger : Ledger) (is : IsTellerOf ledger old) (seat : ℕ) (asked : Asked) where
-  pub step : (ending : Result Reply AccountFault)
-      → IfOk ending (λ reply. (l : Ledger) → IsTellerOf l old → reply ≡ answer_of l asked)
-      → OnOk ending ((l : Ledger) → IsTellerOf l old → refusal_of l asked ≡ None)
-      → IfErr ending (λ why. (l : Ledger) → IsTellerOf l old → IsRefusal l asked why)
-      → ending ≢ Err fault.OutOfMemory → IsStep ledger (ledger_after ledger seat asked ending) (record { seat = seat; asked = asked }) ending
+  pub step : (response : Result Reply AccountFault)
+      → IfOk response (λ reply. (l : Ledger) → IsTellerOf l old → reply ≡ answer_of l asked)
+      → OnOk response ((l : Ledger) → IsTellerOf l old → refusal_of l asked ≡ None)
+      → IfErr response (λ why. (l : Ledger) → IsTellerOf l old → IsRefusal l asked why)
+      → response ≢ Err fault.OutOfMemory → IsStep ledger (ledger_after ledger seat asked response) (record { seat = seat; asked = asked }) response
   step (Ok reply) answered admitted refused memory =
       let none : refusal_of ledger asked ≡ None = admitted ledger is in
       let right : reply ≡ answer_of ledger asked = answered ledger is in
@@ -99,16 +99,16 @@ module _ (old new : Teller) (ledger : Ledger) (is : IsTellerOf ledger old) (seat
       }
   step (Err why) answered admitted refused memory = refused_step ledger seat asked why (refused ledger is) (λ same. memory (ap Err same))
 
-  pub teller_after : (ending : Result Reply AccountFault)
-      → IfOk ending (λ reply. (l : Ledger) → IsTellerOf l old → IsTellerOf (entered l (event_by seat asked reply)) new)
-      → OnErr ending ((l : Ledger) → IsTellerOf l old → IsTellerOf l new)
-      → IsTellerOf (ledger_after ledger seat asked ending) new
+  pub teller_after : (response : Result Reply AccountFault)
+      → IfOk response (λ reply. (l : Ledger) → IsTellerOf l old → IsTellerOf (entered l (event_by seat asked reply)) new)
+      → OnErr response ((l : Ledger) → IsTellerOf l old → IsTellerOf l new)
+      → IsTellerOf (ledger_after ledger seat asked response) new
   teller_after (Ok reply) entered kept = entered ledger is
   teller_after (Err why) entered kept = kept ledger is
 
-pub one_replayed : (opening : ℕ) (until : Option ℕ) (limit : ℕ) (text : List ℕ) (old new : Ledger) (asks : List SeatAsk) (ask : SeatAsk) (ending : Result Reply AccountFault)
-    → IsReplayed opening until limit text old asks → IsStep old new ask ending → IsReplayed opening until limit (text ++ response_line ending) new (asks ++ ask ∷ [])
-one_replayed opening until limit text old new asks ask ending was step = record {
+pub one_replayed : (opening : ℕ) (until : Option ℕ) (limit : ℕ) (text : List ℕ) (old new : Ledger) (asks : List SeatAsk) (ask : SeatAsk) (response : Result Reply AccountFault)
+    → IsReplayed opening until limit text old asks → IsStep old new ask response → IsReplayed opening until limit (text ++ response_line response) new (asks ++ ask ∷ [])
+one_replayed opening until limit text old new asks ask response was step = record {
   opened = step.opening ∙ was.opened;
   lasting = step.until ∙ was.lasting;
   limited = step.limit ∙ was.limited;

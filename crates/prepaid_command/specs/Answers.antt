@@ -58,7 +58,7 @@ replay_of_input opening limit input = and_then (sized input) (λ text.
 pub record IsRunPrinted (ask : RunAsk) (text : List ℕ) (answer : Result Printout Fault) : Type 0 where
   pub made : Result RunSaid RunError
   pub is_made : IsRunAnswer ask text made
-  pub ending : answer ≡ result_map_both printout_of_run of_run made
+  pub printed : answer ≡ result_map_both printout_of_run of_run made
 
 -- what `run` may make of an input. It isn't a function of that: the workers meet at the accounts in any order
 abbrev pub IsRunOfInput : RunAsk → List ℕ → Result Printout Fault → Type 0
@@ -68,7 +68,7 @@ IsRunOfInput ask input answer = MatchResult (sized input) (λ text. IsRunPrinted
 pub record IsFiledRun (ask : RunAsk) (text : List ℕ) (answer : Result Printout Fault) : Type 0 where
   pub made : Result TablesSaid RunError
   pub is_made : IsTablesAnswer ask text made
-  pub ending : MatchResult made (λ tables. (answer ≡ Ok (printout_of_files tables)) ⊎ (answer ≡ Err fault.Into)) (λ why. answer ≡ Err (of_run why))
+  pub printed : MatchResult made (λ tables. (answer ≡ Ok (printout_of_files tables)) ⊎ (answer ≡ Err fault.Into)) (λ why. answer ≡ Err (of_run why))
 
 -- what it may make of an input
 abbrev pub IsFiledRunOfInput : RunAsk → List ℕ → Result Printout Fault → Type 0
@@ -82,7 +82,7 @@ printout_of_audit audit = record { text = audit.lines; passes = audit.passes; re
 pub record IsAuditPrinted (ask : AuditAsk) (text : List ℕ) (books : Books) (answer : Result Printout Fault) : Type 0 where
   pub audit : Audited
   pub is_audit : IsAuditOf (most_rows ask.size) ask.lines ask.rows (rows_of text) books audit
-  pub ending : answer ≡ Ok (printout_of_audit audit)
+  pub printed : answer ≡ Ok (printout_of_audit audit)
 
 -- what `audit` makes of a table of books, as it is asked
 abbrev pub IsAuditOfTable : AuditAsk → List ℕ → Result Printout Fault → Type 0
@@ -97,7 +97,7 @@ IsAuditOfInput ask input answer = MatchResult (sized_as ask.size input) (λ text
 pub record IsQuotePrinted (bands : List Band) (wish : QuoteWish) (answer : Result Printout Fault) : Type 0 where
   pub text : List ℕ
   pub is_text : IsQuoteText bands wish text
-  pub ending : answer ≡ Ok (plain text)
+  pub printed : answer ≡ Ok (plain text)
 
 -- what `quote` makes of an input, which is a tariff
 abbrev pub IsQuoteOfInput : QuoteWish → List ℕ → Result Printout Fault → Type 0
@@ -176,7 +176,7 @@ pub record Answers (words : List (List ℕ)) (input : Option (List ℕ)) (status
   pub said : IfSome input (λ text. IfErr answer (λ why. IfSome more (λ said. IsSaidBy words text why said)))
   -- and behind an answer: nothing but of a run
   pub added : IfSome input (λ text. IfOk answer (λ printout. IfSome more (λ said. IsAdded words text said)))
-  pub ending : IsSaidOrReported more answer status old new
+  pub printed : IsSaidOrReported more answer status old new
 
 -- ---- records that are rated as they come
 

@@ -6,4 +6,4 @@ use Rattle.entry_rows.specs.Responses.{response_text}
 
 -- the line of an answer: its reply, or the fault in its place
 abbrev pub response_line : Result Reply AccountFault → List ℕ
-response_line ending = response_text ending ++ codes "\n"
+response_line response = response_text response ++ codes "\n"

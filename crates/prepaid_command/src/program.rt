@@ -144,7 +144,7 @@ where
 
 /// Prints an answer, or reports a fault, with what is said of it, and gives the status.
 fn tell<O: Write, E: Write>(output: &mut O, faults: &mut E, ending: Ending) -> u8
-    ensures ending { IsSaidOrReported (option_map string_bytes ending.more)
+    ensures printed { IsSaidOrReported (option_map string_bytes ending.more)
         (result_map_both printout_of (λ fault. fault) ending.answer) result
         (record { output = O.contents output.old; faults = E.contents faults.old })
         (record { output = O.contents output.new; faults = E.contents faults.new }) }
@@ -271,7 +271,7 @@ fn quote_input<I: Read + Drop>(
 /// The status of an answer: its own where the whole text went to the output, and then the line
 /// about refusals to the error writer, with what is said besides; 2 where the output failed.
 fn print<O: Write, E: Write>(output: &mut O, faults: &mut E, answer: &Answer, more: &[u8]) -> u8
-    ensures ending { IsPrinted (printout_of answer.now) more.now result
+    ensures printed { IsPrinted (printout_of answer.now) more.now result
         (record { output = O.contents output.old; faults = E.contents faults.old })
         (record { output = O.contents output.new; faults = E.contents faults.new })
         ⊎ IsCutOff (printout_of answer.now) result

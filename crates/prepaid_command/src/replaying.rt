@@ -66,7 +66,7 @@ pub fn replay<I: Read + Drop>(
 fn write_answer(text: &mut String, answer: Result<Reply, AccountFault>) -> Result<(), TableFault>
     ensures line { OnOk result (string_bytes text.new ≡ string_bytes text.old
         ++ response_line answer) }
-    ensures ending { OnOk result (answer ≢ Err AccountFault.OutOfMemory) }
+    ensures known { OnOk result (answer ≢ Err AccountFault.OutOfMemory) }
     ensures fault { IfErr result (λ fault. fault ≡ out.OutOfMemory) }
 {
     if let Err(AccountFault::OutOfMemory) = answer {

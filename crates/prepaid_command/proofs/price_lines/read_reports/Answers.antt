@@ -10,7 +10,7 @@ use Rattle.prepaid_command.proofs.price_lines.read_reports.Goals as goal
 pub returns-in_err-table : goal.returns-in_err-table
 returns-in_err-table g c =
     let form = reports_form (rates_of c.args.plan.now) in
-    ending (g.I.Read.remaining c.args.reader) _ c.from_residual.result c.in_err-table.field-0.0 _ (λ text. table_reports_of (rates_of c.args.plan.now) (rows_of text)) c.from_residual.ensures.1
+    said_so (g.I.Read.remaining c.args.reader) _ c.from_residual.result c.in_err-table.field-0.0 _ (λ text. table_reports_of (rates_of c.args.plan.now) (rows_of text)) c.from_residual.ensures.1
     (not_opened form g.I.Read.remaining _ c.in_err-table.field-0.0 c.in_err-table.ensures.opens)
     (λ text. refuses form (λ row why. refl) (λ all. all) (λ why. refl) c.in_err-table.field-0.0 (table_of form (rows_of text)))
 
@@ -23,7 +23,7 @@ loop-reports-init g c =
 pub returns-in_err-next_row : goal.returns-in_err-next_row
 returns-in_err-next_row g c =
     let form = reports_form (rates_of c.args.plan.now) in
-    ending (g.I.Read.remaining c.args.reader) _ c.from_residual-in_err-next_row.result c.in_err-next_row.field-0.0 _ (λ text. table_reports_of (rates_of c.args.plan.now) (rows_of text)) c.from_residual-in_err-next_row.ensures.1
+    said_so (g.I.Read.remaining c.args.reader) _ c.from_residual-in_err-next_row.result c.in_err-next_row.field-0.0 _ (λ text. table_reports_of (rates_of c.args.plan.now) (rows_of text)) c.from_residual-in_err-next_row.ensures.1
     (stopped form g.I.Read.remaining _ c.loop-reports.table c.next_row.new.self _ c.loop-reports.invariant.1 c.in_err-next_row.field-0.0 c.in_err-next_row.ensures.steps)
     (λ text. refuses form (λ row why. refl) (λ all. all) (λ why. refl) c.in_err-next_row.field-0.0 (table_of form (rows_of text)))
 

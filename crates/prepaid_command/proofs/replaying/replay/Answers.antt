@@ -11,7 +11,7 @@ use Rattle.prepaid_command.proofs.replaying.replay.Goals as goal
 
 pub returns-in_err-table : goal.returns-in_err-table
 returns-in_err-table g c =
-    ending (g.I.Read.remaining c.args.reader) _ c.from_residual.result c.in_err-table.field-0.0 _ (λ text. replayed c.args.opening c.args.limit (rows_of text)) c.from_residual.ensures.1
+    said_so (g.I.Read.remaining c.args.reader) _ c.from_residual.result c.in_err-table.field-0.0 _ (λ text. replayed c.args.opening c.args.limit (rows_of text)) c.from_residual.ensures.1
     (not_opened asks_form g.I.Read.remaining _ c.in_err-table.field-0.0 c.in_err-table.ensures.opens)
     (λ text. refuses asks_form (λ row why. refl) (replayed_lines c.args.opening None c.args.limit []) (λ why. refl) c.in_err-table.field-0.0 (asks_of (rows_of text)))
 
@@ -27,7 +27,7 @@ loop-text-init g c = (
 pub returns-in_err-next_row : goal.returns-in_err-next_row
 returns-in_err-next_row g c =
     let (asks, ledger, read, teller_is, replay) = c.loop-text.invariant in
-    ending (g.I.Read.remaining c.args.reader) _ c.from_residual-in_err-next_row.result c.in_err-next_row.field-0.0 _ (λ text. replayed c.args.opening c.args.limit (rows_of text)) c.from_residual-in_err-next_row.ensures.1
+    said_so (g.I.Read.remaining c.args.reader) _ c.from_residual-in_err-next_row.result c.in_err-next_row.field-0.0 _ (λ text. replayed c.args.opening c.args.limit (rows_of text)) c.from_residual-in_err-next_row.ensures.1
     (stopped asks_form g.I.Read.remaining _ c.loop-text.table c.next_row.new.self asks read c.in_err-next_row.field-0.0 c.in_err-next_row.ensures.steps)
     (λ text. refuses asks_form (λ row why. refl) (replayed_lines c.args.opening None c.args.limit []) (λ why. refl) c.in_err-next_row.field-0.0 (asks_of (rows_of text)))
 
@@ -69,7 +69,7 @@ loop-text-preserved g c =
       rw c.in_ok-write_answer.ensures.line
           (one_replayed c.args.opening None c.args.limit (string_bytes c.loop-text.text) ledger _ asks (asking_of ask) c.apply.result replay
           (step c.loop-text.teller c.apply.new.self ledger teller_is ask.seat (asked_of ask.op) c.apply.result
-          answers.answered answers.admitted answers.refused c.in_ok-write_answer.ensures.ending)),
+          answers.answered answers.admitted answers.refused c.in_ok-write_answer.ensures.known)),
     )
 
 pub returns : goal.returns

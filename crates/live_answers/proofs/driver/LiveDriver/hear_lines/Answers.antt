@@ -29,6 +29,6 @@ returns-clause-hears g c =
       line = rw (first_is, c.as_slice.ensures.value) at c.in_ok-self.ensures.line;
       said = said_is;
       gives = gave ∙ ap (λ v. map item_view was ++ flat_map given_by v) said_is ∙ ap (λ l. map item_view was ++ l) (given_each heard);
-      prints = rw (first_is, c.as_slice.ensures.value) at c.in_ok-self.ensures.said_so;
+      prints = rw (first_is, c.as_slice.ensures.value) at c.in_ok-self.ensures.printed;
       logs = rw (c.as_slice-3.ensures.value, logged_is) at c.in_ok-put_down.ensures.logs;
     }
