@@ -3,7 +3,7 @@
 use crate::messages::recharge;
 use run_values::Post;
 use std::test::Fail;
-use workers_core::{Gone, Mail, compare, mailbox};
+use workers_core::{Gone, Mail, compare_ends, mailbox};
 
 fn work(number: u64) -> Mail<Post> {
     Mail::Work(Post {
@@ -21,7 +21,7 @@ fn mails_come_in_order_until_the_last(rt: HostRuntime) -> Result<(), Fail> {
     assert_eq!(rt; outbox.send_mail(&rt, work(1)), Err(work(1)));
     assert_eq!(rt; inbox.take_mail(&rt), Ok(work(0)));
     assert_eq!(rt; inbox.take_mail(&rt), Ok(Mail::Close));
-    compare(outbox, inbox);
+    compare_ends(outbox, inbox);
 
     // An end that is left alone says so.
     let (mut outbox, inbox) = mailbox::<Post>(rt.alloc(), 1)?;

@@ -21,7 +21,7 @@ use std::alloc::Global;
 use std::snapshot::Snapshot;
 use std::sync::Wait;
 use std::thread::{Promise, PromisedHandle, Scope, Threads};
-use workers_core::{Gone, Inbox, Mail, Outbox, Worker, compare, mailbox};
+use workers_core::{Gone, Inbox, Mail, Outbox, Worker, compare_ends, mailbox};
 
 /// How many mails wait in a mailbox at most: those of one round, and the last one.
 const MAILBOX: u32 = 2;
@@ -155,9 +155,9 @@ impl<S: Shared, G: Gate> WorkerLink<'_, S, G> {
             inbox: posts,
             outbox: answers,
         } = child.join(rt)?;
-        compare(outbox, posts);
+        compare_ends(outbox, posts);
         take_last(rt, &mut inbox)?;
-        compare(answers, inbox);
+        compare_ends(answers, inbox);
         Ok(seats)
     }
 }
@@ -229,7 +229,7 @@ fn answer_rounds<S: Shared, R: Wait, G: Gate>(
 {
     for _ in rt.forever() {
         match inbox.take_mail(rt) {
-            Ok(Mail::Work(posts)) => answer_round(rt, alloc, worker, posts, outbox, gate)?,
+            Ok(Mail::Work(posts)) => answer_posts(rt, alloc, worker, posts, outbox, gate)?,
             Ok(Mail::Close) => return Ok(()),
             Err(Gone) => return Err(RunFault::Channel),
         }
@@ -238,7 +238,7 @@ fn answer_rounds<S: Shared, R: Wait, G: Gate>(
 }
 
 /// Handles the posts of a round, and sends their answers.
-fn answer_round<S: Shared, R: Wait, G: Gate>(
+fn answer_posts<S: Shared, R: Wait, G: Gate>(
     rt: &R,
     alloc: Global,
     worker: &mut Worker<'_, S>,

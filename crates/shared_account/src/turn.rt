@@ -188,7 +188,7 @@ pub(crate) fn hear(board: &Board, first: &mut Chair, second: &mut Chair)
 
 /// Compares what a chair has heard with what it has seen: the longer of the two is what it has
 /// seen.
-pub(crate) fn compare(board: &Board, chair: &mut Chair)
+pub(crate) fn compare_views(board: &Board, chair: &mut Chair)
     requires at { IsAt board.now.shared.table_id chair.old.table_id }
     requires idle { chair.old.me.0.stage ≡ Idles }
     ensures table { chair.new.table_id ≡ chair.old.table_id }

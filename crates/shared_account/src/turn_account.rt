@@ -17,7 +17,7 @@ ghost use Rattle.account_core.specs.Places.{IsClosing};
 ghost use Rattle.shared_account.specs.declared.fault.CloseFault.TheVariants as close;
 
 use crate::board::{Board, Chair, Start, lay_board, make_seats};
-use crate::turn::{append, ask_in_turn, compare, hand_on, hear, take_turn};
+use crate::turn::{append, ask_in_turn, compare_views, hand_on, hear, take_turn};
 use crate::turn_closing::close_board;
 use crate::{Book, CloseFault, Gate, Shared, TurnSeat};
 use account_core::{AccountFault, Entry, Op, Reply};
@@ -166,7 +166,7 @@ impl TurnAccount {
         ensures own { own_of second.new ≡ own_of second.old }
     {
         hear(&self.board, &mut first.chair, &mut second.chair);
-        compare(&self.board, &mut second.chair);
+        compare_views(&self.board, &mut second.chair);
     }
 
     /// Ends the sharing: the account's book, where all of its seats are handed in, in the order of

@@ -14,6 +14,6 @@ pub use laws::{
     posts_are_handled, recharges_are_entered, reports_are_settled, reserves_are_on_terms,
     what_is_said_is_sent,
 };
-pub use mailboxes::{Mail, compare, mailbox};
+pub use mailboxes::{Mail, compare_ends, mailbox};
 pub use worker::Worker;
 pub use worker_fault::WorkerFault;

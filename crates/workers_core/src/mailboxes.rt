@@ -38,7 +38,7 @@ pub fn mailbox<T: Drop>(alloc: Global, capacity: u32) -> Result<(Outbox<T>, Inbo
 
 /// What the two ends of a mailbox say of each other when both are back in one place: what was
 /// taken is what was sent first, in order, and all of it where the last mail was taken.
-pub fn compare<T: Drop>(outbox: Outbox<T>, inbox: Inbox<T>)
+pub fn compare_ends<T: Drop>(outbox: Outbox<T>, inbox: Inbox<T>)
     requires { ArePaired outbox inbox }
     ensures prefix { (waiting : List (Mail T)) × (sent outbox ≡ taken inbox ++ waiting) }
     ensures close { ends_at_close (sent outbox) ≡ true }

@@ -15,7 +15,7 @@ loop-init g c =
 pub loop-preserved : goal.loop-preserved
 loop-preserved g c =
     let before = c.loop.invariant in
-    let does = c.in_ok-answer_round-in-Ok-Work.ensures.goes_on in
+    let does = c.in_ok-answer_posts-in-Ok-Work.ensures.goes_on in
     let posts = items_more (taken c.loop.inbox) _ c.in-Ok-Work.posts (rw c.in-Ok-Work.field-0-is at c.in-Ok-Work.ensures.taken) in
     let answers = ap (map answer_view) does.1 ∙ map-append answer_view (items_in (sent c.loop.outbox)) does.0 in
     (search rules, search rules, rw (posts, answers) (goes_more (number_by g.S.Shared.terms) g.S.Shared.key g.S.Shared.reads g.S.Shared.was c.args.worker.now _ _ _ _ c.loop.worker _ before.2 does.2))

@@ -11,9 +11,9 @@ returns-clause-left g c =
     let promise = c.args.self.child.promise in
     let left = c.in_ok-seats.field-0 in
     let last = c.in_ok-take_last.ensures.last in
-    let whole = c.compare-2.ensures.whole (rw (last) (closes (taken c.args.self.inbox))) in
+    let whole = c.compare_ends-2.ensures.whole (rw (last) (closes (taken c.args.self.inbox))) in
     let heard = sym (ap items_in whole) ∙ items_closed (taken c.args.self.inbox) _ last in
-    let all = c.compare.ensures.whole (search rules) in
+    let all = c.compare_ends.ensures.whole (search rules) in
     let posts : items_in (taken left.inbox) ≡ items_in (sent c.args.self.outbox) = ap items_in all ∙ same_items c.send_mail.result _ _ c.send_mail.ensures.sent in
     let Its = IsLeft g.S.Shared.reads g.S.Shared.was (map g.S.Shared.key promise.accounts.now) promise.setup.now promise.number in
     subst (λ answer. Its (items_in (sent c.args.self.outbox)) (map answer_view answer) left.seats.items) heard

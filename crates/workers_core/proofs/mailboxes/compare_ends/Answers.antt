@@ -6,7 +6,7 @@ use Rattle.workers_core.specs.Logs.{ends_at_close}
 use Rattle.workers_core.specs.declared.mailboxes.Log.{Log}
 use Rattle.workers_core.proofs.Closes.{nothing_waits}
 use Rattle.workers_core.proofs.Orders.{rejoins}
-use Rattle.workers_core.proofs.mailboxes.compare.Goals as goal
+use Rattle.workers_core.proofs.mailboxes.compare_ends.Goals as goal
 
 pub absorb-requires-clause-rule : goal.absorb-requires-clause-rule
 absorb-requires-clause-rule g c =
