@@ -25,7 +25,7 @@ use Rattle.moment_texts.specs.Reading.{at_most, both, date_and_time_of, day_of, 
 use Rattle.moment_texts.specs.declared.clock.Clock.{Clock}
 use Rattle.rated_records.specs.Tables.{IsPrintable, record_fields}
 use Rattle.rating.specs.Calls.{row_size, with_commas}
-use Rattle.run_records.specs.Laws.{RecordIsInRange}
+use Rattle.run_laws.specs.Records.{RecordIsInRange}
 use Rattle.table_core.specs.Decimals.{decimal_of, digits_text, is_decimal}
 use Rattle.table_core.specs.Printed.{DecimalsArePlain, IsPlain, IsPlainRow}
 use Rattle.table_core.specs.Rows.{Fields}

@@ -29,8 +29,8 @@ use Rattle.rating.specs.Texts.{IsRatedRow, IsRatedText, RateInput, RatedRow, hea
 use Rattle.rating.specs.declared.fault.RateFault.{RateFault}
 use Rattle.rating.specs.declared.kind.RateKind.{RateKind}
 use Rattle.rating.specs.declared.tally.Tally.{Tally}
-use Rattle.run_records.specs.Laws.{IsServedRun, RecordsAreInRange}
-use Rattle.run_records.specs.Starts.{HaveTheirStarts}
+use Rattle.run_laws.specs.Records.{IsServedRun, RecordsAreInRange}
+use Rattle.run_laws.specs.Starts.{HaveTheirStarts}
 use Rattle.run_texts.specs.Inputs.{as_input_fault}
 use Rattle.run_texts.specs.declared.input_fault.InputFault.{InputFault}
 use Rattle.run_texts.specs.declared.input_fault.InputFault.TheVariants as fault

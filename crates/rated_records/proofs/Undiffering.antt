@@ -12,8 +12,8 @@ use Rattle.rated_records.specs.Laws.{IsRatedBy, RecordsHaveNoDifference, paid_ri
 use Rattle.rating.specs.Rated.{Rating, Faulty, Priced}
 use Rattle.rating.specs.declared.charge.Charge.{Charge}
 use Rattle.rating.specs.declared.kind.RateKind.TheVariants as kind
-use Rattle.run_records.proofs.Unrouted.{routed}
-use Rattle.run_records.specs.Laws.{CallsPayTheirRoute, IsUntalked, PaysItsRoute, RecordsAreInRange}
+use Rattle.run_laws.proofs.Unrouted.{routed}
+use Rattle.run_laws.specs.Records.{CallsPayTheirRoute, IsUntalked, PaysItsRoute, RecordsAreInRange}
 use Rattle.shared_account.specs.Closed.{Closed}
 use Rattle.shared_account.specs.Refusals.{Knowing}
 use Rattle.tariff_core.proofs.Routing.{one_prefix, same_terms}

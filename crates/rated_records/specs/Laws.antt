@@ -10,8 +10,8 @@ use Rattle.rating.specs.Rated.{IsPriced, Rating, Faulty, Priced}
 use Rattle.rating.specs.declared.charge.Charge.{Charge}
 use Rattle.rating.specs.declared.kind.RateKind.{RateKind}
 use Rattle.rating.specs.declared.kind.RateKind.TheVariants as kind
-use Rattle.run_records.specs.Laws.{IsServedRun}
-use Rattle.run_records.specs.Starts.{HaveTheirStarts}
+use Rattle.run_laws.specs.Records.{IsServedRun}
+use Rattle.run_laws.specs.Starts.{HaveTheirStarts}
 use Rattle.shared_account.specs.Closed.{Closed}
 use Rattle.shared_account.specs.Refusals.{Knowing}
 use Rattle.table_core.specs.Judging.{and_then}

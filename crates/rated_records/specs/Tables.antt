@@ -16,8 +16,8 @@ use Rattle.rating.specs.Lines.{header_line}
 use Rattle.rating.specs.Tallies.{passes}
 use Rattle.rating.specs.Texts.{IsRatedText, RatedRow, counts_of, rate_input_of, rated_text}
 use Rattle.rating.specs.declared.tally.Tally.{Tally}
-use Rattle.run_records.specs.Laws.{IsServedRun}
-use Rattle.run_records.specs.Starts.{HaveTheirStarts}
+use Rattle.run_laws.specs.Records.{IsServedRun}
+use Rattle.run_laws.specs.Starts.{HaveTheirStarts}
 use Rattle.run_texts.specs.FirstParts.{FirstPart, first_part}
 use Rattle.run_texts.specs.Inputs.{tariff_in}
 use Rattle.shared_account.specs.Closed.{Closed}

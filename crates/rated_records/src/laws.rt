@@ -6,7 +6,7 @@ ghost use Rattle.rated_records.specs.Runs.{RunsHaveNoDifference};
 ghost use Rattle.rated_records.specs.Tables.{NoRowIsPrinted, TablesHaveNoDifference};
 
 use moment_texts::printed_moments_are_read;
-use run_records::{calls_pay_their_route, records_are_in_range};
+use run_laws::{calls_pay_their_route, records_are_in_range};
 use shared_account::{Shared, TurnAccount};
 use table_core::{printed_decimals_are_read, printed_tables_are_read};
 use tariff_core::read_tariffs_are_proper;
@@ -17,7 +17,7 @@ use tariff_core::read_tariffs_are_proper;
 /// record has no prefix.
 ///
 /// It holds of each record but those with a forfeit, which have paid all that was held for them. It
-/// takes what `run_records::calls_pay_their_route` takes, and that the tariff is proper
+/// takes what `run_laws::calls_pay_their_route` takes, and that the tariff is proper
 /// (`IsProper`), as each that is read.
 pub fn records_have_no_difference<S: Shared>()
     ensures { RecordsHaveNoDifference S.stood }

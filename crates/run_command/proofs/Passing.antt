@@ -1,8 +1,8 @@
 -- The books of a run over an input pass the audit.
 use Rattle.std.proofs.Common.{◌≡◌, ◌≤◌, ◌+◌, ◌*◌, ℕ, List, length, sym, subst, arith}
 use Rattle.book_texts.specs.Printable.{row_count}
-use Rattle.run_books.specs.Laws.{RunsHaveFewRows, RunsPassTheAudit}
-use Rattle.run_books.specs.Runs.{HasAccounts, IsRecorded}
+use Rattle.run_laws.specs.Books.{RunsHaveFewRows, RunsPassTheAudit}
+use Rattle.run_laws.specs.Runs.{HasAccounts, IsRecorded}
 use Rattle.run_command.proofs.Timing.{given_timely, rows_in_time}
 use Rattle.run_command.specs.Laws.{PlayedBooksPass}
 use Rattle.run_values.specs.declared.directory.OpeningCredit.{OpeningCredit}

@@ -1,7 +1,7 @@
 -- What a run of an input says, from what its rows came to over its setup.
 use Rattle.std.proofs.Common.{◌≡◌, ◌∙◌, ℕ, List, [], map, length, ap, subst, arith}
 use Rattle.std.specs.List.{flat_map}
-use Rattle.run_books.specs.Runs.{HasAccounts}
+use Rattle.run_laws.specs.Runs.{HasAccounts}
 use Rattle.run_command.proofs.Resaid.{part_said_alike}
 use Rattle.run_command.specs.Answers.{IsRunOf, RunSaid}
 use Rattle.run_command.specs.Books.{AreBooksOf, IsSetupOf}

@@ -9,7 +9,7 @@ use Rattle.cap_values.specs.declared.message.SsfMsg.{SsfMsg}
 use Rattle.cap_values.specs.declared.message.SsfMsg.TheVariants as message
 use Rattle.cap_values.specs.declared.number.Number.{Number}
 use Rattle.runs_core.proofs.Listed.{all_passing}
-use Rattle.run_records.specs.Starts.{HasItsParties, HasItsStart, HaveTheirParties, HaveTheirStarts, begins_with}
+use Rattle.run_laws.specs.Starts.{HasItsParties, HasItsStart, HaveTheirParties, HaveTheirStarts, begins_with}
 use Rattle.run_values.specs.declared.post.Body.{Body}
 use Rattle.run_values.specs.declared.post.Body.TheVariants as body
 use Rattle.script_player.specs.Plays.{IsPlayed}

@@ -6,7 +6,7 @@ use Rattle.std.proofs.lemmas.List.Elements.{All-append, All-cons, All-head, All-
 use Rattle.cap_values.specs.declared.message.SsfMsg.TheVariants as message
 use Rattle.entry_rows.specs.Fits.{FitsReport, IsMoment}
 use Rattle.runs_core.proofs.Listed.{all_passing, all_unmapped}
-use Rattle.run_books.specs.Timely.{AreTimely, IsTimely}
+use Rattle.run_laws.specs.Timely.{AreTimely, IsTimely}
 use Rattle.run_command.specs.Plays.{IsPlayOf}
 use Rattle.run_texts.specs.Happenings.{ScriptEvent, is_in_time}
 use Rattle.run_texts.specs.Views.{happens_of, script_event}

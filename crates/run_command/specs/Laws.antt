@@ -4,16 +4,16 @@ use Rattle.book_texts.specs.Printable.{row_count}
 use Rattle.book_texts.specs.Sizes.{most_rows}
 use Rattle.book_texts.specs.Typed.{IsTyped}
 use Rattle.book_texts.specs.declared.size.BookSize.TheVariants as size
-use Rattle.run_books.specs.Laws.{PassTheAudit}
-use Rattle.run_books.specs.Runs.{HasAccounts}
+use Rattle.run_laws.specs.Books.{PassTheAudit}
+use Rattle.run_laws.specs.Runs.{HasAccounts}
 use Rattle.call_records.specs.Records.{AreRecords, IsRecord, Run}
 use Rattle.call_records.specs.declared.call_record.CallRecord.{CallRecord}
 use Rattle.call_records.specs.declared.outcome.Outcome.TheVariants as outcome
 use Rattle.run_command.specs.Books.{AreBooksOf}
 use Rattle.run_command.specs.Plays.{IsGivenBy}
 use Rattle.run_options.specs.declared.options.RunAsk.{RunAsk}
-use Rattle.run_records.specs.Laws.{IsServedRun, IsUntalked, PaysItsRoute, paid_by_calls}
-use Rattle.run_records.specs.Starts.{HaveTheirStarts}
+use Rattle.run_laws.specs.Records.{IsServedRun, IsUntalked, PaysItsRoute, paid_by_calls}
+use Rattle.run_laws.specs.Starts.{HaveTheirStarts}
 use Rattle.run_texts.specs.Happenings.{is_in_time}
 use Rattle.run_texts.specs.Inputs.{RunInput}
 use Rattle.run_values.specs.declared.post.Answer.{Answer}

@@ -1,6 +1,6 @@
 use Rattle.std.proofs.Common.{refl, ap, true, ◌≡◌}
 use Rattle.std.proofs.lemmas.List.Elements.{All-map}
-use Rattle.run_books.specs.Runs.{HasAccounts}
+use Rattle.run_laws.specs.Runs.{HasAccounts}
 use Rattle.run_texts.specs.Happenings.{ScriptEvent, is_in_time}
 use Rattle.run_texts.specs.Inputs.{input_in}
 use Rattle.run_texts.specs.Views.{script_event, with_digits}

@@ -1,0 +1,12 @@
+pub mod Entries
+pub mod Grants
+pub mod Openings
+pub mod Posts
+pub mod Printing
+pub mod Ranges
+pub mod Reserves
+pub mod Routed
+pub mod RowCounts
+pub mod Sums
+pub mod Totals
+pub mod Unrouted

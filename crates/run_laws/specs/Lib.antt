@@ -1,0 +1,5 @@
+pub mod Books
+pub mod Records
+pub mod Runs
+pub mod Starts
+pub mod Timely

@@ -1,5 +1,0 @@
-use Rattle.run_records.proofs.Ranges.{all_in_range}
-use Rattle.run_records.proofs.laws.records_are_in_range.Goals as goal
-
-pub returns : goal.returns
-returns g c = all_in_range g.S.Shared.stood c.tariff_laws.ensures
