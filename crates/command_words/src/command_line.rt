@@ -288,7 +288,7 @@ fn add_other_options<'a>(alloc: Global, command: Command<'a>) -> Result<Command<
 {
     let workers = option(alloc, "workers", "How many workers serve it, 1 to 16 [2]");
     let command = add(command, workers)?;
-    let parts = "Plays it in so many parts, in less memory";
+    let parts = "Plays it in this number of parts, in less memory";
     let command = add(command, option(alloc, "parts", parts))?;
     let threads = "How many threads play the parts, 1 to 64 [1]";
     let command = add(command, option(alloc, "threads", threads))?;

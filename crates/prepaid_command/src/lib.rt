@@ -12,10 +12,10 @@ mod program;
 mod quoting;
 mod rating_rows;
 mod replaying;
+mod reports;
 mod running;
 mod serving;
 mod stranger_lines;
-mod tables;
 
 pub use fault::{Fault, Part};
 pub use input::MAX_INPUT;

@@ -12,7 +12,7 @@ ghost use Rattle.csv.specs.Records.{fields_of};
 ghost use Rattle.entry_rows.specs.Columns.{HasOperation};
 ghost use Rattle.table_core.specs.declared.fault.TableFault.TheVariants as out;
 
-use crate::tables::MAX_ROWS;
+use crate::input::MAX_ROWS;
 use account_core::{AccountFault, Op, Reply, Teller};
 use csv::ByteRecord;
 use entry_rows::{Version, is_op_blank, read_op, read_op_word, read_seat, write_response};

@@ -4,7 +4,7 @@ use Rattle.table_core.proofs.TableLemmas.{IsRead}
 use Rattle.tariff_core.specs.RatesOf.{rates_of}
 use Rattle.tariff_core.specs.Times.{no_times}
 use Rattle.prepaid_command.specs.Reports.{last_after, reports_form}
-use Rattle.prepaid_command.proofs.price_lines.read_reports.Given as goal
+use Rattle.prepaid_command.proofs.reports.read_reports.Given as goal
 
 -- the reports so far
 abbrev pub invariant-loop-reports : goal.invariant-loop-reports

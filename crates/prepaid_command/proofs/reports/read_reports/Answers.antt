@@ -5,7 +5,7 @@ use Rattle.table_core.proofs.TableLemmas.{ended, not_opened, opened, refused, re
 use Rattle.tariff_core.specs.RatesOf.{rates_of}
 use Rattle.prepaid_command.specs.Reports.{last_after, reports_form, table_reports_of}
 use Rattle.prepaid_command.proofs.ReportLemmas.{last_more}
-use Rattle.prepaid_command.proofs.price_lines.read_reports.Goals as goal
+use Rattle.prepaid_command.proofs.reports.read_reports.Goals as goal
 
 pub returns-in_err-table : goal.returns-in_err-table
 returns-in_err-table g c =
