@@ -1,5 +1,5 @@
 use Rattle.account_core.proofs.FittingAnswers.{kindly}
-use Rattle.account_core.proofs.laws.answers_are_kindly.Goals as goal
+use Rattle.account_core.proofs.laws.answers_fit_their_operations.Goals as goal
 
 pub returns : goal.returns
 returns c = kindly c.tariff_laws.ensures
