@@ -3,7 +3,8 @@
 
 The page has each definition that a public clause names, of a public function, a trait or a public type, and the
 definition before it where its comment goes on from that one's. Without --write the page is compared with what would be
-written, and the status is 1 where they differ, or where a definition of the page has no comment.
+written, and the status is 1 where they differ, where a definition of the page has no comment, or where two files define
+the same name.
 """
 import argparse
 import difflib
@@ -20,7 +21,7 @@ crate's `specs/` that has it. The sentences are the comments there, and `tests/d
 them. Numbers are natural numbers without bounds; times are in units of 100 ms.
 """
 CITED = re.compile(r"ghost use Rattle\.(\w+)\.specs\.([\w.]+)\.\{([^}]*)\}")
-DEFINED = re.compile(r"(?:abbrev )?pub (?:record |data |abbrev )?([^\s:]+)")
+DEFINED = re.compile(r"(?:abbrev |unfoldable )?pub (?:record |data |abbrev )?([^\s:]+)")
 BINDERS = re.compile(r"\(([^():]+) :")
 # How a comment begins that goes on from that of the definition before it.
 GOES_ON = re.compile(r"(the same|whether there is one|and|so|its?|they|such|or)\b")
@@ -120,6 +121,15 @@ def section(crate, wanted):
     return f"\n## `{crate}`\n\n{subject(crate)}\n\n| Name | In | Says |\n|---|---|---|\n{''.join(rows)}", bare
 
 
+def defined_twice(crates):
+    """The names that more than one file of specs/ defines, each with these files."""
+    files = {}
+    for crate in crates:
+        for file, name in definitions(crate):
+            files.setdefault(name, []).append(f"{crate}/specs/{file}.antt")
+    return {name: where for name, where in files.items() if len(where) > 1}
+
+
 def main():
     asked = argparse.ArgumentParser(description=__doc__, formatter_class=argparse.RawDescriptionHelpFormatter)
     asked.add_argument("--write", action="store_true")
@@ -137,9 +147,12 @@ def main():
         print(line)
     for name in sum(bare, []):
         print(f"{name} has no comment")
+    twice = defined_twice(crates)
+    for name, where in twice.items():
+        print(f"{name} is defined in {', '.join(where)}")
     rows = sum(len(re.findall(r"(?m)^\| `", text)) for text in sections)
     print(f"definitions: {rows} in {PAGE}")
-    return 1 if page != is_there or any(bare) or not rows else 0
+    return 1 if page != is_there or any(bare) or twice or not rows else 0
 
 
 if __name__ == "__main__":
