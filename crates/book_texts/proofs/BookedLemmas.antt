@@ -13,7 +13,7 @@ use Rattle.table_core.specs.Rows.{Fields}
 use Rattle.table_core.specs.declared.fault.RowKind.{RowKind}
 use Rattle.table_core.proofs.TableLemmas.{table_keeps}
 use Rattle.book_texts.specs.BookRows.{Enters, Opens, RowSaid, columns_in, row_said_in}
-use Rattle.book_texts.specs.Books.{Books, Booked, books_form, books_of, row_at, judged_books, entered_in_books, opened, account_so_far, books_with_entry, with_opening}
+use Rattle.book_texts.specs.Books.{Books, Booked, books_form, books_of, book_row_at, judged_books, entered_in_books, opened, account_so_far, books_with_entry, with_opening}
 
 -- ---- one account is set
 
@@ -97,8 +97,8 @@ judged_ascends books next (Ok (Opens account opening until)) is ascend = opened_
 judged_ascends books next (Ok (Enters account event)) is ascend = entered_ascends account event books next (account_so_far account books) is ascend
 judged_ascends books next (Err why) is ascend = cc
 
-row_ascends : (header : ℕ) (books next : Books) (fields : Fields) → row_at (version_at header) books fields ≡ Ok next → Ascend 0 books → Ascend 0 next
-unfolding row_at
+row_ascends : (header : ℕ) (books next : Books) (fields : Fields) → book_row_at (version_at header) books fields ≡ Ok next → Ascend 0 books → Ascend 0 next
+unfolding book_row_at
 row_ascends header books next fields is ascend = judged_ascends books next (row_said_in (columns_in (version_at header) fields)) is ascend
 
 pub books_ascend : (most : ℕ) (rows : List Fields) (books : Books) → books_of most rows ≡ Ok books → Ascend 0 books

@@ -27,7 +27,7 @@ use Rattle.table_core.proofs.Known.{map_known}
 use Rattle.entry_rows.specs.Versions.{version_at}
 use Rattle.book_texts.specs.Audits.{AreVerdicts, GivesAuditOf, IsSaidOfBooks}
 use Rattle.book_texts.specs.BookRows.{Enters, HasBookColumns, Opens, RowSaid, columns_in, row_said_in}
-use Rattle.book_texts.specs.Books.{Books, Booked, books_form, books_headers, books_of, entered_in_books, judged_books, opened, row_at, account_so_far, books_with_entry, with_opening}
+use Rattle.book_texts.specs.Books.{Books, Booked, books_form, books_headers, books_of, entered_in_books, judged_books, opened, book_row_at, account_so_far, books_with_entry, with_opening}
 use Rattle.book_texts.specs.Checks.{AreChecks, AreNoted, HaveVerdicts, Comes, GivesChecks, HaveChecks, HearsBy, IsOrdered, HasItsVerdict, ListComes, NotesEntry, audited_by, checks_by_account, verdicts_of, wrong_of}
 use Rattle.book_texts.specs.declared.account_checks.AccountChecks.{AccountChecks}
 use Rattle.book_texts.specs.declared.audit.Audit.{Audit}
@@ -207,10 +207,10 @@ both_known (Some x) P Q one other = (one, other)
 module _ {R : Type 0} (most : ℕ) (remaining : R → Option (List ℕ)) (known : Option (List ℕ)) (table after : Table R) (books next : Books) where
   -- the same after a row
   pub right_so_far : (wrongs now : List (ℕ × WrongRow)) → table.limit ≡ most → IsNextRow table after → StepsRow remaining table after (Ok true)
-      → row_at (version_at table.header) books (fields_of after.rows.row) ≡ Ok next
+      → book_row_at (version_at table.header) books (fields_of after.rows.row) ≡ Ok next
       → AreNoted after.number books (row_said_in (columns_in (version_at table.header) (fields_of after.rows.row))) wrongs now
       → IfSome known (AreRightSoFar most remaining table books wrongs) → IfSome known (AreRightSoFar most remaining after next now)
-  unfolding row_at
+  unfolding book_row_at
   right_so_far wrongs now limit moves steps is noted right = map_known known _ _ right (λ text (above, are).
       let fields = fields_of after.rows.row in
       let (further, first_is, rows_are) = next_above (books_form most) remaining table after books next text limit moves steps is above in

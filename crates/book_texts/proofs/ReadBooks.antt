@@ -34,7 +34,7 @@ use Rattle.tariff_core.specs.declared.times.TimeInfo.TheVariants as info
 use Rattle.book_texts.specs.Audits.{AreVerdicts, IsAuditOf, IsSummedUp, AccountVerdict, all_sum_lines, audited, passed_books}
 use Rattle.book_texts.specs.BookRows.{Enters, Opens, book_account_in, columns_in, entry_in, opening_in, row_said_in}
 use Rattle.book_texts.specs.BookTexts.{asks_steps, book_text, history_has_steps, version_of}
-use Rattle.book_texts.specs.Books.{Books, Booked, books_form, row_at}
+use Rattle.book_texts.specs.Books.{Books, Booked, books_form, book_row_at}
 use Rattle.book_texts.specs.Laws.{BooksAreRead, PrintedBooksHaveTheirLines, PrintedBooksPass}
 use Rattle.book_texts.specs.Printable.{ArePrintable, FitsBook, row_count, account_of_book}
 use Rattle.book_texts.specs.RunTexts.{account_line, call_line, line_in}
@@ -150,7 +150,7 @@ wide version.Three account seat o a is = rw is refl
 wide version.Four account seat o a is = rw is refl
 
 one_row : (version : Version) → IsPrinted version → (most number : ℕ) (books next : Books) (fields : Fields) (rest : List Fields) → length fields ≡ columns_of version
-    → number ≤ most + 1 → row_at version books fields ≡ Ok next
+    → number ≤ most + 1 → book_row_at version books fields ≡ Ok next
     → rows_from (books_form most) (header_place version) (columns_of version) number books (fields ∷ rest)
     ≡ rows_from (books_form most) (header_place version) (columns_of version) (number + 1) next rest
 unfolding rows_from
@@ -281,15 +281,15 @@ module _ (reads : DecimalsAreRead) (operations : OperationsAreRead) (replies : R
 
   module _ (version : Version) (printed : IsPrinted version) where
     opening_at : (book : Closed) (front : Books) → FitsBook book → IsAbove book.account front
-        → row_at version front (opening_fields version book) ≡ Ok (front ++ (book.account, record { opening = book.opening; until = book.until; history = [] }) ∷ [])
-    unfolding row_at
+        → book_row_at version front (opening_fields version book) ≡ Ok (front ++ (book.account, record { opening = book.opening; until = book.until; history = [] }) ∷ [])
+    unfolding book_row_at
     opening_at book front fits above = rw (opening_said version printed book fits, not_booked book.account front above, opened_last book.account front _ above) refl
 
     entry_at : (account opening : ℕ) (until : Option ℕ) (before : List EntryData) (event : EntryData) (front : Books) → account ≤ 4294967295 → FitsEvent event
         → PrintsWhole version event.asked → IsAbove account front
-        → row_at version (front ++ (account, record { opening = opening; until = until; history = before }) ∷ []) (entry_fields version account event)
+        → book_row_at version (front ++ (account, record { opening = opening; until = until; history = before }) ∷ []) (entry_fields version account event)
         ≡ Ok (front ++ (account, record { opening = opening; until = until; history = before ++ event ∷ [] }) ∷ [])
-    unfolding row_at
+    unfolding book_row_at
     entry_at account opening until before event front small fits prints above =
         rw (entry_said version printed account event small fits prints, booked_last account front _ above, set_last account front _ _ above) refl
 

@@ -51,8 +51,8 @@ judged_books books (Opens account opening until) = opened account opening until 
 judged_books books (Enters account event) = entered_in_books account event books (account_so_far account books)
 
 -- the books after a row of a table of this version
-unfoldable pub row_at : Version → Books → List (List ℕ) → Result Books RowKind
-row_at version books fields = and_then (row_said_in (columns_in version fields)) (judged_books books)
+unfoldable pub book_row_at : Version → Books → List (List ℕ) → Result Books RowKind
+book_row_at version books fields = and_then (row_said_in (columns_in version fields)) (judged_books books)
 
 -- `account,seat,op,call,x1,x2,x3,x4,x5,reply,y1,y2,y3`: version 1
 abbrev pub first_book_header : List (List ℕ)
@@ -84,7 +84,7 @@ books_headers = first_book_header ∷ second_header ∷ third_header ∷ fourth_
 
 -- at most so many rows; each says something of an account
 abbrev pub books_form : ℕ → TableForm Books RowKind RowFault
-books_form most = table_form books_headers most [] (λ header. row_at (version_at header))
+books_form most = table_form books_headers most [] (λ header. book_row_at (version_at header))
 
 -- the books of a table that may have so many rows
 abbrev pub books_of : ℕ → List (List (List ℕ)) → Result Books RowFault

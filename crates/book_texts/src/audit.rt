@@ -5,7 +5,7 @@ ghost use Rattle.std.specs.Result.{result_map_both};
 ghost use Rattle.account_core.specs.Events.{entry_data};
 ghost use Rattle.book_texts.specs.Audits.{AreVerdicts, GivesAudit, IsSummedUp, audited, verdict_lines, yes_or_no};
 ghost use Rattle.book_texts.specs.BookRows.{Enters, HasBookColumns, columns_in, row_said_in};
-ghost use Rattle.book_texts.specs.Books.{Books, books_of, entered_in_books, row_at, account_so_far};
+ghost use Rattle.book_texts.specs.Books.{Books, books_of, entered_in_books, book_row_at, account_so_far};
 ghost use Rattle.book_texts.specs.Checks.{AreChecks, AreNoted, Comes, GivesChecks, HaveChecks, audited_by, verdicts_of};
 ghost use Rattle.book_texts.specs.RunTexts.{account_text, call_line_of};
 ghost use Rattle.book_texts.specs.Sizes.{most_rows};
@@ -217,7 +217,7 @@ fn take_row(
     requires fields { HasBookColumns version (fields_of row.now) }
     requires have { (books : Books) × HaveChecks books checks.old }
     ensures comes { IfOk result (λ refused. (books : Books) → HaveChecks books checks.old
-        → Comes books refused (row_at version books (fields_of row.now)) checks.new) }
+        → Comes books refused (book_row_at version books (fields_of row.now)) checks.new) }
     ensures noted { IfOk result (λ refused. (books : Books) → HaveChecks books checks.old
         → AreNoted number books (row_said_in (columns_in version (fields_of row.now)))
         wrongs.old wrongs.new) }

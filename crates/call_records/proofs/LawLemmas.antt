@@ -14,7 +14,7 @@ use Rattle.call_records.specs.declared.outcome.Outcome.TheVariants as outcome
 use Rattle.call_records.specs.declared.reports.CallReports.{CallReports}
 use Rattle.call_records.specs.declared.standing.Standing.{Standing}
 use Rattle.call_records.specs.declared.starts.Start.{Start}
-use Rattle.cap_values.specs.NumberDigits.{digits_of}
+use Rattle.cap_values.specs.NumberDigits.{digits_of_number}
 use Rattle.cap_values.specs.declared.number.Number.{Number}
 use Rattle.run_values.specs.declared.post.Body.{Body}
 use Rattle.tariff_core.specs.Bands.{Band}
@@ -106,12 +106,12 @@ no_prefix_by bands called listed None none no_route = no_route
 no_prefix_by bands called listed (Some prefix) none no_route = absurd (true≢false none)
 
 -- a call with this outcome has no route
-pub unrouted_has_none : (run : Run) (call : CallRecord) (record_is : IsRecord run call) → call.outcome ≡ outcome.NoRoute → HasNoRoute run.setup.tariff (digits_of record_is.start.called)
+pub unrouted_has_none : (run : Run) (call : CallRecord) (record_is : IsRecord run call) → call.outcome ≡ outcome.NoRoute → HasNoRoute run.setup.tariff (digits_of_number record_is.start.called)
 unrouted_has_none run call record_is unrouted =
     let from = record_is.from in
     let standing : Standing = standing_of call.call (past_of call.account run.books) in
     let reports : CallReports = call_reports_of call.call run.given in
-    no_prefix_by run.setup.tariff (digits_of record_is.start.called) (λ prefix. prefix.items) call.prefix
+    no_prefix_by run.setup.tariff (digits_of_number record_is.start.called) (λ prefix. prefix.items) call.prefix
     (no_route_by call.account (is_some call.prefix) standing.granted standing.denied reports standing (sym (ap is_unrouted from.outcome_is) ∙ ap is_unrouted unrouted))
     from.prefix
 

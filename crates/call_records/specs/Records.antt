@@ -4,7 +4,7 @@ use Rattle.std.specs.List.{list_any}
 use Rattle.std.specs.List.Sorted.{IsStrictlySortedBy}
 use Rattle.std.specs.Option.{option_map}
 use Rattle.std.specs.Ordering.{nat_cmp}
-use Rattle.cap_values.specs.NumberDigits.{digits_of}
+use Rattle.cap_values.specs.NumberDigits.{digits_of_number}
 use Rattle.run_values.specs.Setups.{Setup, account_of}
 use Rattle.run_values.specs.declared.post.Body.{Body}
 use Rattle.shared_account.specs.Closed.{Closed}
@@ -65,7 +65,7 @@ pub record IsRecordFrom (run : Run) (start : Start) (call : CallRecord) : Type 0
   pub called : call.called ≡ start.called
   pub start_is : call.start ≡ start.at
   pub account : call.account ≡ account_of start.calling run.setup.subscribers
-  pub prefix : IsPrefixOf run.setup.tariff (digits_of start.called) (prefix_of call)
+  pub prefix : IsPrefixOf run.setup.tariff (digits_of_number start.called) (prefix_of call)
   pub answer : call.answer ≡ (call_reports_of call.call run.given).answer
   pub end : call.end ≡ (call_reports_of call.call run.given).end
   pub times : call.times ≡ (standing_of call.call (past_of call.account run.books)).times

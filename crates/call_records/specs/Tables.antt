@@ -2,7 +2,7 @@
 use Rattle.std.specs.Prelude.{◌≡◌, ℕ, List, [], ◌++◌, codes, unwrap_or}
 use Rattle.std.specs.Fmt.{decimal}
 use Rattle.std.specs.List.{flat_map}
-use Rattle.cap_values.specs.NumberDigits.{digits_of}
+use Rattle.cap_values.specs.NumberDigits.{digits_of_number}
 use Rattle.entry_rows.specs.Columns.{field, number_or_empty}
 use Rattle.moment_texts.specs.Printing.{moment_or_empty, moment_text}
 use Rattle.moment_texts.specs.declared.clock.Clock.{Clock}
@@ -37,7 +37,7 @@ moments_text clock call =
 -- a row: `call,calling,called,account,prefix,start,answer,end,before,after,paid,outcome`
 abbrev pub record_row : Clock → CallRecord → List ℕ
 record_row clock call =
-    field (decimal call.call) (field (digits_of call.calling) (field (digits_of call.called)
+    field (decimal call.call) (field (digits_of_number call.calling) (field (digits_of_number call.called)
     (field (number_or_empty call.account) (field (digits_text (unwrap_or (prefix_of call) [])) (moments_text clock call ++ (outcome_word call.outcome ++ codes "\n"))))))
 
 -- the header of the table

@@ -2,7 +2,7 @@
 
 ghost use Rattle.std.specs.Prelude.{◌≡◌, IfOk};
 ghost use Rattle.std.specs.Option.{option_map};
-ghost use Rattle.cap_values.specs.NumberDigits.{digits_of};
+ghost use Rattle.cap_values.specs.NumberDigits.{digits_of_number};
 ghost use Rattle.run_values.specs.Setups.{account_of};
 ghost use Rattle.call_records.specs.Calls.{call_reports_of};
 ghost use Rattle.call_records.specs.Kept.{HaveAccounts, HaveReports, HaveStarts};
@@ -102,7 +102,7 @@ fn record_call(
 /// The longest prefix of a tariff that a called number begins with, if there is one. It is the same
 /// at each moment.
 fn prefix_of(alloc: Global, tariff: &Tariff, called: Number) -> Result<Option<Vec<u8>>, AllocError>
-    ensures { IfOk result (λ prefix. IsPrefixOf tariff.now (digits_of called)
+    ensures { IfOk result (λ prefix. IsPrefixOf tariff.now (digits_of_number called)
         (option_map (λ digits. digits.items) prefix)) }
 {
     let Some(quote) = tariff.quote(called.as_bytes(), 0) else {

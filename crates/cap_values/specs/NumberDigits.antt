@@ -6,9 +6,9 @@ use Rattle.std.specs.declared.cmp.Ordering.{Ordering}
 use Rattle.cap_values.specs.declared.number.Number.{Number}
 
 -- its digits, in ASCII
-abbrev pub digits_of : Number → List ℕ
-digits_of number = take number.len number.digits
+abbrev pub digits_of_number : Number → List ℕ
+digits_of_number number = take number.len number.digits
 
 -- the order of numbers: digit by digit, from the first one on
 abbrev pub by_digits : Number → Number → Ordering
-by_digits = on digits_of (slice_cmp nat_cmp)
+by_digits = on digits_of_number (slice_cmp nat_cmp)

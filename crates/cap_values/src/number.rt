@@ -24,12 +24,12 @@ pub struct Number {
 }
 
 impl Number {
-    ghost use Rattle.cap_values.specs.NumberDigits.{digits_of};
+    ghost use Rattle.cap_values.specs.NumberDigits.{digits_of_number};
 
     /// The number that a text writes.
     pub fn new(text: &str) -> Result<Number, ValueFault>
         ensures made { IsOk result ↔ IsTrue (is_number text.now) }
-        ensures digits { IfOk result (λ number. digits_of number ≡ text.now) }
+        ensures digits { IfOk result (λ number. digits_of_number number ≡ text.now) }
         ensures fault { IfErr result (λ fault. fault ≡ ValueFault.ParameterOutOfRange) }
     {
         let bytes = text.as_bytes();
@@ -47,7 +47,7 @@ impl Number {
 
     /// The digits, in ASCII.
     pub fn as_bytes(&self) -> &[u8]
-        ensures { result.now ≡ digits_of self.now }
+        ensures { result.now ≡ digits_of_number self.now }
     {
         &self.digits[..usize::from(self.len)]
     }
@@ -55,9 +55,9 @@ impl Number {
 
 impl fmt::Display for Number {
     ghost use Rattle.std.specs.Prelude.{Some};
-    ghost use Rattle.cap_values.specs.NumberDigits.{digits_of};
+    ghost use Rattle.cap_values.specs.NumberDigits.{digits_of_number};
 
-    ghost output = { λ number. Some (digits_of number) };
+    ghost output = { λ number. Some (digits_of_number number) };
 
     fn fmt<W: fmt::Write>(&self, f: &mut fmt::Formatter<W>) -> fmt::Result {
         match str::from_utf8(self.as_bytes()) {

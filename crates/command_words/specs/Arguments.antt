@@ -9,7 +9,7 @@ use Rattle.run_options.specs.Options.{ask_of, live_ask_of}
 use Rattle.tariff_core.specs.RatesOf.{rates_of}
 use Rattle.command_words.specs.AuditWords.{audit_in}
 use Rattle.command_words.specs.CommandLine.{command_in, errors_in}
-use Rattle.command_words.specs.Options.{plan_in, replay_in}
+use Rattle.command_words.specs.Options.{wished_plan, replay_in}
 use Rattle.command_words.specs.RunWords.{run_in}
 use Rattle.command_words.specs.ServeWords.{serve_in}
 use Rattle.command_words.specs.QuoteWishes.{quote_wish_of}
@@ -26,7 +26,7 @@ use Rattle.command_words.specs.declared.fault.WordsFault.TheVariants as fault
 abbrev pub wish_in : Option (Text × List Row) → Result Wish WordsFault
 wish_in None = Err fault.Arguments
 wish_in (Some command) =
-    if bytes_eq command.0 (codes "price") then ok_or (option_map (λ plan. Prices plan) (plan_in command.1)) fault.Arguments
+    if bytes_eq command.0 (codes "price") then ok_or (option_map (λ plan. Prices plan) (wished_plan command.1)) fault.Arguments
     else if bytes_eq command.0 (codes "replay") then ok_or (replay_in command.1) fault.Arguments
     else if bytes_eq command.0 (codes "run") then run_in command.1
     else if bytes_eq command.0 (codes "audit") then Ok (Audits (audit_in command.1))

@@ -62,8 +62,8 @@ plan_of options fee before after = option_and_then (λ free. option_and_then (λ
     (wished_first options)) (wished_free options)
 
 -- the plan of `price`: fee and rates, each at most `MAX_RATE`, free units and billing steps
-abbrev pub plan_in : List Row → Option Rates
-plan_in options = option_and_then (λ fee. option_and_then (λ before. option_and_then (λ after. plan_of options fee before after)
+abbrev pub wished_plan : List Row → Option Rates
+wished_plan options = option_and_then (λ fee. option_and_then (λ before. option_and_then (λ after. plan_of options fee before after)
     (optional_number_in options (codes "after") MAX_RATE)) (wished_number options (codes "before") MAX_RATE)) (wished_number options (codes "fee") MAX_RATE)
 
 -- the limit of a history: 3 to 1,000,000, which it is where it is left out

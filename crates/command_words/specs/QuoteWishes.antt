@@ -1,6 +1,6 @@
 -- What `quote` is asked for, as plain data.
 use Rattle.std.specs.Prelude.{ℕ, List, Option}
-use Rattle.cap_values.specs.NumberDigits.{digits_of}
+use Rattle.cap_values.specs.NumberDigits.{digits_of_number}
 use Rattle.command_words.specs.declared.request.QuoteAsk.{QuoteAsk}
 use Rattle.moment_texts.specs.declared.clock.Clock.{Clock}
 
@@ -14,4 +14,4 @@ pub record QuoteWish : Type 0 where
 
 -- what the code asks for
 abbrev pub quote_wish_of : QuoteAsk → QuoteWish
-quote_wish_of ask = record { called = digits_of ask.called; at = ask.at; talk = ask.talk; credit = ask.credit; clock = ask.clock }
+quote_wish_of ask = record { called = digits_of_number ask.called; at = ask.at; talk = ask.talk; credit = ask.credit; clock = ask.clock }

@@ -36,17 +36,17 @@ workers_in options =
     option_map (λ workers. unwrap_or workers (if is_some (first_of (codes "parts") options) then 1 else 2)) (optional_number_in options (codes "workers") 99)
 
 -- in how many parts a run is played, if it is: at least one, with one worker at most, and no trace; and by how many threads: at least one, which it is where that is left out. Without parts there are no threads
-abbrev pub parts_of : ℕ → RunOutput → Option ℕ → Option ℕ → Option (Option PartsAsk)
-parts_of workers output None None = Some None
-parts_of workers output None (Some threads) = None
-parts_of workers output (Some count) threads =
+abbrev pub wished_parts : ℕ → RunOutput → Option ℕ → Option ℕ → Option (Option PartsAsk)
+wished_parts workers output None None = Some None
+wished_parts workers output None (Some threads) = None
+wished_parts workers output (Some count) threads =
     if nat_le 1 count && nat_le workers 1 && not (is_trace output) && nat_le 1 (unwrap_or threads 1)
     then Some (Some (record { count = count; threads = unwrap_or threads 1 })) else None
 
 -- what the options say of that: at most 64 threads
 abbrev pub parts_in : List Row → ℕ → RunOutput → Option (Option PartsAsk)
 parts_in options workers output =
-    option_and_then (λ count. option_and_then (λ threads. parts_of workers output count threads) (optional_number_in options (codes "threads") 64))
+    option_and_then (λ count. option_and_then (λ threads. wished_parts workers output count threads) (optional_number_in options (codes "threads") 64))
     (optional_number_in options (codes "parts") 4294967295)
 
 -- what is to become of a call without instructions: `release`, which it is where that is left out, or `proceed`

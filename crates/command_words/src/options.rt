@@ -3,7 +3,7 @@
 ghost use Rattle.std.specs.Prelude.{◌≡◌, ◌≤◌, option_map, unwrap_or, IfSome};
 ghost use Rattle.clap.specs.Words.{first_of, found_of, rows_of};
 ghost use Rattle.tariff_core.specs.RatesOf.{rates_of};
-ghost use Rattle.command_words.specs.Options.{clock_by, has_flag, wished_number, optional_number_in, plan_in, replay_in};
+ghost use Rattle.command_words.specs.Options.{clock_by, has_flag, wished_number, optional_number_in, wished_plan, replay_in};
 ghost use Rattle.command_words.specs.Wishes.{Replays};
 
 use crate::request::Opening;
@@ -15,7 +15,7 @@ use tariff_core::{DAY, MAX_MONEY, MAX_RATE, Plan};
 
 /// The plan that the options of `price` give.
 pub(crate) fn price_plan(options: &ArgMatches<'_>) -> Option<Plan>
-    ensures { option_map rates_of result ≡ plan_in (rows_of (found_of options.now)) }
+    ensures { option_map rates_of result ≡ wished_plan (rows_of (found_of options.now)) }
 {
     let fee = number(options, "fee", MAX_RATE)?;
     let before = number(options, "before", MAX_RATE)?;

@@ -1,7 +1,7 @@
 //! The options of `quote`.
 
 ghost use Rattle.std.specs.Prelude.{◌≡◌, ◌≤◌, option_map, IfSome};
-ghost use Rattle.cap_values.specs.NumberDigits.{digits_of};
+ghost use Rattle.cap_values.specs.NumberDigits.{digits_of_number};
 ghost use Rattle.clap.specs.Words.{found_of, rows_of};
 ghost use Rattle.command_words.specs.QuoteWishes.{quote_wish_of};
 ghost use Rattle.command_words.specs.QuoteWords.{called_of, moment_asked, quote_in};
@@ -33,7 +33,7 @@ pub(crate) fn quote_ask(options: &ArgMatches<'_>) -> Option<QuoteAsk>
 
 /// The number that a text writes, 1 to 15 digits.
 fn called(text: &str) -> Option<Number>
-    ensures { option_map digits_of result ≡ called_of text.now }
+    ensures { option_map digits_of_number result ≡ called_of text.now }
 {
     Number::new(text).ok()
 }

@@ -4,7 +4,7 @@ ghost use Rattle.std.specs.Prelude.{◌≡◌, ◌≤◌, ◌<◌, option_map, u
 ghost use Rattle.clap.specs.Words.{found_of, rows_of};
 ghost use Rattle.command_words.specs.Arguments.{IsRequestOf};
 ghost use Rattle.command_words.specs.Capped.{capped, capped_ask};
-ghost use Rattle.command_words.specs.RunWords.{ask_in, handling_of, number_written, number_or, output_in, output_of, parts_in, parts_of, run_in, workers_in};
+ghost use Rattle.command_words.specs.RunWords.{ask_in, handling_of, number_written, number_or, output_in, output_of, parts_in, wished_parts, run_in, workers_in};
 
 use crate::fault::WordsFault;
 use crate::options::{clock_by, has_flag, option_text, optional_number};
@@ -96,7 +96,7 @@ fn parts_of(
 ) -> Option<Option<PartsAsk>>
     requires count { unwrap_or count 0 ≤ MAX_PARTS }
     requires threads { unwrap_or threads 1 ≤ MAX_THREADS }
-    ensures { result ≡ parts_of workers output count threads }
+    ensures { result ≡ wished_parts workers output count threads }
 {
     let Some(count) = count else {
         return if threads.is_none() { Some(None) } else { None };

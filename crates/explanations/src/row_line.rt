@@ -1,7 +1,7 @@
 //! The line of the input in which a row begins, as it is shown.
 
 ghost use Rattle.std.specs.Prelude.{◌≡◌, ◌≤◌, ◌<◌, ◌+◌, ◌++◌, ◌∷◌, [], length, OnOk, string_bytes};
-ghost use Rattle.explanations.specs.RowLines.{ends_shown, hex_digit, is_printed, lines_ended, shown_row_line, shown, shown_byte, shown_width};
+ghost use Rattle.explanations.specs.RowLines.{ends_shown, hex_digit, is_printed, lines_ended, shown_row_line, shown_columns, shown_byte, shown_width};
 
 use crate::starts::is_line_end;
 use std::alloc::AllocError;
@@ -44,7 +44,7 @@ pub(crate) fn lines_ended(text: &[u8]) -> usize
 /// Adds what is in a text up to the end of its first line, as far as `MOST_COLUMNS` reach.
 pub(crate) fn push_shown(text: &mut String, line: &[u8]) -> Result<(), AllocError>
     ensures { OnOk result (string_bytes text.new
-        ≡ string_bytes text.old ++ shown MOST_COLUMNS line.now) }
+        ≡ string_bytes text.old ++ shown_columns MOST_COLUMNS line.now) }
 {
     let mut room = MOST_COLUMNS;
     for &byte in line {

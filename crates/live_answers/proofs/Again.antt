@@ -12,7 +12,7 @@ use Rattle.live_answers.specs.Standing.{LineView, said_after, standing}
 use Rattle.live_answers.specs.declared.kind.LineKind.TheVariants as kind
 use Rattle.message_rows.specs.Lines.{line_message}
 use Rattle.message_rows.specs.Messages.{MessageView}
-use Rattle.run_texts.specs.Parts.{with_first_byte, lines_of}
+use Rattle.run_texts.specs.Parts.{with_first_byte, lines_in_text}
 
 -- ---- the lines of a text
 
@@ -28,12 +28,12 @@ begins_taken : (c : ℕ) (lines : List (List ℕ)) → (c == 10) ≡ false → A
 begins_taken c [] is taken = ((c ∷ [], rw is refl), tt)
 begins_taken c (line ∷ lines) is taken = ((c ∷ taken.0.0, ap (λ l. c ∷ l) taken.0.1 ∙ rw is refl), taken.1)
 
-by_first : (ends : Bool) (c : ℕ) (text : List ℕ) → (c == 10) ≡ ends → AreTaken (lines_of text) → AreTaken (if ends then (c ∷ []) ∷ lines_of text else with_first_byte c (lines_of text))
+by_first : (ends : Bool) (c : ℕ) (text : List ℕ) → (c == 10) ≡ ends → AreTaken (lines_in_text text) → AreTaken (if ends then (c ∷ []) ∷ lines_in_text text else with_first_byte c (lines_in_text text))
 by_first true c text is taken = ((c ∷ [], rw is refl), taken)
-by_first false c text is taken = begins_taken c (lines_of text) is taken
+by_first false c text is taken = begins_taken c (lines_in_text text) is taken
 
-all_taken : (text : List ℕ) → AreTaken (lines_of text)
-unfolding lines_of
+all_taken : (text : List ℕ) → AreTaken (lines_in_text text)
+unfolding lines_in_text
 all_taken [] = tt
 all_taken (c ∷ text) = by_first (c == 10) c text refl (all_taken text)
 
@@ -143,4 +143,4 @@ all_again next last (raw ∷ raws) rest taken =
     says_again said next last raw (map kept raws) rest taken.0 refl (all_again (next_after next said) (last_after last said) raws rest taken.1)
 
 pub heard_again : LogsAreHeardAgain
-heard_again text rest = all_again 0 0 (lines_of text) rest (all_taken text)
+heard_again text rest = all_again 0 0 (lines_in_text text) rest (all_taken text)

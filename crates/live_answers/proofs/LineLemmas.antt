@@ -4,19 +4,19 @@ use Rattle.std.proofs.lemmas.Bool.{cases_lt}
 use Rattle.std.proofs.lemmas.List.{length-take, take-append-le, take-take, take_all}
 use Rattle.std.specs.Prelude.{if◌then◌else◌}
 use Rattle.std.specs.Io.BufRead.{drop_through, ends_with_byte, take_through}
-use Rattle.run_texts.specs.Parts.{with_first_byte, lines_of}
+use Rattle.run_texts.specs.Parts.{with_first_byte, lines_in_text}
 use Rattle.live_answers.specs.Lines.{kept, live_lines}
 
 first_line : (ends : Bool) (c : ℕ) (text : List ℕ)
-    → (if ends then (c ∷ []) ∷ lines_of text else with_first_byte c (lines_of text))
-    ≡ (if ends then c ∷ [] else c ∷ take_through 10 text) ∷ lines_of (if ends then text else drop_through 10 text)
-unfolding lines_of
+    → (if ends then (c ∷ []) ∷ lines_in_text text else with_first_byte c (lines_in_text text))
+    ≡ (if ends then c ∷ [] else c ∷ take_through 10 text) ∷ lines_in_text (if ends then text else drop_through 10 text)
+unfolding lines_in_text
 first_line true c text = refl
 first_line false c [] = refl
 first_line false c (d ∷ text) = ap (with_first_byte c) (first_line (d == 10) d text)
 
-one_line : (text : List ℕ) → 0 < length text → lines_of text ≡ take_through 10 text ∷ lines_of (drop_through 10 text)
-unfolding lines_of
+one_line : (text : List ℕ) → 0 < length text → lines_in_text text ≡ take_through 10 text ∷ lines_in_text (drop_through 10 text)
+unfolding lines_in_text
 one_line [] some = absurd (omega (arith, some))
 one_line (c ∷ text) some = first_line (c == 10) c text
 
@@ -26,7 +26,7 @@ line_first text some = rw (one_line text some) refl
 
 -- an empty text has none
 pub no_line : live_lines [] ≡ []
-unfolding lines_of
+unfolding lines_in_text
 no_line = refl
 
 -- ---- a line, part by part

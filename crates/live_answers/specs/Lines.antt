@@ -1,7 +1,7 @@
 -- The lines of an input, as they are read.
 use Rattle.std.specs.Prelude.{◌+◌, ℕ, List, [], ◌∷◌, ◌++◌, map, take, if◌then◌else◌}
 use Rattle.std.specs.Io.BufRead.{ends_with_byte}
-use Rattle.run_texts.specs.Parts.{lines_of}
+use Rattle.run_texts.specs.Parts.{lines_in_text}
 use Rattle.live_answers.specs.declared.line.TheConstants.{MAX_LINE}
 
 -- a line with its LF, also where the input ended before it
@@ -14,4 +14,4 @@ kept line = take (MAX_LINE + 1) (with_line_end line)
 
 -- the lines of an input
 abbrev pub live_lines : List ℕ → List (List ℕ)
-live_lines text = map kept (lines_of text)
+live_lines text = map kept (lines_in_text text)

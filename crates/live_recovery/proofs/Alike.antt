@@ -3,7 +3,7 @@ use Rattle.std.proofs.Common.{◌≡◌, ◌∙◌, ℕ, Option, Some, None, Lis
 use Rattle.std.specs.Prelude.{option_and_then}
 use Rattle.std.specs.Map.{lookup}
 use Rattle.std.specs.Str.{bytes_eq}
-use Rattle.cap_values.specs.NumberDigits.{digits_of}
+use Rattle.cap_values.specs.NumberDigits.{digits_of_number}
 use Rattle.cap_values.specs.declared.event.Event.{Event}
 use Rattle.cap_values.specs.declared.message.SsfMsg.{SsfMsg}
 use Rattle.cap_values.specs.declared.message.SsfMsg.TheVariants.{InitialDp, EventReport, ChargingReport, Ended}
@@ -22,7 +22,7 @@ use Rattle.workers_core.specs.Verdicts.{DialogueAt, IsRouted, Verdict, begins, f
 
 -- two messages say the same
 abbrev pub SaysAlike : SsfMsg → SsfMsg → Type 0
-SaysAlike (InitialDp call calling called) (InitialDp other caller dialled) = (digits_of calling ≡ digits_of caller) × (digits_of called ≡ digits_of dialled)
+SaysAlike (InitialDp call calling called) (InitialDp other caller dialled) = (digits_of_number calling ≡ digits_of_number caller) × (digits_of_number called ≡ digits_of_number dialled)
 SaysAlike (EventReport event leg mode) (EventReport other its_leg its_mode) = (event ≡ other) × (mode ≡ its_mode)
 SaysAlike (ChargingReport active info) (ChargingReport other times) = (active ≡ other) × (info ≡ times)
 SaysAlike Ended Ended = Unit {0}
@@ -77,15 +77,15 @@ module _ (setup : Setup) (numbers : List ℕ) (number at : ℕ) (old new : Holdi
   abbrev Does : Verdict → Type 0
   Does v = IsDone setup numbers at v old new answer
 
-  begins_as : (call : ℕ) (called dialled : Number) (home : Option ℕ) → digits_of called ≡ digits_of dialled → Does (begins call dialled home) → Does (begins call called home)
+  begins_as : (call : ℕ) (called dialled : Number) (home : Option ℕ) → digits_of_number called ≡ digits_of_number dialled → Does (begins call dialled home) → Does (begins call called home)
   begins_as call called dialled None same done = done
   begins_as call called dialled (Some place) same done =
       let R : List ℕ → Type 0 = λ digits. IsRouted setup.tariff digits at done.route in
       record { route = done.route; routed = subst R (sym same) done.routed; talked = done.talked }
 
-  same_home : (calling caller : Number) → digits_of calling ≡ digits_of caller → home_of calling setup ≡ home_of caller setup
+  same_home : (calling caller : Number) → digits_of_number calling ≡ digits_of_number caller → home_of calling setup ≡ home_of caller setup
   same_home calling caller same =
-      ap (λ digits. option_and_then (λ account. place_of account setup) (lookup (λ (other : Number). bytes_eq (digits_of other) digits) setup.subscribers)) same
+      ap (λ digits. option_and_then (λ account. place_of account setup) (lookup (λ (other : Number). bytes_eq (digits_of_number other) digits) setup.subscribers)) same
 
   fresh_as : (call : ℕ) (one other : SsfMsg) → SaysAlike one other → Does (fresh_call setup call other) → Does (fresh_call setup call one)
   fresh_as call (InitialDp own calling called) (InitialDp its caller dialled) alike done =

@@ -10,7 +10,7 @@ use Rattle.live_answers.specs.Rows.{put_down}
 use Rattle.live_answers.specs.Standing.{LineView, said_after}
 use Rattle.live_recovery.specs.Recovery.{rest_heard_behind}
 use Rattle.message_rows.specs.Messages.{Speech}
-use Rattle.run_texts.specs.Parts.{with_first_byte, lines_of}
+use Rattle.run_texts.specs.Parts.{with_first_byte, lines_in_text}
 
 -- ---- the first lines of a text are a text
 
@@ -24,16 +24,16 @@ begun_front zero c [] = refl
 begun_front (suc count) c [] = refl
 begun_front count c (line ∷ lines) = refl
 
-front_lines : (count : ℕ) (text : List ℕ) → lines_of (front count text) ≡ take count (lines_of text)
-unfolding lines_of
+front_lines : (count : ℕ) (text : List ℕ) → lines_in_text (front count text) ≡ take count (lines_in_text text)
+unfolding lines_in_text
 front_lines zero text = refl
 front_lines (suc count) [] = refl
 front_lines (suc count) (c ∷ text) = by_end (c == 10) refl (front_lines count text) (front_lines (suc count) text)
   where
-    by_end : (ends : Bool) → (c == 10) ≡ ends → lines_of (front count text) ≡ take count (lines_of text) → lines_of (front (suc count) text) ≡ take (suc count) (lines_of text)
-        → lines_of (if ends then c ∷ front count text else c ∷ front (suc count) text) ≡ take (suc count) (if ends then (c ∷ []) ∷ lines_of text else with_first_byte c (lines_of text))
+    by_end : (ends : Bool) → (c == 10) ≡ ends → lines_in_text (front count text) ≡ take count (lines_in_text text) → lines_in_text (front (suc count) text) ≡ take (suc count) (lines_in_text text)
+        → lines_in_text (if ends then c ∷ front count text else c ∷ front (suc count) text) ≡ take (suc count) (if ends then (c ∷ []) ∷ lines_in_text text else with_first_byte c (lines_in_text text))
     by_end true is next here = rw is (ap (λ l. (c ∷ []) ∷ l) next)
-    by_end false is next here = rw is (ap (with_first_byte c) here ∙ begun_front count c (lines_of text))
+    by_end false is next here = rw is (ap (with_first_byte c) here ∙ begun_front count c (lines_in_text text))
 
 heard_take : (count next last : ℕ) (lines : List (List ℕ)) → heard_after next last (take count lines) ≡ take count (heard_after next last lines)
 heard_take zero next last lines = refl
@@ -44,7 +44,7 @@ heard_take (suc count) next last (line ∷ lines) =
 
 heard_front : (count : ℕ) (text : List ℕ) → heard_in (front count text) ≡ take count (heard_in text)
 heard_front count text =
-    ap (λ lines. heard_after 0 0 (map kept lines)) (front_lines count text) ∙ ap (heard_after 0 0) (sym (take-map kept count (lines_of text))) ∙ heard_take count 0 0 (live_lines text)
+    ap (λ lines. heard_after 0 0 (map kept lines)) (front_lines count text) ∙ ap (heard_after 0 0) (sym (take-map kept count (lines_in_text text))) ∙ heard_take count 0 0 (live_lines text)
 
 -- the messages of the first lines are heard again, and then further lines
 pub fronts_again : LogsAreHeardAgain → (count : ℕ) (text rest : List ℕ)
@@ -54,7 +54,7 @@ fronts_again again count text rest =
 
 -- an empty text has no lines
 no_line : live_lines [] ≡ []
-unfolding lines_of
+unfolding lines_in_text
 no_line = refl
 
 -- and without further lines these alone

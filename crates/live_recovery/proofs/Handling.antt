@@ -5,7 +5,7 @@ use Rattle.account_core.specs.Answers.{IsLegal}
 use Rattle.account_core.specs.Asked.{Credits}
 use Rattle.account_core.specs.Events.{EntryData}
 use Rattle.account_core.specs.declared.fault.AccountFault.{AccountFault}
-use Rattle.cap_values.specs.NumberDigits.{digits_of}
+use Rattle.cap_values.specs.NumberDigits.{digits_of_number}
 use Rattle.cap_values.specs.Orders.{Order, Release}
 use Rattle.dialogue_core.specs.Phases.{Phase, Says, Asks, Closed}
 use Rattle.dialogue_core.specs.Table.{on_begin}
@@ -204,7 +204,7 @@ done_alike opening_at until_at setup numbers post (Recharges place amount until)
     recharged_alike opening_at until_at (length setup.accounts) numbers place amount until old new again other answer also ends endings many (at_place setup means.account place means.at).0 hold number none none_too
     begin legal begin_too legal_too is too
 done_alike opening_at until_at setup numbers post (Begins call place called) old new again other answer also ends endings one many placed means hold number none none_too begin legal begin_too legal_too is too =
-    let first = begins_alike setup.tariff (digits_of called) call post.at setup.service.wanted setup.service.least too.route is.route one too.routed is.routed in
+    let first = begins_alike setup.tariff (digits_of_number called) call post.at setup.service.wanted setup.service.least too.route is.route one too.routed is.routed in
     let T : Says × Phase → Type 0 = λ p. IsTalked numbers call place p again other also in
     talked_alike opening_at until_at (length setup.accounts) numbers call place (on_begin call post.at setup.service.wanted setup.service.least is.route) old new again other answer also ends endings
     many means.within hold number none none_too begin legal begin_too legal_too is.talked (subst T first too.talked)

@@ -12,7 +12,7 @@ use Rattle.live_answers.specs.Rows.{put_down}
 use Rattle.live_answers.specs.Standing.{LineView, said_after, standing}
 use Rattle.live_answers.specs.declared.kind.LineKind.TheVariants as kind
 use Rattle.message_rows.specs.Lines.{line_message}
-use Rattle.run_texts.specs.Parts.{with_first_byte, lines_of}
+use Rattle.run_texts.specs.Parts.{with_first_byte, lines_in_text}
 
 -- ---- texts that end with LF, and texts without one
 
@@ -90,14 +90,14 @@ begun_raw c [] other raw = (tt, tt)
 begun_raw c ([] ∷ lines) other raw = (tt, raw.1)
 begun_raw c ((x ∷ line) ∷ lines) other raw = ((other, raw.0), raw.1)
 
-pub all_raw : (text : List ℕ) → AreRaw (lines_of text)
-unfolding lines_of
+pub all_raw : (text : List ℕ) → AreRaw (lines_in_text text)
+unfolding lines_in_text
 all_raw [] = tt
 all_raw (c ∷ text) = by_end (c == 10) refl (all_raw text)
   where
-    by_end : (ends : Bool) → (c == 10) ≡ ends → AreRaw (lines_of text) → AreRaw (if ends then (c ∷ []) ∷ lines_of text else with_first_byte c (lines_of text))
+    by_end : (ends : Bool) → (c == 10) ≡ ends → AreRaw (lines_in_text text) → AreRaw (if ends then (c ∷ []) ∷ lines_in_text text else with_first_byte c (lines_in_text text))
     by_end true is raw = (tt, raw)
-    by_end false is raw = begun_raw c (lines_of text) (not_end c is) raw
+    by_end false is raw = begun_raw c (lines_in_text text) (not_end c is) raw
 
 has_bytes : (x : ℕ) (line : List ℕ) → nat_lt 0 (length (x ∷ line)) ≡ true
 has_bytes x line = grind (arith, nat_tests)

@@ -12,7 +12,7 @@ use Rattle.live_answers.specs.declared.stage.LiveFault.{LiveFault}
 use Rattle.live_answers.specs.declared.stage.LiveFault.TheVariants as fault
 use Rattle.live_log.specs.Logs.{HasLines, HasLinesBehind}
 use Rattle.live_recovery.specs.Recovery.{IsLogOf, LiveRun}
-use Rattle.run_texts.specs.Parts.{lines_of}
+use Rattle.run_texts.specs.Parts.{lines_in_text}
 use Rattle.live_recovery.proofs.Fronts.{logged_both}
 use Rattle.live_recovery.proofs.Lines.{AreEnded, HasNone, IsLine, LineEnds, all_raw, are_ended, drop_ends, ends_so, logged_ends, none_so, same_cut, take_ends}
 
@@ -116,7 +116,7 @@ log_is it taken head log lines was is has logs = by_fault it.fault refl (subst k
     by why = Logs why (Some head) (Some log) (logged_of (take taken heard)) (logged_of (take MAX_GROUP (drop taken heard)))
 
     ends : AreEnded heard
-    ends = are_ended 0 0 (lines_of it.input) (all_raw it.input)
+    ends = are_ended 0 0 (lines_in_text it.input) (all_raw it.input)
 
     -- what was written behind the head
     behind_is : (text : List ℕ) → log ≡ head ++ text → has.behind ≡ text
@@ -164,7 +164,7 @@ log_is it taken head log lines was is has logs = by_fault it.fault refl (subst k
 pub stopped_is : (input : List ℕ) (size : ℕ) (lines : List ℕ) → HasLines (take size (logged_of (heard_in input))) lines → (count : ℕ) × (lines ≡ logged_of (take count (heard_in input)))
 stopped_is input size lines has =
     let heard = heard_in input in
-    let ends = are_ended 0 0 (lines_of input) (all_raw input) in
+    let ends = are_ended 0 0 (lines_in_text input) (all_raw input) in
     let front = any_front heard ends size in (
       front.count,
       same_cut lines (logged_of (take front.count heard)) has.torn front.torn (sym has.parts ∙ front.is) (ends_so lines has.whole)

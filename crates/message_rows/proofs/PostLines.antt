@@ -9,7 +9,7 @@ use Rattle.std.proofs.lemmas.Bool.Decides.{nat_tests}
 use Rattle.std.proofs.lemmas.List.Elements.{All-cons, All-from_recursion, All-nil}
 use Rattle.csv.specs.Reading.{strip_bom}
 use Rattle.csv.specs.Writing.{comma, default_writer, needs_byte}
-use Rattle.cap_values.specs.NumberDigits.{digits_of}
+use Rattle.cap_values.specs.NumberDigits.{digits_of_number}
 use Rattle.cap_values.specs.declared.event.Event.{Event}
 use Rattle.cap_values.specs.declared.event.Event.TheVariants as event
 use Rattle.cap_values.specs.declared.leg.Leg.{Leg}
@@ -74,8 +74,8 @@ digits_bare (c ∷ text) digits =
     let (first, others) = and_parts (is_ascii_digit c) (list_all is_ascii_digit text) digits in
     rw (digit_bare c first, digits_bare text others) refl
 
-party_plain : (party : Number) → IsPlain (digits_of party)
-party_plain party = digits_bare (digits_of party) (and_parts _ (list_all is_ascii_digit (digits_of party)) party.in_range).1
+party_plain : (party : Number) → IsPlain (digits_of_number party)
+party_plain party = digits_bare (digits_of_number party) (and_parts _ (list_all is_ascii_digit (digits_of_number party)) party.in_range).1
 
 event_plain : (e : Event) → IsPlain (event_word e)
 event_plain event.CollectedInfo = refl

@@ -16,7 +16,7 @@ use Rattle.tariff_core.specs.TariffTable.{time_of as minutes_of}
 use Rattle.moment_texts.specs.Calendar.{dated, day_after, day_at, days_to}
 use Rattle.moment_texts.specs.Laws.{IsPlainMoment, MomentsArePlain, MomentsAreRead}
 use Rattle.moment_texts.specs.Printing.{date_and_time_text, dated_text, two_digits}
-use Rattle.moment_texts.specs.Reading.{date_and_time_of, day_of, moment_of, seconds_of, time_of}
+use Rattle.moment_texts.specs.Reading.{date_and_time_of, day_of, moment_of, seconds_of, written_time}
 use Rattle.moment_texts.specs.declared.calendar.CalendarDay.{CalendarDay}
 use Rattle.moment_texts.specs.declared.clock.Clock.TheVariants as clock
 use Rattle.moment_texts.proofs.CalendarLemmas.{IsProper, le_tested, numbered}
@@ -97,7 +97,7 @@ module _ (days time : ℕ) (small : (day_after days).year ≤ 9999) (in_day : ti
       ) refl
 
   pub date_and_time_read : date_and_time_of (date_and_time_text it time) ≡ Some (days * 864000 + time)
-  unfolding date_and_time_of day_of time_of seconds_of minutes_of
+  unfolding date_and_time_of day_of written_time seconds_of minutes_of
   date_and_time_read =
       let units : (time / 36000 * 60 + time / 600 % 60) * 600 * 1 + (time / 10 % 60 * 10 + time % 10) ≡ time = omega (arith, in_day) in
       rw (

@@ -32,15 +32,15 @@ seconds_of text =
     if (length text == 4) && (slice_index text 2 == 46) then both 10 (decimal_of 59 (take 2 text)) (decimal_of 9 (drop 3 text)) else None
 
 -- the time of day that `HH:MM:SS` or `HH:MM:SS.T` writes, in units of 100 ms
-unfoldable pub time_of : List ℕ → Option ℕ
-time_of text =
+unfoldable pub written_time : List ℕ → Option ℕ
+written_time text =
     if nat_le 6 (length text) && (slice_index text 5 == 58) then both 1 (minutes_of (take 5 text)) (seconds_of (drop 6 text)) else None
 
 -- the moment that a date and a time write, with `T` or a space between them
 unfoldable pub date_and_time_of : List ℕ → Option ℕ
 date_and_time_of text =
     if nat_le 11 (length text) && ((slice_index text 10 == 84) || (slice_index text 10 == 32))
-    then both DAY (day_of (take 10 text)) (time_of (drop 11 text)) else None
+    then both DAY (day_of (take 10 text)) (written_time (drop 11 text)) else None
 
 -- a moment, if it is at most `most`
 abbrev pub at_most : ℕ → ℕ → Option ℕ

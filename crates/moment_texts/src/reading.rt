@@ -1,7 +1,7 @@
 //! The moment that a text writes.
 
 ghost use Rattle.std.specs.Prelude.{◌≡◌, ◌≤◌, ◌<◌, IfSome};
-ghost use Rattle.moment_texts.specs.Reading.{date_and_time_of, day_of, moment_of, seconds_of, time_of};
+ghost use Rattle.moment_texts.specs.Reading.{date_and_time_of, day_of, moment_of, seconds_of, written_time};
 
 use crate::calendar::day_number;
 use table_core::decimal;
@@ -60,7 +60,7 @@ fn day(text: &[u8]) -> Option<u64>
 /// The time of day that `HH:MM:SS` writes, or `HH:MM:SS.T`, in units of 100 ms.
 #[tactic(auto, unfolding(crate::specs::Reading::time_of))]
 fn time(text: &[u8]) -> Option<u64>
-    ensures value { result ≡ time_of text.now }
+    ensures value { result ≡ written_time text.now }
     ensures within { IfSome result (λ time. time < 1000000) }
 {
     if text.len() < 6 || text[5] != b':' {

@@ -32,8 +32,8 @@ asking_in seat_text columns =
     ask_when_blank (is_asked_blank word columns) (record { seat = seat; asked = asked }))))
 
 -- what a row of a table of this version asks
-abbrev pub ask_in : Version → List (List ℕ) → Result SeatAsk RowKind
-ask_in version fields = asking_in (field_in fields 0) (operation_at version fields 1)
+abbrev pub seat_ask_in : Version → List (List ℕ) → Result SeatAsk RowKind
+seat_ask_in version fields = asking_in (field_in fields 0) (operation_at version fields 1)
 
 -- `seat,op,call,x1,x2,x3,x4,x5`; later headers have `x6` too, then `x7`, then `x8` and `x9`
 abbrev pub first_ops_header : List (List ℕ)
@@ -47,7 +47,7 @@ asks_headers =
 
 -- 10,000 rows at most; each row asks something
 abbrev pub asks_form : TableForm (List SeatAsk) RowKind RowFault
-asks_form = table_form asks_headers 10000 [] (λ header. adds (λ asks. ask_in (version_at header)))
+asks_form = table_form asks_headers 10000 [] (λ header. adds (λ asks. seat_ask_in (version_at header)))
 
 -- what a table asks
 abbrev pub asks_of : List (List (List ℕ)) → Result (List SeatAsk) RowFault

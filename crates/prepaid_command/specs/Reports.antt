@@ -25,14 +25,14 @@ report_row_in plan last fields =
     and_then (number_in fields 0 DAY) (λ first. and_then (number_in fields 1 DAY) (λ second. judged_report plan last (times_reported first second)))
 
 -- the times of the last report, and those before the first one
-unfoldable pub last_after : Elapsed → List Elapsed → Elapsed
-last_after last [] = last
-last_after last (times ∷ rest) = last_after times rest
+unfoldable pub last_times_after : Elapsed → List Elapsed → Elapsed
+last_times_after last [] = last
+last_times_after last (times ∷ rest) = last_times_after times rest
 
 -- `before,after`, and 10,000 rows at most; each row is a report after the ones before it
 abbrev pub reports_form : Rates → TableForm (List Elapsed) RowKind RowFault
 reports_form plan =
-    table_form ((codes "before" ∷ codes "and_then" ∷ []) ∷ []) 10000 [] (λ header. adds (λ reports. report_row_in plan (last_after no_times reports)))
+    table_form ((codes "before" ∷ codes "and_then" ∷ []) ∷ []) 10000 [] (λ header. adds (λ reports. report_row_in plan (last_times_after no_times reports)))
 
 -- the reports of a table
 abbrev pub table_reports_of : Rates → List (List (List ℕ)) → Result (List Elapsed) RowFault

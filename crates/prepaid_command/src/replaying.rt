@@ -4,7 +4,7 @@ ghost use Rattle.std.specs.Prelude.{◌≡◌, ◌≢◌, ◌++◌, ◌≤◌, E
 ghost use Rattle.std.specs.Result.{result_map_both};
 ghost use Rattle.prepaid_command.specs.ReplayLines.{response_line};
 ghost use Rattle.prepaid_command.specs.Replays.{replayed};
-ghost use Rattle.prepaid_command.specs.Asks.{ask_in};
+ghost use Rattle.prepaid_command.specs.Asks.{seat_ask_in};
 ghost use Rattle.prepaid_command.specs.AskingOf.{asking_of};
 ghost use Rattle.table_core.specs.Faults.{GivesTable};
 ghost use Rattle.table_core.specs.Rows.{rows_of};
@@ -90,7 +90,7 @@ struct Ask {
 fn read_ask(row: &ByteRecord, version: Version) -> Result<Ask, RowKind>
     requires { HasOperation version (fields_of row.now) 1 }
     ensures { result_map_both asking_of (λ kind. kind) result
-        ≡ ask_in version (fields_of row.now) }
+        ≡ seat_ask_in version (fields_of row.now) }
 {
     let word = read_op_word(row, OP)?;
     let seat = read_seat(row, SEAT)?;

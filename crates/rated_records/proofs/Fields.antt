@@ -15,13 +15,13 @@ use Rattle.call_records.specs.Tables.{outcome_word}
 use Rattle.call_records.specs.declared.call_record.CallRecord.{CallRecord}
 use Rattle.call_records.specs.declared.outcome.Outcome.{Outcome}
 use Rattle.call_records.specs.declared.outcome.Outcome.TheVariants as outcome
-use Rattle.cap_values.specs.NumberDigits.{digits_of}
+use Rattle.cap_values.specs.NumberDigits.{digits_of_number}
 use Rattle.cap_values.specs.declared.number.Number.{Number}
 use Rattle.csv.specs.Writing.{comma, default_writer, field_text, needs_byte}
 use Rattle.entry_rows.specs.Columns.{number_or_empty}
 use Rattle.moment_texts.specs.Laws.{MomentsArePlain, MomentsAreRead}
 use Rattle.moment_texts.specs.Printing.{moment_or_empty, moment_text}
-use Rattle.moment_texts.specs.Reading.{at_most, both, date_and_time_of, day_of, moment_of, seconds_of, time_of}
+use Rattle.moment_texts.specs.Reading.{at_most, both, date_and_time_of, day_of, moment_of, seconds_of, written_time}
 use Rattle.moment_texts.specs.declared.clock.Clock.{Clock}
 use Rattle.rated_records.specs.Tables.{IsPrintable, record_fields}
 use Rattle.rating.specs.Calls.{row_size, with_commas}
@@ -55,8 +55,8 @@ seconds_short text is =
     seconds_by (length text == 2) (length text == 4) (length text) (both 10 (decimal_of 59 text) (Some 0)) (both 10 (decimal_of 59 (take 2 text)) (decimal_of 9 (drop 3 text))) refl refl
     (slice_index text 2 == 46) is
 
-time_short : (text : List ℕ) → is_some (time_of text) ≡ true → length text ≤ 10
-unfolding time_of
+time_short : (text : List ℕ) → is_some (written_time text) ≡ true → length text ≤ 10
+unfolding written_time
 time_short text is =
     let inner = when (nat_le 6 (length text) && (slice_index text 5 == 58)) (both 1 (minutes_of (take 5 text)) (seconds_of (drop 6 text))) is in
     let short = seconds_short (drop 6 text) (second 1 (minutes_of (take 5 text)) (seconds_of (drop 6 text)) inner) in
@@ -65,8 +65,8 @@ time_short text is =
 date_short : (text : List ℕ) → is_some (date_and_time_of text) ≡ true → length text ≤ 21
 unfolding date_and_time_of
 date_short text is =
-    let inner = when (nat_le 11 (length text) && ((slice_index text 10 == 84) || (slice_index text 10 == 32))) (both 864000 (day_of (take 10 text)) (time_of (drop 11 text))) is in
-    let short = time_short (drop 11 text) (second 864000 (day_of (take 10 text)) (time_of (drop 11 text)) inner) in
+    let inner = when (nat_le 11 (length text) && ((slice_index text 10 == 84) || (slice_index text 10 == 32))) (both 864000 (day_of (take 10 text)) (written_time (drop 11 text))) is in
+    let short = time_short (drop 11 text) (second 864000 (day_of (take 10 text)) (written_time (drop 11 text)) inner) in
     omega (arith, short, length-drop 11 text)
 
 decimal_short_by : (text : List ℕ) (small : Bool) (value : ℕ) → is_some (if is_decimal text && small then Some value else None) ≡ true → length text ≤ 20
@@ -112,13 +112,13 @@ digit_small c digit = grind (arith, nat_tests)
 abbrev Fits : List ℕ → Type 0
 Fits field = IsPlain field × (length field ≤ 300)
 
-party_digits : (party : Number) → (list_all is_ascii_digit (digits_of party) ≡ true) × (length (digits_of party) ≤ 15)
+party_digits : (party : Number) → (list_all is_ascii_digit (digits_of_number party) ≡ true) × (length (digits_of_number party) ≤ 15)
 party_digits party =
-    let (lengths, digits) = and_parts (nat_le 1 (length (digits_of party)) && nat_le (length (digits_of party)) 15) (list_all is_ascii_digit (digits_of party)) party.in_range in
-    (digits, leb-true (length (digits_of party)) 15 (and_parts (nat_le 1 (length (digits_of party))) (nat_le (length (digits_of party)) 15) lengths).1)
+    let (lengths, digits) = and_parts (nat_le 1 (length (digits_of_number party)) && nat_le (length (digits_of_number party)) 15) (list_all is_ascii_digit (digits_of_number party)) party.in_range in
+    (digits, leb-true (length (digits_of_number party)) 15 (and_parts (nat_le 1 (length (digits_of_number party))) (nat_le (length (digits_of_number party)) 15) lengths).1)
 
-party_fits : (party : Number) → Fits (digits_of party)
-party_fits party = let (digits, short) = party_digits party in (digits_bare (digits_of party) digits, omega (arith, short))
+party_fits : (party : Number) → Fits (digits_of_number party)
+party_fits party = let (digits, short) = party_digits party in (digits_bare (digits_of_number party) digits, omega (arith, short))
 
 word_fits : (word : Outcome) → Fits (outcome_word word)
 word_fits outcome.Unknown = (refl, omega arith)
@@ -172,7 +172,7 @@ module _ (plain : DecimalsArePlain) where
         omega (arith, length-append (decimal (c - 48)) (digits_text prefix), one, short),
       )
 
-  prefix_fits : (bands : List Band) (party : Number) (prefix : Option (List ℕ)) → IsPrefixOf bands (digits_of party) prefix → Fits (digits_text (unwrap_or prefix []))
+  prefix_fits : (bands : List Band) (party : Number) (prefix : Option (List ℕ)) → IsPrefixOf bands (digits_of_number party) prefix → Fits (digits_text (unwrap_or prefix []))
   prefix_fits bands party None is = (refl, omega arith)
   prefix_fits bands party (Some prefix) is =
       let (digits, few) = party_digits party in
@@ -191,7 +191,7 @@ module _ (plain : DecimalsArePlain) where
     optional_moment_fits None small = (refl, omega arith)
     optional_moment_fits (Some at) small = moment_fits at small
 
-    fields_fit : (bands : List Band) (call : CallRecord) → IsPrefixOf bands (digits_of call.called) (prefix_of call) → IsPrintable call → RecordIsInRange call → All Fits (record_fields clock call)
+    fields_fit : (bands : List Band) (call : CallRecord) → IsPrefixOf bands (digits_of_number call.called) (prefix_of call) → IsPrintable call → RecordIsInRange call → All Fits (record_fields clock call)
     fields_fit bands call prefix printable range =
         All-from_recursion Fits (record_fields clock call) (
           decimal_fits call.call printable.number,
@@ -225,11 +225,11 @@ module _ (plain : DecimalsArePlain) where
           ),
         )
 
-    pub fields_plain : (bands : List Band) (call : CallRecord) → IsPrefixOf bands (digits_of call.called) (prefix_of call) → IsPrintable call → RecordIsInRange call → IsPlainRow (record_fields clock call)
+    pub fields_plain : (bands : List Band) (call : CallRecord) → IsPrefixOf bands (digits_of_number call.called) (prefix_of call) → IsPrintable call → RecordIsInRange call → IsPlainRow (record_fields clock call)
     fields_plain bands call prefix printable range =
         record { several = omega arith; plain = all_plain (record_fields clock call) (fields_fit bands call prefix printable range) }
 
     -- the bytes of its row are few
-    pub record_size : (bands : List Band) (call : CallRecord) → IsPrefixOf bands (digits_of call.called) (prefix_of call) → IsPrintable call → RecordIsInRange call
+    pub record_size : (bands : List Band) (call : CallRecord) → IsPrefixOf bands (digits_of_number call.called) (prefix_of call) → IsPrintable call → RecordIsInRange call
         → row_size (record_fields clock call) ≤ 3612
     record_size bands call prefix printable range = size_by (record_fields clock call) (fields_fit bands call prefix printable range)

@@ -10,7 +10,7 @@ use Rattle.std.proofs.lemmas.List.Elements.{All-cons, All-from_recursion, All-he
 use Rattle.call_records.specs.Records.{IsPrefixOf, IsRecord, Run, prefix_of}
 use Rattle.call_records.specs.Tables.{IsCallText, call_text, record_row}
 use Rattle.call_records.specs.declared.call_record.CallRecord.{CallRecord}
-use Rattle.cap_values.specs.NumberDigits.{digits_of}
+use Rattle.cap_values.specs.NumberDigits.{digits_of_number}
 use Rattle.cap_values.specs.Numbers.{is_number}
 use Rattle.cap_values.specs.declared.number.Number.{Number}
 use Rattle.csv.specs.Reading.{strip_bom}
@@ -22,8 +22,8 @@ use Rattle.moment_texts.specs.declared.clock.Clock.{Clock}
 use Rattle.rated_records.proofs.Fields.{fields_plain, record_size}
 use Rattle.rated_records.specs.Laws.{IsRatedBy, RecordsHaveNoDifference, record_says}
 use Rattle.rated_records.specs.Tables.{IsInputOf, IsPrintable, IsRatedTable, IsRowOf, TablesHaveNoDifference, header_fields, names_by_start, record_fields}
-use Rattle.rating.specs.Calls.{CallSaid, call_in, said_in, row_size, with_commas}
-use Rattle.rating.specs.Columns.{columns_in, place_from}
+use Rattle.rating.specs.Calls.{CallSaid, rated_call_in, said_in, row_size, with_commas}
+use Rattle.rating.specs.Columns.{found_columns, place_from}
 use Rattle.rating.specs.Rated.{IsPriced, Faulty}
 use Rattle.rating.specs.Texts.{IsRatedRow, IsRatedText, RateInput, RatedRow, headed, rate_input_of, rated_text}
 use Rattle.rating.specs.declared.fault.RateFault.{RateFault}
@@ -103,9 +103,9 @@ record IsPrinted (run : Run) (call : CallRecord) : Type 0 where
 module _ (Stood : Closed → ℕ → Knowing) (read : DecimalsAreRead) (plain : DecimalsArePlain) (moments : MomentsAreRead) (moments_plain : MomentsArePlain) (tables : TablesAreRead)
     (right : RecordsHaveNoDifference Stood) (ranges : RecordsAreInRange Stood)
     (run : Run) (clock : Clock) (is : IsServedRun Stood run) (starts : HaveTheirStarts run.given) (proper : IsProper run.setup.tariff) where
-  own_prefix : (call : CallRecord) → IsRecord run call → IsPrefixOf run.setup.tariff (digits_of call.called) (prefix_of call)
+  own_prefix : (call : CallRecord) → IsRecord run call → IsPrefixOf run.setup.tariff (digits_of_number call.called) (prefix_of call)
   own_prefix call record_is =
-      let Prefix : Number → Type 0 = λ called. IsPrefixOf run.setup.tariff (digits_of called) (prefix_of call) in
+      let Prefix : Number → Type 0 = λ called. IsPrefixOf run.setup.tariff (digits_of_number called) (prefix_of call) in
       subst Prefix (sym record_is.from.called) record_is.from.prefix
 
   rows_plain : (calls : List CallRecord) → All IsPrintable calls → All (IsRecord run) calls → All IsPlainRow (map (record_fields clock) calls)
@@ -122,7 +122,7 @@ module _ (Stood : Closed → ℕ → Knowing) (read : DecimalsAreRead) (plain : 
       (All-cons IsPlainRow header_fields (map (record_fields clock) calls) header_plain (rows_plain calls printable records)) (unmarked (map (record_fields clock) calls)))
 
   reads : (rows : List Fields) → ReadsTable run.setup.tariff clock rows (IsPrinted run) (headed names_by_start run.setup.tariff (header_fields ∷ rows))
-  unfolding columns_in place_from said_in call_in with_commas
+  unfolding found_columns place_from said_in rated_call_in with_commas
   reads rows = record {
     bands_are = refl;
     header_is = refl;
@@ -131,7 +131,7 @@ module _ (Stood : Closed → ℕ → Knowing) (read : DecimalsAreRead) (plain : 
         let range = ranges run call is printed.is_record in
         let size = record_size plain moments moments_plain clock run.setup.tariff call (own_prefix call printed.is_record) printed.printable range in
         let long : nat_lt 65536 (row_size (record_fields clock call)) ≡ false = not_over (row_size (record_fields clock call)) 65536 (omega (arith, size)) in
-        let number : is_number (digits_of call.called) ≡ true = call.called.in_range in
+        let number : is_number (digits_of_number call.called) ≡ true = call.called.in_range in
         let charged : (length (decimal call.paid) == 0) ≡ false = some_bytes (length (decimal call.paid)) (decimal_nonempty call.paid (omega (arith, range.paid))) in
         let paid : decimal_of 1000000000000000 (decimal call.paid) ≡ Some call.paid = read 1000000000000000 call.paid (omega arith) range.paid in
         let answered : (length (moment_text clock call.start) == 0) ≡ false =

@@ -3,7 +3,7 @@ use Rattle.std.specs.Prelude.{◌≡◌, ◌≢◌, ℕ, List, Option, Some, Non
 use Rattle.call_records.specs.Records.{IsRecord, Run, prefix_of}
 use Rattle.call_records.specs.declared.call_record.CallRecord.{CallRecord}
 use Rattle.call_records.specs.declared.outcome.Outcome.TheVariants as outcome
-use Rattle.cap_values.specs.NumberDigits.{digits_of}
+use Rattle.cap_values.specs.NumberDigits.{digits_of_number}
 use Rattle.tariff_core.specs.Laws.{IsProper}
 use Rattle.rating.specs.Calls.{CallSaid, talk_split}
 use Rattle.rating.specs.Rated.{IsPriced, Rating, Faulty, Priced}
@@ -20,7 +20,7 @@ use Rattle.table_core.specs.Judging.{and_then}
 abbrev pub record_says : CallRecord → Result CallSaid RateKind
 record_says call =
     and_then (talk_split call.times.before call.times.after) (λ talk.
-    Ok (record { called = digits_of call.called; answered = Some (record { at = call.start; talk = talk }); paid = Some call.paid }))
+    Ok (record { called = digits_of_number call.called; answered = Some (record { at = call.start; talk = talk }); paid = Some call.paid }))
 
 -- what a record comes to by the tariff of its run
 abbrev pub IsRatedBy : Run → CallRecord → Rating → Type 0

@@ -6,7 +6,7 @@ use Rattle.call_records.specs.Records.{Run, prefix_of}
 use Rattle.call_records.specs.Tables.{IsCallText, outcome_word}
 use Rattle.call_records.specs.declared.call_record.CallRecord.{CallRecord}
 use Rattle.call_records.specs.declared.outcome.Outcome.TheVariants as outcome
-use Rattle.cap_values.specs.NumberDigits.{digits_of}
+use Rattle.cap_values.specs.NumberDigits.{digits_of_number}
 use Rattle.entry_rows.specs.Columns.{number_or_empty}
 use Rattle.moment_texts.specs.Printing.{moment_or_empty, moment_text}
 use Rattle.moment_texts.specs.declared.clock.Clock.{Clock}
@@ -39,7 +39,7 @@ header_fields =
 -- the fields of a record there
 abbrev pub record_fields : Clock → CallRecord → Fields
 record_fields clock call =
-    decimal call.call ∷ digits_of call.calling ∷ digits_of call.called ∷ number_or_empty call.account ∷ digits_text (unwrap_or (prefix_of call) []) ∷ moment_text clock call.start
+    decimal call.call ∷ digits_of_number call.calling ∷ digits_of_number call.called ∷ number_or_empty call.account ∷ digits_text (unwrap_or (prefix_of call) []) ∷ moment_text clock call.start
     ∷ moment_or_empty clock call.answer ∷ moment_or_empty clock call.end ∷ decimal call.times.before ∷ decimal call.times.after ∷ decimal call.paid ∷ outcome_word call.outcome ∷ []
 
 -- the numbers of a record have 64 bits, as those of each record of the code, and its start is a moment that a script may have

@@ -26,7 +26,7 @@ use Rattle.rating.specs.declared.columns.Columns.{Columns}
 use Rattle.rating.specs.Tallies.{counted, no_rows}
 use Rattle.rating.specs.Texts.{AreRated, IsRatedRow, RateInput, RatedRow, rated_below, counts_of, headed, rated_text}
 use Rattle.rating.specs.Asks.{NamesWish}
-use Rattle.rating.specs.Columns.{columns_in}
+use Rattle.rating.specs.Columns.{found_columns}
 use Rattle.rating.specs.Faults.{of_rows}
 use Rattle.rating.specs.declared.fault.RateFault.{RateFault}
 use Rattle.rating.specs.declared.fault.RateFault.TheVariants as fault
@@ -270,13 +270,13 @@ header_whole : (whole : Fields) → row_size (shown whole) ≤ MAX_SHOWN → Who
 header_whole whole within (inl same) = same
 header_whole whole within (inr over) = absurd (omega (arith, within, over.0))
 
-first_headed : (names : NamesWish) (bands : List Band) (first : Fields) (rated_below : List Fields) (columns : Columns) → row_size first ≤ MAX_SHOWN → columns_in first names ≡ Some columns
+first_headed : (names : NamesWish) (bands : List Band) (first : Fields) (rated_below : List Fields) (columns : Columns) → row_size first ≤ MAX_SHOWN → found_columns first names ≡ Some columns
     → headed names bands (first ∷ rated_below) ≡ Ok (record { bands = bands; header = first; columns = columns; rows = rated_below })
 first_headed names bands first rated_below columns within found = rw (over_header (row_size first) within, found) refl
 
 -- a header that has few bytes was not cut, and is followed by the rows below it
 headed_is : (names : NamesWish) (bands : List Band) (rows rest : List Fields) (first : Fields) (columns : Columns) → map shown rows ≡ first ∷ rest → row_size first ≤ MAX_SHOWN
-    → columns_in first names ≡ Some columns
+    → found_columns first names ≡ Some columns
     → (rated_below : List Fields) × (headed names bands rows ≡ Ok (record { bands = bands; header = first; columns = columns; rows = rated_below })) × (rest ≡ map shown rated_below)
 headed_is names bands rows rest first columns is within found =
     let (whole, rated_below, rows_are, first_is, rest_is) = first_left rows first rest is in
@@ -286,7 +286,7 @@ headed_is names bands rows rest first columns is within found =
 
 -- the first row of a table whose long rows are cut, and those below it
 pub opened : {R : Type 0} (remaining : R → Option (List ℕ)) (names : NamesWish) (bands : List Band) (text : List ℕ) (rows : Rows R) (columns : Columns)
-    → TakesNext remaining rows (rows_of (cut_start MAX_SHOWN text)) true → row_size (fields_of rows.row) ≤ MAX_SHOWN → columns_in (fields_of rows.row) names ≡ Some columns
+    → TakesNext remaining rows (rows_of (cut_start MAX_SHOWN text)) true → row_size (fields_of rows.row) ≤ MAX_SHOWN → found_columns (fields_of rows.row) names ≡ Some columns
     → (rated_below : List Fields)
     × (headed names bands (rows_of text) ≡ Ok (record { bands = bands; header = fields_of rows.row; columns = columns; rows = rated_below })) × HasRowsLeft remaining rows (map shown rated_below)
 opened remaining names bands text rows columns takes within found =
@@ -311,13 +311,13 @@ header_by false bands header rows = refl
 pub no_header : (names : NamesWish) (bands : List Band) (text : List ℕ) → rows_of (cut_start MAX_SHOWN text) ≡ [] → headed names bands (rows_of text) ≡ Err fault.Header
 no_header names bands text none = ap (λ l. headed names bands l) (none_left (rows_of text) (sym (table_cut 131069 text) ∙ none))
 
-nameless : (names : NamesWish) (bands : List Band) (whole : Fields) (more : List Fields) → columns_in (shown whole) names ≡ None → WholeOrOver (shown whole) whole MAX_SHOWN
+nameless : (names : NamesWish) (bands : List Band) (whole : Fields) (more : List Fields) → found_columns (shown whole) names ≡ None → WholeOrOver (shown whole) whole MAX_SHOWN
     → headed names bands (whole ∷ more) ≡ Err fault.Header
 nameless names bands whole more none (inl same) = rw (rw same at none) (header_by (nat_lt MAX_SHOWN (row_size whole)) bands whole more)
 nameless names bands whole more none (inr over) = rw (less_is MAX_SHOWN (row_size whole) over.1) refl
 
 pub no_columns : {R : Type 0} (remaining : R → Option (List ℕ)) (names : NamesWish) (bands : List Band) (text : List ℕ) (rows : Rows R)
-    → TakesNext remaining rows (rows_of (cut_start MAX_SHOWN text)) true → columns_in (fields_of rows.row) names ≡ None → headed names bands (rows_of text) ≡ Err fault.Header
+    → TakesNext remaining rows (rows_of (cut_start MAX_SHOWN text)) true → found_columns (fields_of rows.row) names ≡ None → headed names bands (rows_of text) ≡ Err fault.Header
 no_columns remaining names bands text rows takes none =
     let (rest, first, left) = takes in
     let (whole, more, rows_are, first_is, rest_is) = first_left (rows_of text) (fields_of rows.row) rest (sym (table_cut 131069 text) ∙ first) in

@@ -83,15 +83,15 @@ charged_in fields None = Ok None
 charged_in fields (Some place) = optional_number fields place MAX_MONEY
 
 -- what the columns of a row say; that an end is out of order is found last
-unfoldable pub call_in : Fields → Columns → Result CallSaid RateKind
-call_in fields columns =
+unfoldable pub rated_call_in : Fields → Columns → Result CallSaid RateKind
+rated_call_in fields columns =
     and_then (called_in fields columns.called) (λ called. and_then (charged_in fields columns.paid) (λ paid. and_then (answered_in fields columns) (λ answered.
     Ok (record { called = called; answered = answered; paid = paid }))))
 
 -- what a row says under a header of so many fields: a row that is too long, or of another number of fields, says nothing
 unfoldable pub said_in : ℕ → Columns → Fields → Result CallSaid RateKind
 said_in width columns fields =
-    if nat_lt MAX_ROW (row_size fields) then Err kind.TooLong else if not (length fields == width) then Err kind.Csv else call_in fields columns
+    if nat_lt MAX_ROW (row_size fields) then Err kind.TooLong else if not (length fields == width) then Err kind.Csv else rated_call_in fields columns
 
 -- times are a day at most
 abbrev pub IsWithinDay : Talk → Type 0

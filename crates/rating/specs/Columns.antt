@@ -50,8 +50,8 @@ paid_column header None = sought header (codes "paid")
 paid_column header (Some name) = option_map (λ place. Some place) (needed_column header name)
 
 -- the columns by these names; nothing where the header hasn't one that must be there, or has one twice
-unfoldable pub columns_in : Fields → NamesWish → Option Columns
-columns_in header names =
+unfoldable pub found_columns : Fields → NamesWish → Option Columns
+found_columns header names =
     option_and_then (λ called. option_and_then (λ answer. option_and_then (λ times.
     option_map (λ paid. record { called = called; answer = answer; times = times; paid = paid })
     (paid_column header names.paid)) (times_in header names.times)) (needed_column header names.answer)) (needed_column header names.called)

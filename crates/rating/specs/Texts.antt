@@ -8,7 +8,7 @@ use Rattle.table_core.specs.Rows.{Fields, rows_of}
 use Rattle.tariff_core.specs.Bands.{Band}
 use Rattle.rating.specs.Asks.{NamesWish}
 use Rattle.rating.specs.Calls.{row_size}
-use Rattle.rating.specs.Columns.{columns_in}
+use Rattle.rating.specs.Columns.{found_columns}
 use Rattle.rating.specs.Faults.{as_rate_fault}
 use Rattle.rating.specs.Lines.{header_line, rated_line}
 use Rattle.rating.specs.Rated.{IsRated, Rating}
@@ -34,7 +34,7 @@ rated_below bands header rows (Some columns) = Ok (record { bands = bands; heade
 -- the rows of a table, the first of which is its header, unless it has too many bytes
 abbrev pub headed : NamesWish → List Band → List Fields → Result RateInput RateFault
 headed names bands [] = Err fault.Header
-headed names bands (header ∷ rows) = if nat_lt MAX_SHOWN (row_size header) then Err fault.Header else rated_below bands header rows (columns_in header names)
+headed names bands (header ∷ rows) = if nat_lt MAX_SHOWN (row_size header) then Err fault.Header else rated_below bands header rows (found_columns header names)
 
 -- an input: its first part, which is its tariff, and its header, judged in this order
 abbrev pub rate_input_of : NamesWish → List ℕ → Result RateInput RateFault

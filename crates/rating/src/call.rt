@@ -3,7 +3,7 @@
 ghost use Rattle.std.specs.Prelude.{◌≡◌, ◌<◌, ◌≤◌, length, unwrap_or, IfOk, IfSome};
 ghost use Rattle.std.specs.Result.{result_map_both};
 ghost use Rattle.csv.specs.Records.{fields_of};
-ghost use Rattle.rating.specs.Calls.{AnsweredIsInRange, IsWithinDay, answered_in, call_in, called_in, needed_moment, needed_number, optional_number, charged_in, talk_in, talk_split, talk_until};
+ghost use Rattle.rating.specs.Calls.{AnsweredIsInRange, IsWithinDay, answered_in, rated_call_in, called_in, needed_moment, needed_number, optional_number, charged_in, talk_in, talk_split, talk_until};
 ghost use Rattle.rating.specs.Columns.{HasAllColumns, HasTimes};
 ghost use Rattle.rating.specs.SaidOf.{said_by};
 
@@ -52,7 +52,7 @@ impl<'a> Call<'a> {
     #[tactic(auto, unfolding(crate::specs::Calls::call_in))]
     pub(crate) fn read(row: &'a ByteRecord, columns: &Columns) -> Result<Call<'a>, RateKind>
         requires { HasAllColumns (length (fields_of row.now)) columns.now }
-        ensures value { result_map_both said_by (λ kind. kind) result ≡ call_in
+        ensures value { result_map_both said_by (λ kind. kind) result ≡ rated_call_in
             (fields_of row.now) columns.now }
         ensures within { IfOk result (λ call. IfSome call.answered AnsweredIsInRange) }
         ensures paid { IfOk result (λ call. unwrap_or call.paid 0 ≤ MAX_MONEY) }

@@ -2,7 +2,7 @@
 
 ghost use Rattle.std.specs.Prelude.{◌≡◌, ◌<◌, ◌≤◌, ◌+◌, ◌-◌, ◌^◌, length, drop, option_map, IfSome};
 ghost use Rattle.csv.specs.Records.{fields_of};
-ghost use Rattle.rating.specs.Columns.{HasAllColumns, HasTimes, columns_in, needed_column, paid_column, place_from, sought, times_in};
+ghost use Rattle.rating.specs.Columns.{HasAllColumns, HasTimes, found_columns, needed_column, paid_column, place_from, sought, times_in};
 ghost use Rattle.rating.specs.Asks.{ByUsualNames};
 ghost use Rattle.rating.specs.SaidOf.{wished_names, times_of};
 
@@ -35,7 +35,7 @@ impl Columns {
     /// one twice.
     #[tactic(auto, unfolding(crate::specs::Columns::columns_in))]
     pub(crate) fn find(header: &ByteRecord, names: &Names<'_>) -> Option<Columns>
-        ensures value { result ≡ columns_in (fields_of header.now) (wished_names names.now) }
+        ensures value { result ≡ found_columns (fields_of header.now) (wished_names names.now) }
         ensures within { IfSome result (HasAllColumns (length (fields_of header.now))) }
     {
         let called = needed(header, names.called)?;

@@ -6,7 +6,7 @@ use Rattle.account_core.specs.Asked.{Asked, Credits, Reserves, Settles, Returns}
 use Rattle.account_core.specs.Events.{EntryData}
 use Rattle.call_records.specs.Calls.{parties_of}
 use Rattle.call_records.specs.Records.{Run}
-use Rattle.cap_values.specs.NumberDigits.{digits_of}
+use Rattle.cap_values.specs.NumberDigits.{digits_of_number}
 use Rattle.cap_values.specs.declared.message.SsfMsg.TheVariants.{InitialDp}
 use Rattle.cap_values.specs.declared.number.Number.{Number}
 use Rattle.run_laws.proofs.Entries.{own_holds}
@@ -38,7 +38,7 @@ pub record IsBegun (run : Run) (place call : ℕ) (plan : Rates) : Type 0 where
   pub given : Contains run.given (at, Ssf call (InitialDp other calling called))
   pub home : home_of calling run.setup ≡ Some place
   pub route : Route
-  pub routed : IsRoute run.setup.tariff (digits_of called) at route
+  pub routed : IsRoute run.setup.tariff (digits_of_number called) at route
   pub plan_is : plan ≡ rates_of route.plan
 
 begun_by : (run : Run) (place : ℕ) (posts : List Post) → All (λ post. Contains run.given (post.at, post.body)) posts → (asked : Asked) → IsOnTerms run.setup place posts asked

@@ -12,7 +12,7 @@ use Rattle.call_records.specs.Records.{IsPrefixOf, IsRecord, Run, outcome_of}
 use Rattle.call_records.specs.Standings.{past_of, standing_of}
 use Rattle.call_records.specs.declared.call_record.CallRecord.{CallRecord}
 use Rattle.call_records.specs.declared.outcome.Outcome.TheVariants as outcome
-use Rattle.cap_values.specs.NumberDigits.{digits_of}
+use Rattle.cap_values.specs.NumberDigits.{digits_of_number}
 use Rattle.cap_values.specs.declared.message.SsfMsg.TheVariants.{InitialDp}
 use Rattle.cap_values.specs.declared.number.Number.{Number}
 use Rattle.run_laws.proofs.Ranges.{untalked}
@@ -65,23 +65,23 @@ module _ (Stood : Closed → ℕ → Knowing) (laws : TariffLaws) (reserves : Re
         All-contains (λ (item : ℕ × Body). HasItsStart run.given item.0 item.1) run.given (begun.at, Ssf call.call (InitialDp begun.other begun.calling begun.called)) starts begun.given in
         sym of_begun ∙ ap (option_map (λ start. (start.at, start.calling, start.called))) record_is.begins
 
-    at_start : IsRoute run.setup.tariff (digits_of call.called) call.start begun.route
+    at_start : IsRoute run.setup.tariff (digits_of_number call.called) call.start begun.route
     at_start =
         let moment : begun.at ≡ call.start =
         ap (λ (start : Option (ℕ × Number × Number)). unwrap_or (option_map (λ (s : ℕ × Number × Number). s.0) start) begun.at) started ∙ sym record_is.from.start_is in
         let number : begun.called ≡ call.called =
         ap (λ (start : Option (ℕ × Number × Number)). unwrap_or (option_map (λ (s : ℕ × Number × Number). s.2) start) begun.called) started ∙ sym record_is.from.called in
-        let To : Number → Type 0 = λ called. IsRoute run.setup.tariff (digits_of called) begun.at begun.route in
-        let At : ℕ → Type 0 = λ at. IsRoute run.setup.tariff (digits_of call.called) at begun.route in
+        let To : Number → Type 0 = λ called. IsRoute run.setup.tariff (digits_of_number called) begun.at begun.route in
+        let At : ℕ → Type 0 = λ at. IsRoute run.setup.tariff (digits_of_number call.called) at begun.route in
         subst At moment (subst To number begun.routed)
 
     has_prefix : (has : Bool) → is_some call.prefix ≡ has → has ≡ true
     has_prefix true same = refl
     has_prefix false same =
-        let Called : Number → Type 0 = λ called. IsRoute run.setup.tariff (digits_of called) call.start begun.route in
+        let Called : Number → Type 0 = λ called. IsRoute run.setup.tariff (digits_of_number called) call.start begun.route in
         let route = subst Called record_is.from.called at_start in
-        let Own : Option (List ℕ) → Type 0 = λ prefix. IsPrefixOf run.setup.tariff (digits_of record_is.start.called) prefix in
-        absurd (routed run.setup.tariff (digits_of record_is.start.called) route.prefix route.is_prefix (subst Own (unprefixed (λ prefix. prefix.items) call.prefix same) record_is.from.prefix))
+        let Own : Option (List ℕ) → Type 0 = λ prefix. IsPrefixOf run.setup.tariff (digits_of_number record_is.start.called) prefix in
+        absurd (routed run.setup.tariff (digits_of_number record_is.start.called) route.prefix route.is_prefix (subst Own (unprefixed (λ prefix. prefix.items) call.prefix same) record_is.from.prefix))
 
     no_forfeit : (forfeited : Bool) → (known call.call (past_of call.account run.books)).forfeited ≡ forfeited → forfeited ≡ false
     no_forfeit false same = refl

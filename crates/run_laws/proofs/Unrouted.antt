@@ -9,7 +9,7 @@ use Rattle.account_core.specs.Known.{known}
 use Rattle.call_records.proofs.LawLemmas.{parties_start, ungranted_pays_nothing, unrouted_has_none}
 use Rattle.call_records.specs.Records.{Run}
 use Rattle.call_records.specs.Standings.{past_in, past_of}
-use Rattle.cap_values.specs.NumberDigits.{digits_of}
+use Rattle.cap_values.specs.NumberDigits.{digits_of_number}
 use Rattle.cap_values.specs.declared.number.Number.{Number}
 use Rattle.run_laws.proofs.Grants.{IfReserves, granted_has}
 use Rattle.run_laws.proofs.Reserves.{IsBegun, begun_parties, book_begun, there}
@@ -77,5 +77,5 @@ unrouted_pay_nothing Stood reserves run call is record_is unrouted =
         sym (begun_parties Stood run is place call.call plan begun) ∙ parties_start run call record_is in
         let one : begun.called ≡ record_is.start.called = ap (λ (o : Option (Number × Number)). unwrap_or (option_map (λ (p : Number × Number). p.1) o) begun.called) same_parties in
         let prefix : List ℕ = begun.routed.prefix in
-        let Prefix : Number → Type 0 = λ called. IsPrefixFor run.setup.tariff (digits_of called) prefix in
-        absurd (routed run.setup.tariff (digits_of record_is.start.called) prefix (subst Prefix one begun.routed.is_prefix) (unrouted_has_none run call record_is unrouted))
+        let Prefix : Number → Type 0 = λ called. IsPrefixFor run.setup.tariff (digits_of_number called) prefix in
+        absurd (routed run.setup.tariff (digits_of_number record_is.start.called) prefix (subst Prefix one begun.routed.is_prefix) (unrouted_has_none run call record_is unrouted))

@@ -5,7 +5,7 @@ use Rattle.account_core.specs.Known.{known, paid_if_granted}
 use Rattle.call_records.specs.Records.{AreRecords, IsRecord, Run}
 use Rattle.call_records.specs.declared.call_record.CallRecord.{CallRecord}
 use Rattle.call_records.specs.declared.outcome.Outcome.TheVariants as outcome
-use Rattle.cap_values.specs.NumberDigits.{digits_of}
+use Rattle.cap_values.specs.NumberDigits.{digits_of_number}
 use Rattle.run_laws.specs.Runs.{HasAccounts}
 use Rattle.run_laws.specs.Starts.{HaveTheirParties, HaveTheirStarts}
 use Rattle.run_values.specs.declared.post.Answer.{Answer}
@@ -54,7 +54,7 @@ pub record IsUntalked (call : CallRecord) : Type 0 where
 -- a call has paid the price of its times by the route that the number called has at the call's start
 pub record PaysItsRoute (run : Run) (call : CallRecord) : Type 0 where
   pub route : Route
-  pub routed : IsRoute run.setup.tariff (digits_of call.called) call.start route
+  pub routed : IsRoute run.setup.tariff (digits_of_number call.called) call.start route
   pub paid : call.paid ≡ price_at (rates_of route.plan) call.times
 
 -- each call has paid the price of its times by its route, unless it has a forfeit; where no time was granted it has none, and paid nothing

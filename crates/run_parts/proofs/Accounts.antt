@@ -3,7 +3,7 @@ use Rattle.std.proofs.Common.{◌≡◌, ◌<◌, ◌+◌, ◌∙◌, ℕ, cond,
 use Rattle.std.proofs.lemmas.List.{map-append, take_more}
 use Rattle.std.specs.Option.{option_or}
 use Rattle.std.specs.Str.{bytes_eq}
-use Rattle.cap_values.specs.NumberDigits.{digits_of}
+use Rattle.cap_values.specs.NumberDigits.{digits_of_number}
 use Rattle.cap_values.specs.declared.number.Number.{Number}
 use Rattle.run_parts.specs.Parts.{account_of_digits, payer_by, payer_of}
 use Rattle.run_texts.specs.Happenings.{ScriptEvent}
@@ -36,7 +36,7 @@ payer_next subscribers rows i row call within is =
     ∙ payer_more subscribers (map script_event (take i rows)) (script_event row) call
 
 -- the account of a number is that of its digits
-pub by_its_digits : (number : Number) (subscribers : List (Number × ℕ)) → setups.account_of number subscribers ≡ account_of_digits (digits_of number) (with_digits subscribers)
+pub by_its_digits : (number : Number) (subscribers : List (Number × ℕ)) → setups.account_of number subscribers ≡ account_of_digits (digits_of_number number) (with_digits subscribers)
 by_its_digits number [] = refl
 by_its_digits number (subscriber ∷ subscribers) =
-    ap (λ (rest : Option ℕ). cond (bytes_eq (digits_of subscriber.0) (digits_of number)) (Some subscriber.1) rest) (by_its_digits number subscribers)
+    ap (λ (rest : Option ℕ). cond (bytes_eq (digits_of_number subscriber.0) (digits_of_number number)) (Some subscriber.1) rest) (by_its_digits number subscribers)

@@ -6,7 +6,7 @@ use Rattle.std.specs.Io.KnownBytes.{Consumes, IsAtEnd, Keeps}
 use Rattle.std.proofs.BufReadLemmas.{take_through-append, take_through-nil}
 use Rattle.std.proofs.lemmas.Bool.Decides.{nat_tests}
 use Rattle.run_texts.specs.FirstParts.{Division, ReadsLine, division_of, first_part, first_part_by, with_front}
-use Rattle.run_texts.specs.Parts.{with_first_byte, is_divider, lines_of}
+use Rattle.run_texts.specs.Parts.{with_first_byte, is_divider, lines_in_text}
 use Rattle.run_texts.specs.declared.input_fault.InputFault.TheVariants as fault
 
 -- ---- readers
@@ -32,16 +32,16 @@ keeps_keeps (Some xs) (Some ys) (Some zs) one two = two ∙ one
 -- ---- the first line
 
 first_line : (ends : Bool) (c : ℕ) (text : List ℕ)
-    → (if ends then (c ∷ []) ∷ lines_of text else with_first_byte c (lines_of text))
-    ≡ (if ends then c ∷ [] else c ∷ take_through 10 text) ∷ lines_of (if ends then text else drop_through 10 text)
-unfolding lines_of
+    → (if ends then (c ∷ []) ∷ lines_in_text text else with_first_byte c (lines_in_text text))
+    ≡ (if ends then c ∷ [] else c ∷ take_through 10 text) ∷ lines_in_text (if ends then text else drop_through 10 text)
+unfolding lines_in_text
 first_line true c text = refl
 first_line false c [] = refl
 first_line false c (d ∷ text) = ap (with_first_byte c) (first_line (d == 10) d text)
 
 -- of a text that isn't empty it is what comes up to the first LF
-lines_through : (c : ℕ) (text : List ℕ) → lines_of (c ∷ text) ≡ take_through 10 (c ∷ text) ∷ lines_of (drop_through 10 (c ∷ text))
-unfolding lines_of
+lines_through : (c : ℕ) (text : List ℕ) → lines_in_text (c ∷ text) ≡ take_through 10 (c ∷ text) ∷ lines_in_text (drop_through 10 (c ∷ text))
+unfolding lines_in_text
 lines_through c text = first_line (c == 10) c text
 
 whole_through : (text : List ℕ) → text ≡ take_through 10 text ++ drop_through 10 text
@@ -136,7 +136,7 @@ dropped front line rest =
     rw (size, ← append_assoc front line rest) (drop_front (front ++ line) rest)
 
 part_found : (text front line rest : List ℕ) → text ≡ front ++ (line ++ rest) → length front + length line ≤ 16777216
-    → division_of (lines_of text) ≡ Some (record { part = front ++ []; divider = line }) → first_part text ≡ Ok (record { part = front; rest = rest })
+    → division_of (lines_in_text text) ≡ Some (record { part = front ++ []; divider = line }) → first_part text ≡ Ok (record { part = front; rest = rest })
 part_found text front line rest whole within is =
     rw (is, append-nil front, not_below 16777216 (length front + length line) within) (ap (λ left. Ok (record { part = front; rest = left })) (rw whole (dropped front line rest)))
 
@@ -151,26 +151,26 @@ pub record IsUnderWay (text front : List ℕ) (left : Option (List ℕ)) : Type 
   pub rest : List ℕ
   pub known : left ≡ Some rest
   pub whole : text ≡ front ++ rest
-  pub so_far : division_of (lines_of text) ≡ option_map (with_front front) (division_of (lines_of rest))
+  pub so_far : division_of (lines_in_text text) ≡ option_map (with_front front) (division_of (lines_in_text rest))
 
 pub under_way : (text : List ℕ) (left : Option (List ℕ)) → left ≡ Some text → IsUnderWay text [] left
-under_way text left known = record { rest = text; known = known; whole = refl; so_far = no_front (division_of (lines_of text)) }
+under_way text left known = record { rest = text; known = known; whole = refl; so_far = no_front (division_of (lines_in_text text)) }
 
 -- the next line, of a rest that isn't empty
 record IsNext (text front line more : List ℕ) : Type 0 where
   whole : text ≡ front ++ (line ++ more)
-  so_far : division_of (lines_of text) ≡ option_map (with_front front) (division_of (line ∷ lines_of more))
+  so_far : division_of (lines_in_text text) ≡ option_map (with_front front) (division_of (line ∷ lines_in_text more))
 
-next_line : (text front rest line : List ℕ) (c : ℕ) → text ≡ front ++ (c ∷ rest) → division_of (lines_of text) ≡ option_map (with_front front) (division_of (lines_of (c ∷ rest)))
+next_line : (text front rest line : List ℕ) (c : ℕ) → text ≡ front ++ (c ∷ rest) → division_of (lines_in_text text) ≡ option_map (with_front front) (division_of (lines_in_text (c ∷ rest)))
     → line ≡ take_through 10 (c ∷ rest) → IsNext text front line (drop_through 10 (c ∷ rest))
 next_line text front rest line c whole so_far line_is =
     let more = drop_through 10 (c ∷ rest) in
     record {
       whole = whole ∙ ap (λ l. front ++ l) (whole_through (c ∷ rest) ∙ ap (λ l. l ++ more) (sym line_is));
-      so_far = so_far ∙ ap (λ lines. option_map (with_front front) (division_of lines)) (lines_through c rest ∙ ap (λ l. l ∷ lines_of more) (sym line_is));
+      so_far = so_far ∙ ap (λ lines. option_map (with_front front) (division_of lines)) (lines_through c rest ∙ ap (λ l. l ∷ lines_in_text more) (sym line_is));
     }
 
-divided_at : (text front rest line : List ℕ) (new : Option (List ℕ)) → text ≡ front ++ rest → division_of (lines_of text) ≡ option_map (with_front front) (division_of (lines_of rest))
+divided_at : (text front rest line : List ℕ) (new : Option (List ℕ)) → text ≡ front ++ rest → division_of (lines_in_text text) ≡ option_map (with_front front) (division_of (lines_in_text rest))
     → line ≡ take_through 10 rest → new ≡ Some (drop_through 10 rest) → length front + length line ≤ 16777216 → is_divider line ≡ true
     → (more : List ℕ) × (new ≡ Some more) × (first_part text ≡ Ok (record { part = front; rest = more }))
 divided_at text front [] line new whole so_far line_is left within is = let no : is_divider [] ≡ true = ap is_divider (sym line_is) ∙ is in cc
@@ -179,7 +179,7 @@ divided_at text front (c ∷ rest) line new whole so_far line_is left within is 
       drop_through 10 (c ∷ rest),
       left,
       part_found text front line (drop_through 10 (c ∷ rest)) next.whole within
-          (next.so_far ∙ ap (λ found. option_map (with_front front) found) (divides_here line (lines_of (drop_through 10 (c ∷ rest))) is)),
+          (next.so_far ∙ ap (λ found. option_map (with_front front) found) (divides_here line (lines_in_text (drop_through 10 (c ∷ rest))) is)),
     )
 
 -- a line that is a divider
@@ -194,8 +194,8 @@ undivided_by : (text : List ℕ) (found : Option Division) → found ≡ None �
 undivided_by text None none size = rw (not_below 16777216 (length text) size) refl
 undivided_by text (Some d) none size = cc
 
-nothing : (front rest : List ℕ) → rest ≡ [] → option_map (with_front front) (division_of (lines_of rest)) ≡ None
-unfolding division_of lines_of
+nothing : (front rest : List ℕ) → rest ≡ [] → option_map (with_front front) (division_of (lines_in_text rest)) ≡ None
+unfolding division_of lines_in_text
 nothing front [] none = refl
 nothing front (c ∷ rest) none = cc
 
@@ -206,24 +206,24 @@ undivided most text front line left new way read within none =
     let (line_is, left_is) = rw way.known at read in
     let empty : way.rest ≡ [] = take_through-nil 10 way.rest (sym (ap length line_is) ∙ none) in
     let size : length text ≤ 16777216 = omega (arith, within, ap length way.whole, length-append front way.rest, ap length empty) in
-    undivided_by text (division_of (lines_of text)) (way.so_far ∙ nothing front way.rest empty) size
+    undivided_by text (division_of (lines_in_text text)) (way.so_far ∙ nothing front way.rest empty) size
 
-above_at : (most : ℕ) (rest : List ℕ) → most < length (take_through 10 rest) → SizeAbove most (division_of (lines_of rest))
+above_at : (most : ℕ) (rest : List ℕ) → most < length (take_through 10 rest) → SizeAbove most (division_of (lines_in_text rest))
 unfolding division_of
 above_at most [] long = absurd (omega (arith, long))
 above_at most (c ∷ rest) long =
-    rw (lines_through c rest) (first_above (is_divider (take_through 10 (c ∷ rest))) (take_through 10 (c ∷ rest)) most (division_of (lines_of (drop_through 10 (c ∷ rest)))) long)
+    rw (lines_through c rest) (first_above (is_divider (take_through 10 (c ∷ rest))) (take_through 10 (c ∷ rest)) most (division_of (lines_in_text (drop_through 10 (c ∷ rest)))) long)
 
 -- there is no room for the next line
 pub too_long : (most : ℕ) (text front : List ℕ) (left new : Option (List ℕ)) → IsUnderWay text front left
     → IfSome left (λ rest. ReadsLine most rest new None) → length front + most ≡ 16777216 → first_part text ≡ Err fault.TooLong
 too_long most text front left new way read room =
     let long : most < length (take_through 10 way.rest) = rw way.known at read in
-    let above = above_front front most (division_of (lines_of way.rest)) (above_at most way.rest long) in
+    let above = above_front front most (division_of (lines_in_text way.rest)) (above_at most way.rest long) in
     let size : 16777216 < length text = omega (arith, room, long, ap length way.whole, length-append front way.rest, ap length (whole_through way.rest), length-append (take_through 10 way.rest) (drop_through 10 way.rest)) in
-    above_all text (length front + most) (division_of (lines_of text)) (omega (arith, room)) size (subst (λ found. SizeAbove (length front + most) found) (sym way.so_far) above)
+    above_all text (length front + most) (division_of (lines_in_text text)) (omega (arith, room)) size (subst (λ found. SizeAbove (length front + most) found) (sym way.so_far) above)
 
-goes_on_at : (text front rest line : List ℕ) (new : Option (List ℕ)) → text ≡ front ++ rest → division_of (lines_of text) ≡ option_map (with_front front) (division_of (lines_of rest))
+goes_on_at : (text front rest line : List ℕ) (new : Option (List ℕ)) → text ≡ front ++ rest → division_of (lines_in_text text) ≡ option_map (with_front front) (division_of (lines_in_text rest))
     → line ≡ take_through 10 rest → new ≡ Some (drop_through 10 rest) → length line ≢ 0 → is_divider line ≡ false → IsUnderWay text (front ++ line) new
 goes_on_at text front [] line new whole so_far line_is left some isnt = absurd (some (ap length line_is))
 goes_on_at text front (c ∷ rest) line new whole so_far line_is left some isnt =
@@ -233,7 +233,7 @@ goes_on_at text front (c ∷ rest) line new whole so_far line_is left some isnt 
       rest = more;
       known = left;
       whole = next.whole ∙ sym (append_assoc front line more);
-      so_far = next.so_far ∙ ap (λ found. option_map (with_front front) found) (goes_on line (lines_of more) isnt) ∙ fronts front line (division_of (lines_of more));
+      so_far = next.so_far ∙ ap (λ found. option_map (with_front front) found) (goes_on line (lines_in_text more) isnt) ∙ fronts front line (division_of (lines_in_text more));
     }
 
 -- a line that divides nothing

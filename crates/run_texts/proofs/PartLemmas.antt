@@ -7,7 +7,7 @@ use Rattle.std.proofs.Math.Seq.{take-add}
 use Rattle.std.proofs.lemmas.List.{drop-drop, drop_all, take_all, take_rest}
 use Rattle.std.proofs.lemmas.List.Quantifiers.{position-Some}
 use Rattle.std.proofs.lemmas.List.Sums.{fails_before_first}
-use Rattle.run_texts.specs.Parts.{after_line, is_divider, lines_of, parts_of, texts_in}
+use Rattle.run_texts.specs.Parts.{after_line, is_divider, lines_in_text, parts_of, texts_in}
 
 abbrev is_lf : ℕ → Bool
 is_lf byte = byte == 10
@@ -15,21 +15,21 @@ is_lf byte = byte == 10
 -- ---- the first line
 
 line_at : (text : List ℕ) (i : ℕ) → i < length text → is_lf (get_or text i 0) ≡ true → ((k : ℕ) → k < i → is_lf (get_or text k 0) ≡ false)
-    → lines_of text ≡ take (suc i) text ∷ lines_of (drop (suc i) text)
-unfolding lines_of
+    → lines_in_text text ≡ take (suc i) text ∷ lines_in_text (drop (suc i) text)
+unfolding lines_in_text
 line_at [] i within lf before = absurd (omega (arith, within))
 line_at (c ∷ text) zero within lf before = rw lf refl
 line_at (c ∷ text) (suc i) within lf before =
     rw (before 0 (omega arith), line_at text i (omega (arith, within)) lf (λ k below. before (suc k) (omega (arith, below)))) refl
 
-only_line : (text : List ℕ) → 0 < length text → ((k : ℕ) → k < length text → is_lf (get_or text k 0) ≡ false) → lines_of text ≡ text ∷ []
-unfolding lines_of
+only_line : (text : List ℕ) → 0 < length text → ((k : ℕ) → k < length text → is_lf (get_or text k 0) ≡ false) → lines_in_text text ≡ text ∷ []
+unfolding lines_in_text
 only_line [] some none = absurd (omega (arith, some))
 only_line (c ∷ []) some none = rw (none 0 (omega arith)) refl
 only_line (c ∷ d ∷ text) some none =
     rw (none 0 (omega arith), only_line (d ∷ text) (omega arith) (λ k below. none (suc k) (omega (arith, below)))) refl
 
-pub ended_line : (text : List ℕ) (i : ℕ) → Some i ≡ position is_lf text → lines_of text ≡ take (i + 1) text ∷ lines_of (drop (i + 1) text)
+pub ended_line : (text : List ℕ) (i : ℕ) → Some i ≡ position is_lf text → lines_in_text text ≡ take (i + 1) text ∷ lines_in_text (drop (i + 1) text)
 ended_line text i is =
     let found = position-Some is_lf text i 0 (sym is) in
     rw add-one (line_at text i found.0 found.1 found.2)
@@ -38,8 +38,8 @@ not_within : (b : Bool) (place n : ℕ) → nat_lt place n ≡ b → None ≡ co
 not_within true place n test is = cc
 not_within false place n test is = grind (arith, nat_tests)
 
-pub last_line : (text : List ℕ) → 0 < length text → None ≡ position is_lf text → lines_of text ≡ take (length text) text ∷ lines_of (drop (length text) text)
-unfolding lines_of
+pub last_line : (text : List ℕ) → 0 < length text → None ≡ position is_lf text → lines_in_text text ≡ take (length text) text ∷ lines_in_text (drop (length text) text)
+unfolding lines_in_text
 last_line text some is =
     let past = not_within _ (position_or_len is_lf text) (length text) refl is in
     let none : (k : ℕ) → k < length text → is_lf (get_or text k 0) ≡ false = λ k below. fails_before_first is_lf text k 0 (omega (arith, past, below)) in
@@ -83,11 +83,11 @@ continues line lines is = rw is refl
 
 -- the line at a place, as the loop meets it
 record IsNextLine (text : List ℕ) (start n : ℕ) : Type 0 where
-  line : lines_of (drop start text) ≡ take n (drop start text) ∷ lines_of (drop (start + n) text)
+  line : lines_in_text (drop start text) ≡ take n (drop start text) ∷ lines_in_text (drop (start + n) text)
   same : take (start + n - start) (drop start text) ≡ take n (drop start text)
 
 next_line : (text : List ℕ) (start n : ℕ)
-    → lines_of (take (length text - start) (drop start text)) ≡ take n (take (length text - start) (drop start text)) ∷ lines_of (drop n (take (length text - start) (drop start text)))
+    → lines_in_text (take (length text - start) (drop start text)) ≡ take n (take (length text - start) (drop start text)) ∷ lines_in_text (drop n (take (length text - start) (drop start text)))
     → IsNextLine text start n
 next_line text start n line = record {
   line = rw (take_rest text start, drop-drop n start text) at line;
@@ -95,32 +95,32 @@ next_line text start n line = record {
 }
 
 pub divided_here : (text : List ℕ) (start n : ℕ)
-    → lines_of (take (length text - start) (drop start text)) ≡ take n (take (length text - start) (drop start text)) ∷ lines_of (drop n (take (length text - start) (drop start text)))
-    → parts_of (lines_of text) ≡ after_line (take start text) (parts_of (lines_of (drop start text)))
+    → lines_in_text (take (length text - start) (drop start text)) ≡ take n (take (length text - start) (drop start text)) ∷ lines_in_text (drop n (take (length text - start) (drop start text)))
+    → parts_of (lines_in_text text) ≡ after_line (take start text) (parts_of (lines_in_text (drop start text)))
     → is_divider (take (start + n - start) (drop start text)) ≡ true
-    → parts_of (lines_of text) ≡ take start text ∷ parts_of (lines_of (take (length text - (start + n)) (drop (start + n) text)))
+    → parts_of (lines_in_text text) ≡ take start text ∷ parts_of (lines_in_text (take (length text - (start + n)) (drop (start + n) text)))
 divided_here text start n line so_far is =
     let next = next_line text start n line in
-    so_far ∙ rw (next.line, divides (take n (drop start text)) (lines_of (drop (start + n) text)) (rw next.same at is), append-nil (take start text), take_rest text (start + n)) refl
+    so_far ∙ rw (next.line, divides (take n (drop start text)) (lines_in_text (drop (start + n) text)) (rw next.same at is), append-nil (take start text), take_rest text (start + n)) refl
 
 pub goes_on : (text : List ℕ) (start n : ℕ)
-    → lines_of (take (length text - start) (drop start text)) ≡ take n (take (length text - start) (drop start text)) ∷ lines_of (drop n (take (length text - start) (drop start text)))
-    → parts_of (lines_of text) ≡ after_line (take start text) (parts_of (lines_of (drop start text)))
+    → lines_in_text (take (length text - start) (drop start text)) ≡ take n (take (length text - start) (drop start text)) ∷ lines_in_text (drop n (take (length text - start) (drop start text)))
+    → parts_of (lines_in_text text) ≡ after_line (take start text) (parts_of (lines_in_text (drop start text)))
     → is_divider (take (start + n - start) (drop start text)) ≡ false
-    → parts_of (lines_of text) ≡ after_line (take (start + n) text) (parts_of (lines_of (drop (start + n) text)))
+    → parts_of (lines_in_text text) ≡ after_line (take (start + n) text) (parts_of (lines_in_text (drop (start + n) text)))
 goes_on text start n line so_far is =
     let next = next_line text start n line in
-    so_far ∙ rw (next.line, continues (take n (drop start text)) (lines_of (drop (start + n) text)) (rw next.same at is), take-add start n text)
-    (more_before (take start text) (take n (drop start text)) _ (begun (lines_of (drop (start + n) text))))
+    so_far ∙ rw (next.line, continues (take n (drop start text)) (lines_in_text (drop (start + n) text)) (rw next.same at is), take-add start n text)
+    (more_before (take start text) (take n (drop start text)) _ (begun (lines_in_text (drop (start + n) text))))
 
-pub not_divided : (text : List ℕ) (start : ℕ) → length text ≤ start → parts_of (lines_of text) ≡ after_line (take start text) (parts_of (lines_of (drop start text)))
-    → parts_of (lines_of text) ≡ text ∷ []
-unfolding lines_of parts_of
+pub not_divided : (text : List ℕ) (start : ℕ) → length text ≤ start → parts_of (lines_in_text text) ≡ after_line (take start text) (parts_of (lines_in_text (drop start text)))
+    → parts_of (lines_in_text text) ≡ text ∷ []
+unfolding lines_in_text parts_of
 not_divided text start past so_far = so_far ∙ rw (drop_all start text past, take_all start text past, append-nil text) refl
 
 -- more than three parts
-pub too_many : (text tariff setup script : List ℕ) (rest more last : List (List ℕ)) → parts_of (lines_of text) ≡ tariff ∷ rest → rest ≡ setup ∷ more → more ≡ script ∷ parts_of last
-    → None ≡ texts_in (parts_of (lines_of text))
+pub too_many : (text tariff setup script : List ℕ) (rest more last : List (List ℕ)) → parts_of (lines_in_text text) ≡ tariff ∷ rest → rest ≡ setup ∷ more → more ≡ script ∷ parts_of last
+    → None ≡ texts_in (parts_of (lines_in_text text))
 too_many text tariff setup script rest more last one two three =
     let some = begun last in
     rw (one, two, three, some.is) refl

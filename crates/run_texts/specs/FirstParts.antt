@@ -3,7 +3,7 @@ use Rattle.std.specs.Prelude.{◌≡◌, ◌+◌, ◌<◌, ℕ, List, [], ◌∷
 use Rattle.std.specs.Io.BufRead.{drop_through, take_through}
 use Rattle.std.specs.Io.KnownBytes.{Consumes, IsAtEnd, Keeps}
 use Rattle.run_texts.specs.InputFaults.{RefusesInput}
-use Rattle.run_texts.specs.Parts.{is_divider, lines_of}
+use Rattle.run_texts.specs.Parts.{is_divider, lines_in_text}
 use Rattle.run_texts.specs.declared.input_fault.InputFault.{InputFault}
 use Rattle.run_texts.specs.declared.input_fault.InputFault.TheVariants as fault
 use Rattle.run_texts.specs.declared.part.TheConstants.{MAX_PART}
@@ -38,7 +38,7 @@ first_part_by text (Some division) = if nat_lt MAX_PART (length division.part + 
 
 -- the first part of a text
 abbrev pub first_part : List ℕ → Result FirstPart InputFault
-first_part text = first_part_by text (division_of (lines_of text))
+first_part text = first_part_by text (division_of (lines_in_text text))
 
 -- the part was read of a text, and what is behind its divider is left
 abbrev pub Divides : List ℕ → Option (List ℕ) → Result (List ℕ) InputFault → Type 0

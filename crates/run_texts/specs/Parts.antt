@@ -8,9 +8,9 @@ with_first_byte c [] = (c ∷ []) ∷ []
 with_first_byte c (line ∷ lines) = (c ∷ line) ∷ lines
 
 -- the lines of a text, each with the LF that ends it; only the last may have none
-unfoldable pub lines_of : List ℕ → List (List ℕ)
-lines_of [] = []
-lines_of (c ∷ text) = if c == 10 then (c ∷ []) ∷ lines_of text else with_first_byte c (lines_of text)
+unfoldable pub lines_in_text : List ℕ → List (List ℕ)
+lines_in_text [] = []
+lines_in_text (c ∷ text) = if c == 10 then (c ∷ []) ∷ lines_in_text text else with_first_byte c (lines_in_text text)
 
 -- whether a line divides two parts: `%%` alone, ended by LF, CR LF or the end of the text
 abbrev pub is_divider : List ℕ → Bool
@@ -39,4 +39,4 @@ texts_in parts = None
 
 -- the texts that an input has
 abbrev pub texts_of : List ℕ → Option Texts
-texts_of input = texts_in (parts_of (lines_of input))
+texts_of input = texts_in (parts_of (lines_in_text input))

@@ -109,8 +109,8 @@ abbrev pub judged_row : List (ℕ × OpeningCredit) → List ScriptEvent → Scr
 judged_row accounts earlier event = if nat_lt event.at (last_row_moment earlier) then Err kind.Order else judged_by accounts earlier event event.what
 
 -- what a row says, after the earlier rows
-unfoldable pub row_at : List (ℕ × OpeningCredit) → List ScriptEvent → List (List ℕ) → Result ScriptEvent RowKind
-row_at accounts earlier fields = and_then (read_in fields) (judged_row accounts earlier)
+unfoldable pub script_row_at : List (ℕ × OpeningCredit) → List ScriptEvent → List (List ℕ) → Result ScriptEvent RowKind
+script_row_at accounts earlier fields = and_then (read_in fields) (judged_row accounts earlier)
 
 -- the headers of a script, the older one first
 abbrev pub script_headers : List Fields
@@ -122,7 +122,7 @@ script_headers =
 abbrev pub script_form : List (ℕ × OpeningCredit) → TableForm (List ScriptEvent) RowKind RowFault
 script_form accounts =
     table_form script_headers 1000000 []
-    (λ header earlier fields. and_then (row_at accounts earlier fields) (λ event. Ok (event ∷ earlier)))
+    (λ header earlier fields. and_then (script_row_at accounts earlier fields) (λ event. Ok (event ∷ earlier)))
 
 -- what a script says, where these are the accounts of the setup
 abbrev pub script_of : List (ℕ × OpeningCredit) → List (List (List ℕ)) → Result (List ScriptEvent) RowFault

@@ -74,8 +74,8 @@ subscriber_row earlier fields =
     if is_blank fields 3 then name_subscriber earlier digits account else Err kind.Empty))
 
 -- what was named before a row, and what the row names
-unfoldable pub row_at : TableSetup → List (List ℕ) → Result TableSetup RowKind
-row_at earlier fields =
+unfoldable pub setup_row_at : TableSetup → List (List ℕ) → Result TableSetup RowKind
+setup_row_at earlier fields =
     if has_word fields 0 (codes "account") then account_row earlier fields else
     if has_word fields 0 (codes "subscriber") then subscriber_row earlier fields else Err kind.What
 
@@ -88,7 +88,7 @@ setup_headers =
 abbrev pub setup_form : TableForm TableSetup RowKind RowFault
 setup_form =
     table_form setup_headers 10000 (record { accounts = []; subscribers = [] })
-    (λ header earlier fields. row_at earlier fields)
+    (λ header earlier fields. setup_row_at earlier fields)
 
 -- the setup of a table
 abbrev pub table_setup_of : List (List (List ℕ)) → Result TableSetup RowFault

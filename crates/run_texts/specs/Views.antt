@@ -1,6 +1,6 @@
 -- What the values of the code say.
 use Rattle.std.specs.Prelude.{◌&&◌, ℕ, Bool, true, List, [], ◌∷◌, map, nat_le}
-use Rattle.cap_values.specs.NumberDigits.{digits_of}
+use Rattle.cap_values.specs.NumberDigits.{digits_of_number}
 use Rattle.cap_values.specs.declared.number.Number.{Number}
 use Rattle.run_texts.specs.Happenings.{ScriptEvent, Happens, Meets, Recharges, Starts}
 use Rattle.run_texts.specs.Parts.{Texts}
@@ -17,7 +17,7 @@ texts_of_parts parts = record { tariff = parts.tariff.now; setup = parts.setup.n
 
 -- the digits of the subscribers, each with its account
 abbrev pub with_digits : List (Number × ℕ) → List (List ℕ × ℕ)
-with_digits subscribers = map (λ subscriber. (digits_of subscriber.0, subscriber.1)) subscribers
+with_digits subscribers = map (λ subscriber. (digits_of_number subscriber.0, subscriber.1)) subscribers
 
 -- what a directory says of a setup
 abbrev pub setup_in : Listing → TableSetup
@@ -25,7 +25,7 @@ setup_in listing = record { accounts = listing.accounts; subscribers = with_digi
 
 -- what happens, as plain data
 abbrev pub happens_of : Happening → Happens
-happens_of (happening.Start call calling called) = Starts call (digits_of calling) (digits_of called)
+happens_of (happening.Start call calling called) = Starts call (digits_of_number calling) (digits_of_number called)
 happens_of (happening.Meets call event) = Meets call event
 happens_of (happening.Recharge account amount until) = Recharges account amount until
 

@@ -2,7 +2,7 @@
 
 ghost use Rattle.std.specs.Prelude.{◌≡◌, ◌<◌, ◌≤◌, length, true, IfOk};
 ghost use Rattle.std.specs.Result.{result_map_both};
-ghost use Rattle.cap_values.specs.NumberDigits.{digits_of};
+ghost use Rattle.cap_values.specs.NumberDigits.{digits_of_number};
 ghost use Rattle.csv.specs.Records.{fields_of};
 ghost use Rattle.run_texts.specs.Setups.{account_in, amount_in, party_in, until_in};
 ghost use Rattle.table_core.specs.Fields.{is_blank};
@@ -55,7 +55,7 @@ pub(crate) fn is_left_out(row: &ByteRecord, place: usize) -> bool
 /// The number of a party.
 pub fn party(row: &ByteRecord, place: usize) -> Result<Number, RowKind>
     requires { place < length (fields_of row.now) }
-    ensures { result_map_both digits_of (λ kind. kind) result ≡ party_in (fields_of row.now) place }
+    ensures { result_map_both digits_of_number (λ kind. kind) result ≡ party_in (fields_of row.now) place }
 {
     let Ok(text) = str::from_utf8(field(row, place)) else {
         return Err(RowKind::Number);

@@ -9,7 +9,7 @@ ghost use Rattle.run_texts.specs.Scripts.{script_of};
 ghost use Rattle.run_texts.specs.Setups.{table_setup_of};
 ghost use Rattle.run_texts.specs.Happenings.{is_in_time};
 ghost use Rattle.run_texts.specs.Views.{rows_are_in_order, happens_of, script_event, setup_in, texts_of_parts};
-ghost use Rattle.run_texts.specs.Parts.{is_divider, lines_of, parts_of, texts_of};
+ghost use Rattle.run_texts.specs.Parts.{is_divider, lines_in_text, parts_of, texts_of};
 ghost use Rattle.table_core.specs.Rows.{rows_of};
 ghost use Rattle.run_values.specs.Setups.{ListingIsWithin};
 ghost use Rattle.run_texts.specs.declared.input_fault.InputFault.TheVariants as out;
@@ -126,8 +126,8 @@ pub fn divide(input: &[u8]) -> Option<Parts<'_>>
 /// What is before the first divider of a text, and what is after it.
 fn split(text: &[u8]) -> Option<(&[u8], &[u8])>
     ensures divided { IfSome result
-        (λ parts. parts_of (lines_of text.now) ≡ parts.0.now ∷ parts_of (lines_of parts.1.now)) }
-    ensures whole { IfNone result (parts_of (lines_of text.now) ≡ text.now ∷ []) }
+        (λ parts. parts_of (lines_in_text text.now) ≡ parts.0.now ∷ parts_of (lines_in_text parts.1.now)) }
+    ensures whole { IfNone result (parts_of (lines_in_text text.now) ≡ text.now ∷ []) }
 {
     let mut start = 0;
     while start < text.len() {
@@ -143,7 +143,7 @@ fn split(text: &[u8]) -> Option<(&[u8], &[u8])>
 /// The length of the first line of a text, with the LF that ends it.
 fn line_length(text: &[u8]) -> usize
     requires { 0 < length text.now }
-    ensures line { lines_of text.now ≡ take result text.now ∷ lines_of (drop result text.now) }
+    ensures line { lines_in_text text.now ≡ take result text.now ∷ lines_in_text (drop result text.now) }
     ensures some { 0 < result }
     ensures within { result ≤ length text.now }
 {

@@ -2,7 +2,7 @@
 
 ghost use Rattle.std.specs.Prelude.{◌≡◌, ◌≤◌, All, IfOk, IfSome, OnOk, length, map, true};
 ghost use Rattle.std.specs.Result.{result_map_both};
-ghost use Rattle.run_texts.specs.Scripts.{judged_by, last_row_moment, row_at, script_of, call_in, disconnect_in, event_row_in, happens_in, leg_of, read_in, recharge_row_in, start_row_in, row_when_blank, row_word_in};
+ghost use Rattle.run_texts.specs.Scripts.{judged_by, last_row_moment, script_row_at, script_of, call_in, disconnect_in, event_row_in, happens_in, leg_of, read_in, recharge_row_in, start_row_in, row_when_blank, row_word_in};
 ghost use Rattle.run_texts.specs.Starts.{HasCalls, NotesStart};
 ghost use Rattle.run_texts.specs.Happenings.{is_in_time};
 ghost use Rattle.run_texts.specs.Views.{rows_are_in_order, script_event, happens_of};
@@ -82,7 +82,7 @@ fn judge(
     requires { 5 ≤ length (fields_of row.now) }
     ensures says { (earlier : _) → HasCalls calls.now earlier → last ≡ last_row_moment earlier
         → result_map_both script_event (λ kind. kind) result
-        ≡ row_at directory.now.accounts earlier (fields_of row.now) }
+        ≡ script_row_at directory.now.accounts earlier (fields_of row.now) }
     ensures in_range { IfOk result (λ row. row.at ≤ MAX_MOMENT) }
     ensures in_time { IfOk result (λ row. is_in_time (happens_of row.what) ≡ true) }
     ensures in_order { IfOk result (λ row. last ≤ row.at) }

@@ -2,7 +2,7 @@
 
 ghost use Rattle.std.specs.Prelude.{◌≡◌, ◌≤◌, ◌+◌, IfOk, IfSome, OnOk, length};
 ghost use Rattle.run_texts.specs.Entries.{Enters, entry_fault_of};
-ghost use Rattle.run_texts.specs.Setups.{account_row, row_at, table_setup_of, subscriber_row};
+ghost use Rattle.run_texts.specs.Setups.{account_row, setup_row_at, table_setup_of, subscriber_row};
 ghost use Rattle.run_texts.specs.Views.{setup_in};
 ghost use Rattle.csv.specs.Records.{fields_of};
 ghost use Rattle.table_core.specs.Faults.{GivesTable};
@@ -58,7 +58,7 @@ fn enter(directory: &mut Directory, row: &ByteRecord) -> Result<(), EntryFault>
     requires fields { 3 ≤ length (fields_of row.now) }
     requires few { length directory.old.accounts ≤ 1000 }
     ensures means { Enters result (setup_in directory.new)
-        (row_at (setup_in directory.old) (fields_of row.now)) }
+        (setup_row_at (setup_in directory.old) (fields_of row.now)) }
     ensures few { OnOk result (length directory.new.accounts ≤ 1000) }
     ensures count { OnOk result (length directory.new.accounts + length directory.new.subscribers
         ≡ length directory.old.accounts + length directory.old.subscribers + 1) }

@@ -4,7 +4,7 @@ use Rattle.std.specs.Fmt.{decimal}
 use Rattle.account_core.specs.Faults.{account_fault_name}
 use Rattle.account_core.specs.declared.fault.AccountFault.{AccountFault}
 use Rattle.cap_values.specs.Codes.{leg_code}
-use Rattle.cap_values.specs.NumberDigits.{digits_of}
+use Rattle.cap_values.specs.NumberDigits.{digits_of_number}
 use Rattle.cap_values.specs.declared.event.Event.{Event}
 use Rattle.cap_values.specs.declared.event.Event.TheVariants as event
 use Rattle.cap_values.specs.declared.leg.Leg.{Leg}
@@ -74,7 +74,7 @@ report_said active (info.Switch since interval) =
 
 -- what the gsmSSF of a call says
 abbrev pub message_said : SsfMsg → Said
-message_said (message.InitialDp call calling called) = record (alone (codes "InitialDP")) { x1 = digits_of calling; x2 = digits_of called }
+message_said (message.InitialDp call calling called) = record (alone (codes "InitialDP")) { x1 = digits_of_number calling; x2 = digits_of_number called }
 message_said (message.EventReport event leg mode) =
     record (alone (codes "EventReportBCSM")) { x1 = event_word event; x2 = number_or_empty (leg_number leg); x3 = mode_word mode }
 message_said (message.ChargingReport active info) = report_said active info

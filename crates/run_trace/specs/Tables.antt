@@ -51,9 +51,9 @@ post_rows clock number post answer =
     trace_row (head_of clock number post) (sender_of post.1) (post_said clock post.1) ++ answer_rows (head_of clock number post) answer
 
 -- the rows of posts whose numbers go on from this one, where the answer to each is at the place of its number
-abbrev pub rows_from : Clock → List Answer → ℕ → List (ℕ × Body) → List ℕ
-rows_from clock answers number [] = []
-rows_from clock answers number (post ∷ posts) = post_rows clock number post (slice_get answers number) ++ rows_from clock answers (number + 1) posts
+abbrev pub trace_rows_from : Clock → List Answer → ℕ → List (ℕ × Body) → List ℕ
+trace_rows_from clock answers number [] = []
+trace_rows_from clock answers number (post ∷ posts) = post_rows clock number post (slice_get answers number) ++ trace_rows_from clock answers (number + 1) posts
 
 -- the header of the table
 abbrev pub trace_header : List ℕ
@@ -61,4 +61,4 @@ trace_header = codes "moment,number,call,from,what,x1,x2,x3,x4\n"
 
 -- the table of a trace: a header, and the rows of each post, in order
 abbrev pub trace_text : Clock → List (ℕ × Body) → List Answer → List ℕ
-trace_text clock given answers = trace_header ++ rows_from clock answers 0 given
+trace_text clock given answers = trace_header ++ trace_rows_from clock answers 0 given

@@ -7,34 +7,34 @@ use Rattle.std.specs.Map.{lookup}
 use Rattle.std.specs.Option.{option_or}
 use Rattle.std.specs.Prelude.{Result, Ok, Err, IfErr}
 use Rattle.std.specs.Result.{IsErrAnd}
-use Rattle.run_values.specs.Setups.{first_fault}
+use Rattle.run_values.specs.Setups.{first_listing_fault}
 use Rattle.run_values.specs.declared.setup_fault.SetupFault.{SetupFault}
 
 -- ---- one item after another
 
 module _ {X : Type 0} (judge : List X → X → Option SetupFault) where
-  first_fault-cons : (earlier : List X) (item : X) (items : List X)
-      → first_fault judge earlier (item ∷ items) ≡ option_or (judge earlier item) (first_fault judge (earlier ++ item ∷ []) items)
-  unfolding first_fault
-  first_fault-cons earlier item items = refl
+  first_listing_fault-cons : (earlier : List X) (item : X) (items : List X)
+      → first_listing_fault judge earlier (item ∷ items) ≡ option_or (judge earlier item) (first_listing_fault judge (earlier ++ item ∷ []) items)
+  unfolding first_listing_fault
+  first_listing_fault-cons earlier item items = refl
 
-  first_fault-nil : (earlier : List X) → first_fault judge earlier [] ≡ None
-  unfolding first_fault
-  first_fault-nil earlier = refl
+  first_listing_fault-nil : (earlier : List X) → first_listing_fault judge earlier [] ≡ None
+  unfolding first_listing_fault
+  first_listing_fault-nil earlier = refl
 
   -- an item without a fault is passed
   pub passes : (xs : List X) (i : ℕ) (d : X) → i < length xs → judge (take i xs) (get_or xs i d) ≡ None
-      → first_fault judge (take i xs) (drop i xs) ≡ first_fault judge (take (i + 1) xs) (drop (i + 1) xs)
-  passes xs i d within fine = rw (drop_more xs i d within, take_more xs i d within, first_fault-cons (take i xs) (get_or xs i d) (drop (i + 1) xs), fine) refl
+      → first_listing_fault judge (take i xs) (drop i xs) ≡ first_listing_fault judge (take (i + 1) xs) (drop (i + 1) xs)
+  passes xs i d within fine = rw (drop_more xs i d within, take_more xs i d within, first_listing_fault-cons (take i xs) (get_or xs i d) (drop (i + 1) xs), fine) refl
 
   -- an item with one ends the list
   pub stops : (xs : List X) (i : ℕ) (d : X) (why : SetupFault) → i < length xs → judge (take i xs) (get_or xs i d) ≡ Some why
-      → first_fault judge (take i xs) (drop i xs) ≡ Some why
-  stops xs i d why within wrong = rw (drop_more xs i d within, first_fault-cons (take i xs) (get_or xs i d) (drop (i + 1) xs), wrong) refl
+      → first_listing_fault judge (take i xs) (drop i xs) ≡ Some why
+  stops xs i d why within wrong = rw (drop_more xs i d within, first_listing_fault-cons (take i xs) (get_or xs i d) (drop (i + 1) xs), wrong) refl
 
   -- past the last there is none
-  pub ends : (xs : List X) (i : ℕ) → length xs ≤ i → first_fault judge (take i xs) (drop i xs) ≡ None
-  ends xs i past = rw (drop_all i xs past) (first_fault-nil (take i xs))
+  pub ends : (xs : List X) (i : ℕ) → length xs ≤ i → first_listing_fault judge (take i xs) (drop i xs) ≡ None
+  ends xs i past = rw (drop_all i xs past) (first_listing_fault-nil (take i xs))
 
 -- ---- look-ups
 

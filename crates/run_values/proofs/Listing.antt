@@ -13,11 +13,11 @@ use Rattle.std.proofs.lemmas.Bool.Decides.{nat_tests}
 use Rattle.std.proofs.lemmas.List.{length-map, take_all, take_more}
 use Rattle.std.proofs.lemmas.Map.Text.{is_eq-slice_cmp}
 use Rattle.std.proofs.lemmas.Slice.Eq.{bytes_eq-Decides}
-use Rattle.cap_values.specs.NumberDigits.{by_digits, digits_of}
+use Rattle.cap_values.specs.NumberDigits.{by_digits, digits_of_number}
 use Rattle.cap_values.specs.declared.number.Number.{Number}
 use Rattle.run_values.proofs.Judging.{ends, lookup-alike, lookup-append, one_more, passes, stops}
 use Rattle.run_values.specs.Openings.{opening_is_in_range}
-use Rattle.run_values.specs.Setups.{account_fault, account_of, first_fault, has_account, opening_of, subscriber_fault}
+use Rattle.run_values.specs.Setups.{account_fault, account_of, first_listing_fault, has_account, opening_of, subscriber_fault}
 use Rattle.run_values.specs.declared.directory.OpeningCredit.{OpeningCredit}
 use Rattle.run_values.specs.declared.setup_fault.SetupFault.{SetupFault}
 use Rattle.run_values.specs.declared.setup_fault.SetupFault.TheVariants as fault
@@ -68,13 +68,13 @@ module _ {K V : Type 0} (kind : Items K V) where
 
   -- the items up to a place have no fault, and they are listed
   pub record AreListed (items : List (K × V)) (i : ℕ) (listed : List (K × V)) : Type 0 where
-    pub so_far : first_fault judged [] items ≡ first_fault judged (take i items) (drop i items)
+    pub so_far : first_listing_fault judged [] items ≡ first_listing_fault judged (take i items) (drop i items)
     pub finds : (q : K) → found q listed ≡ found q (take i items)
     pub count : length listed ≡ i
 
   -- no item has a fault, and all are listed
   pub record AreAllListed (items listed : List (K × V)) : Type 0 where
-    pub fine : first_fault judged [] items ≡ None
+    pub fine : first_listing_fault judged [] items ≡ None
     pub finds : (q : K) → found q listed ≡ found q items
     pub count : length listed ≡ length items
 
@@ -103,7 +103,7 @@ module _ {K V : Type 0} (kind : Items K V) where
       }
 
   pub refused : (items : List (K × V)) (i : ℕ) (d : K × V) (listed : List (K × V)) (why : SetupFault) → i < length items → AreListed items i listed
-      → judged listed (get_or items i d) ≡ Some why → first_fault judged [] items ≡ Some why
+      → judged listed (get_or items i d) ≡ Some why → first_listing_fault judged [] items ≡ Some why
   refused items i d listed why within are wrong = are.so_far ∙ stops judged items i d why within (judged_alike listed (take i items) (get_or items i d) are.finds ∙ wrong)
 
   pub all_listed : (items : List (K × V)) (i : ℕ) (listed : List (K × V)) → length items ≤ i → i ≤ length items → AreListed items i listed → AreAllListed items listed
@@ -147,14 +147,14 @@ values_entries P entries all k d below =
 
 -- ---- subscribers
 
-pub same_digits : (k other : Number) → is_at (by_digits k) other ≡ bytes_eq (digits_of other) (digits_of k)
+pub same_digits : (k other : Number) → is_at (by_digits k) other ≡ bytes_eq (digits_of_number other) (digits_of_number k)
 same_digits k other =
-    let one = bytes_eq-Decides (digits_of k) (digits_of other) in
-    let flipped = bytes_eq-Decides (digits_of other) (digits_of k) in
-    is_eq-slice_cmp (digits_of k) (digits_of other) ∙ one_answer _ _ one (λ is. sym (flipped.0 is), λ same. flipped.1 (sym same))
+    let one = bytes_eq-Decides (digits_of_number k) (digits_of_number other) in
+    let flipped = bytes_eq-Decides (digits_of_number other) (digits_of_number k) in
+    is_eq-slice_cmp (digits_of_number k) (digits_of_number other) ∙ one_answer _ _ one (λ is. sym (flipped.0 is), λ same. flipped.1 (sym same))
 
-pub digits_alike : (k q : Number) → bytes_eq (digits_of k) (digits_of q) ≡ true → (es : List (Number × ℕ)) → account_of k es ≡ account_of q es
-digits_alike k q is es = ap (λ digits. lookup (λ other. bytes_eq (digits_of other) digits) es) ((bytes_eq-Decides _ _).0 is)
+pub digits_alike : (k q : Number) → bytes_eq (digits_of_number k) (digits_of_number q) ≡ true → (es : List (Number × ℕ)) → account_of k es ≡ account_of q es
+digits_alike k q is es = ap (λ digits. lookup (λ other. bytes_eq (digits_of_number other) digits) es) ((bytes_eq-Decides _ _).0 is)
 
 pub new_subscriber : (named known : Bool) → subscriber_fault named known ≡ None → named ≡ false
 new_subscriber true known fine = cc
@@ -164,7 +164,7 @@ new_subscriber false known fine = refl
 abbrev pub subscriber_items : List (ℕ × OpeningCredit) → Items Number ℕ
 subscriber_items accounts = record {
   order = by_digits;
-  same = λ other number. bytes_eq (digits_of other) (digits_of number);
+  same = λ other number. bytes_eq (digits_of_number other) (digits_of_number number);
   agrees = same_digits;
   alike = digits_alike;
   judge = λ named subscriber. subscriber_fault named (has_account subscriber.1 accounts);
@@ -173,4 +173,4 @@ subscriber_items accounts = record {
 
 -- what a map of the subscribers finds
 pub account_of-entries : (subscribers : List (Number × ℕ)) (number : Number) → account_of number subscribers ≡ lookup (is_at (by_digits number)) subscribers
-account_of-entries subscribers number = sym (lookup-alike (is_at (by_digits number)) (λ other. bytes_eq (digits_of other) (digits_of number)) (same_digits number) subscribers)
+account_of-entries subscribers number = sym (lookup-alike (is_at (by_digits number)) (λ other. bytes_eq (digits_of_number other) (digits_of_number number)) (same_digits number) subscribers)

@@ -6,7 +6,7 @@ use Rattle.std.specs.Map.{keys_of, lookup}
 use Rattle.std.specs.Option.{option_or}
 use Rattle.std.specs.Ordering.{nat_cmp}
 use Rattle.std.specs.Str.{bytes_eq}
-use Rattle.cap_values.specs.NumberDigits.{by_digits, digits_of}
+use Rattle.cap_values.specs.NumberDigits.{by_digits, digits_of_number}
 use Rattle.cap_values.specs.declared.number.Number.{Number}
 use Rattle.dialogue_core.specs.declared.config.ServiceConfig.{ServiceConfig}
 use Rattle.tariff_core.specs.Bands.{Band}
@@ -23,16 +23,16 @@ opening_of account = lookup (λ other. other == account)
 
 -- the account of a subscriber, in a list of subscribers with theirs
 abbrev pub account_of : Number → List (Number × ℕ) → Option ℕ
-account_of number = lookup (λ other. bytes_eq (digits_of other) (digits_of number))
+account_of number = lookup (λ other. bytes_eq (digits_of_number other) (digits_of_number number))
 
 -- whether an account is in such a list
 abbrev pub has_account : ℕ → List (ℕ × OpeningCredit) → Bool
 has_account account accounts = is_some (opening_of account accounts)
 
 -- the first fault of the items of a list, each judged after the earlier ones
-unfoldable pub first_fault : {X : Type 0} → (List X → X → Option SetupFault) → List X → List X → Option SetupFault
-first_fault judge earlier [] = None
-first_fault judge earlier (item ∷ items) = option_or (judge earlier item) (first_fault judge (earlier ++ item ∷ []) items)
+unfoldable pub first_listing_fault : {X : Type 0} → (List X → X → Option SetupFault) → List X → List X → Option SetupFault
+first_listing_fault judge earlier [] = None
+first_listing_fault judge earlier (item ∷ items) = option_or (judge earlier item) (first_listing_fault judge (earlier ++ item ∷ []) items)
 
 -- the limit is `MIN_LIMIT` to `MAX_LIMIT`, and there are at most `MAX_ACCOUNTS` accounts and `MAX_SUBSCRIBERS` subscribers
 abbrev pub counts_fault : ℕ → ℕ → ℕ → Option SetupFault
@@ -49,7 +49,7 @@ judge_account earlier account = account_fault (has_account account.0 earlier) ac
 
 -- the first fault of the accounts
 abbrev pub accounts_fault : List (ℕ × OpeningCredit) → Option SetupFault
-accounts_fault = first_fault judge_account []
+accounts_fault = first_listing_fault judge_account []
 
 -- a subscriber has a number that isn't named before, and an account that there is
 abbrev pub subscriber_fault : Bool → Bool → Option SetupFault
@@ -61,7 +61,7 @@ judge_subscriber accounts earlier subscriber = subscriber_fault (is_some (accoun
 
 -- the first fault of the subscribers
 abbrev pub subscribers_fault : List (ℕ × OpeningCredit) → List (Number × ℕ) → Option SetupFault
-subscribers_fault accounts = first_fault (judge_subscriber accounts) []
+subscribers_fault accounts = first_listing_fault (judge_subscriber accounts) []
 
 -- what is wrong with accounts and subscribers: first with the accounts, then with the subscribers
 abbrev pub items_fault : List (ℕ × OpeningCredit) → List (Number × ℕ) → Option SetupFault

@@ -7,7 +7,7 @@ use Rattle.std.proofs.lemmas.List.Elements.{All-head, All-tail, Contains-append_
 use Rattle.account_core.specs.Asked.{Asked}
 use Rattle.account_core.specs.Events.{EntryData}
 use Rattle.account_core.specs.declared.fault.AccountFault.{AccountFault}
-use Rattle.cap_values.specs.NumberDigits.{digits_of}
+use Rattle.cap_values.specs.NumberDigits.{digits_of_number}
 use Rattle.cap_values.specs.declared.message.SsfMsg.{SsfMsg}
 use Rattle.cap_values.specs.declared.message.SsfMsg.TheVariants as msg
 use Rattle.cap_values.specs.declared.number.Number.{Number}
@@ -175,7 +175,7 @@ none_after setup numbers call (post ∷ posts) (refusal ∷ refusals) old new fr
 -- ---- a call begins
 
 reserved_by : (setup : Setup) (numbers : List ℕ) (call place at : ℕ) (called : Number) (route : Option Route) (old new : Holding) (t : AnswerView) → place < length old.lists → t.refused ≡ None
-    → (HasNoRoute setup.tariff (digits_of called) → ⊥) → IsRouted setup.tariff (digits_of called) at route
+    → (HasNoRoute setup.tariff (digits_of_number called) → ⊥) → IsRouted setup.tariff (digits_of_number called) at route
     → IsTalked numbers call place (on_begin call at setup.service.wanted setup.service.least route) old new t → IsReserved setup call called at (asked_at new.lists place)
 reserved_by setup numbers call place at called None old new t within none has routed talk = absurd (has routed)
 reserved_by setup numbers call place at called (Some route) old new t within none has routed talk = record {

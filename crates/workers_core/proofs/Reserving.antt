@@ -8,7 +8,7 @@ use Rattle.account_core.specs.Events.{EntryData}
 use Rattle.account_core.specs.declared.entry.Reply.{Reply}
 use Rattle.account_core.specs.declared.entry.Reply.TheVariants.{Granted, Denied, Settled, Forfeit, Returned}
 use Rattle.account_core.specs.declared.fault.AccountFault.{AccountFault}
-use Rattle.cap_values.specs.NumberDigits.{digits_of}
+use Rattle.cap_values.specs.NumberDigits.{digits_of_number}
 use Rattle.cap_values.specs.declared.event.Event.TheVariants as event
 use Rattle.cap_values.specs.declared.message.SsfMsg.{SsfMsg}
 use Rattle.cap_values.specs.declared.message.SsfMsg.TheVariants as msg
@@ -292,7 +292,7 @@ talk_on setup numbers call place first posts post message old new t on is begins
 
 -- the terms on which a call begins
 begins_on : (setup : Setup) (place : ℕ) (posts : List Post) (post : Post) (call other : ℕ) (calling called : Number) (route : Option Route) → post.body ≡ Ssf call (msg.InitialDp other calling called)
-    → home_of calling setup ≡ Some place → IsRouted setup.tariff (digits_of called) post.at route
+    → home_of calling setup ≡ Some place → IsRouted setup.tariff (digits_of_number called) post.at route
     → OfNext (Its setup place (posts ++ post ∷ []) call) post.at (on_begin call post.at setup.service.wanted setup.service.least route)
 begins_on setup place posts post call other calling called None is home routed = (tt, tt)
 begins_on setup place posts post call other calling called (Some route) is home routed =

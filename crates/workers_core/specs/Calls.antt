@@ -1,7 +1,7 @@
 -- The calls that a post comes to: what is asked of its account, in order, and nothing else of any.
 use Rattle.std.specs.Prelude.{◌≡◌, ℕ, false, Option, List, [], ◌∷◌, slice_index_or, slice_set}
 use Rattle.account_core.specs.Asked.{Asked, Credits}
-use Rattle.cap_values.specs.NumberDigits.{digits_of}
+use Rattle.cap_values.specs.NumberDigits.{digits_of_number}
 use Rattle.cap_values.specs.declared.number.Number.{Number}
 use Rattle.dialogue_core.specs.Phases.{Phase, Says}
 use Rattle.dialogue_core.specs.Table.{on_begin}
@@ -40,7 +40,7 @@ pub record IsTalkCalled {T : Type 0} (Calls : Asking T) (first : Says × Phase) 
 -- so it is of a dialogue that begins
 pub record IsBeginningCalled {T : Type 0} (Calls : Asking T) (setup : Setup) (at call : ℕ) (called : Number) (answer : AnswerView) (from to : T) : Type 0 where
   pub route : Option Route
-  pub routed : IsRouted setup.tariff (digits_of called) at route
+  pub routed : IsRouted setup.tariff (digits_of_number called) at route
   pub talk : IsTalkCalled Calls (on_begin call at setup.service.wanted setup.service.least route) answer from to
 
 -- the calls that a post comes to, by the verdict on it

@@ -6,7 +6,7 @@ use Rattle.std.specs.Ordering.{nat_cmp}
 use Rattle.account_core.specs.Asked.{Asked, Credits}
 use Rattle.account_core.specs.Events.{EntryData}
 use Rattle.account_core.specs.declared.fault.AccountFault.{AccountFault}
-use Rattle.cap_values.specs.NumberDigits.{digits_of}
+use Rattle.cap_values.specs.NumberDigits.{digits_of_number}
 use Rattle.cap_values.specs.Orders.{Release}
 use Rattle.cap_values.specs.declared.number.Number.{Number}
 use Rattle.dialogue_core.specs.Phases.{Phase, Says, Asks}
@@ -30,7 +30,7 @@ pub record SaysFirst (setup : Setup) (at : ℕ) (verdict : Verdict) (call place 
   pub called : Number
   pub is : verdict ≡ Begins call place called
   pub route : Option Route
-  pub routed : IsRouted setup.tariff (digits_of called) at route
+  pub routed : IsRouted setup.tariff (digits_of_number called) at route
   pub begins : on_begin call at setup.service.wanted setup.service.least route ≡ first
 
 -- the case of a verdict

@@ -3,7 +3,7 @@ use Rattle.std.specs.Prelude.{◌≡◌, ◌++◌, ◌==◌, ℕ, Bool, true, fa
 use Rattle.account_core.specs.Asked.{Credits}
 use Rattle.account_core.specs.Events.{EntryData}
 use Rattle.account_core.specs.declared.fault.AccountFault.{AccountFault}
-use Rattle.cap_values.specs.NumberDigits.{digits_of}
+use Rattle.cap_values.specs.NumberDigits.{digits_of_number}
 use Rattle.cap_values.specs.Orders.{Order, Release, orders_of}
 use Rattle.cap_values.specs.declared.number.Number.{Number}
 use Rattle.dialogue_core.specs.Phases.{Phase, Says, Asks}
@@ -78,7 +78,7 @@ pub record IsTalked (numbers : List ℕ) (call place : ℕ) (first : Says × Pha
 -- the dialogue of a call begins
 pub record IsBegun (setup : Setup) (numbers : List ℕ) (at call place : ℕ) (called : Number) (old new : Holding) (answer : AnswerView) : Type 0 where
   pub route : Option Route
-  pub routed : IsRouted setup.tariff (digits_of called) at route
+  pub routed : IsRouted setup.tariff (digits_of_number called) at route
   pub talked : IsTalked numbers call place (on_begin call at setup.service.wanted setup.service.least route) old new answer
 
 -- what is done, by the verdict on the post

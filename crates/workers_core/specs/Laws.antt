@@ -4,7 +4,7 @@ use Rattle.std.specs.Map.{keys_of}
 use Rattle.account_core.specs.Asked.{Asked, Credits, Reserves, Returns, Settles}
 use Rattle.account_core.specs.Events.{EntryData}
 use Rattle.account_core.specs.declared.fault.AccountFault.{AccountFault}
-use Rattle.cap_values.specs.NumberDigits.{digits_of}
+use Rattle.cap_values.specs.NumberDigits.{digits_of_number}
 use Rattle.cap_values.specs.declared.message.SsfMsg.{SsfMsg}
 use Rattle.cap_values.specs.declared.event.Event.TheVariants as event
 use Rattle.cap_values.specs.declared.message.SsfMsg.TheVariants.{InitialDp, EventReport, ChargingReport, Ended}
@@ -70,7 +70,7 @@ pub record HasBegun (setup : Setup) (place : ℕ) (posts : List Post) (call : �
   pub is : post.body ≡ Ssf call (InitialDp other calling called)
   pub home : home_of calling setup ≡ Some place
   pub route : Route
-  pub routed : IsRoute setup.tariff (digits_of called) post.at route
+  pub routed : IsRoute setup.tariff (digits_of_number called) post.at route
   pub plan_is : plan ≡ rates_of route.plan
   pub wanted_is : wanted ≡ setup.service.wanted
   pub least_is : least ≡ setup.service.least
@@ -129,7 +129,7 @@ HasNoDialogue setup posts call =
 -- time of a call is asked for by the plan of a called number's route at a moment, as much as the service wants
 pub record IsReserved (setup : Setup) (call : ℕ) (called : Number) (at : ℕ) (asked : List Asked) : Type 0 where
   pub route : Route
-  pub routed : IsRoute setup.tariff (digits_of called) at route
+  pub routed : IsRoute setup.tariff (digits_of_number called) at route
   pub stands : Contains asked (Reserves call (rates_of route.plan) setup.service.wanted setup.service.least at)
 
 -- the first InitialDp of a call from a subscriber to a number with a route has its Reserve, at the subscriber's account, or was refused
@@ -137,7 +137,7 @@ abbrev pub CallsAreReserved : Type 0
 CallsAreReserved =
     (setup : Setup) (number : ℕ) (before : List Post) (post : Post) (lists : List (List EntryData)) (old : Holding) (call other place : ℕ) (calling called : Number)
     → IsHandledAfter setup number before post lists old → HasNoDialogue setup before call → post.body ≡ Ssf call (InitialDp other calling called)
-    → home_of calling setup ≡ Some place → (HasNoRoute setup.tariff (digits_of called) → ⊥) → IsReserved setup call called post.at (asked_at lists place)
+    → home_of calling setup ≡ Some place → (HasNoRoute setup.tariff (digits_of_number called) → ⊥) → IsReserved setup call called post.at (asked_at lists place)
 
 -- the dialogue of a call goes on with what the call was granted, by the account at a place
 pub record IsRunning (h : Holding) (call place : ℕ) : Type 0 where

@@ -3,7 +3,7 @@ use Rattle.table_core.specs.Rows.{rows_of}
 use Rattle.table_core.specs.Tables.{table_of}
 use Rattle.table_core.proofs.TableLemmas.{ended, not_opened, opened, refused, refuses, row_width, stopped, taken, said_so}
 use Rattle.tariff_core.specs.RatesOf.{rates_of}
-use Rattle.prepaid_command.specs.Reports.{last_after, reports_form, table_reports_of}
+use Rattle.prepaid_command.specs.Reports.{last_times_after, reports_form, table_reports_of}
 use Rattle.prepaid_command.proofs.ReportLemmas.{last_more}
 use Rattle.prepaid_command.proofs.reports.read_reports.Goals as goal
 
@@ -15,7 +15,7 @@ returns-in_err-table g c =
     (λ text. refuses form (λ row why. refl) (λ all. all) (λ why. refl) c.in_err-table.field-0.0 (table_of form (rows_of text)))
 
 pub loop-reports-init : goal.loop-reports-init
-unfolding last_after
+unfolding last_times_after
 loop-reports-init g c =
     rw c.new-reports.ensures.items
     (refl, opened (reports_form (rates_of c.args.plan.now)) g.I.Read.remaining _ c.in_ok-table.table c.in_ok-table.ensures.first c.in_ok-table.ensures.opens)

@@ -1,10 +1,10 @@
 use Rattle.std.proofs.Common.{arith, sym, ◌∙◌}
-use Rattle.run_texts.specs.Parts.{lines_of}
+use Rattle.run_texts.specs.Parts.{lines_in_text}
 use Rattle.run_texts.proofs.PartLemmas.{divided_here, goes_on, not_divided, nothing_before}
 use Rattle.run_texts.proofs.input.split.Goals as goal
 
 pub loop-start-init : goal.loop-start-init
-loop-start-init c = (omega arith, nothing_before (lines_of c.args.text.now))
+loop-start-init c = (omega arith, nothing_before (lines_in_text c.args.text.now))
 
 pub returns-then-is_divider-clause-divided : goal.returns-then-is_divider-clause-divided
 returns-then-is_divider-clause-divided c =
