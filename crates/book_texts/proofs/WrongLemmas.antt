@@ -38,7 +38,7 @@ module _ (booked : Booked) (event : EntryData) where
 
   not_legal : (right : Result Reply AccountFault) → IsWrong booked.opening booked.until (reverse booked.history) event right
       → IsLegal booked.opening booked.until (booked.history ++ event ∷ []) → ⊥
-  not_legal right wrong legal = wrong.differs (wrong.is_booked ∙ booked_right (was_legal legal).1)
+  not_legal right wrong legal = wrong.differs (wrong.is_response ∙ booked_right (was_legal legal).1)
 
 -- ---- a row further
 

@@ -56,11 +56,11 @@ fn expect_refusals<R: Abort + Threads + Wait + Sync>(
     serve(rt, alloc, &setup, &mut driver, 2, &OpenGate)?;
     let answers = answers_of(alloc, driver.heard())?;
     assert!(rt; answers.len() == driver.given().len(), "of {posts:?}");
-    let wanted = refusals(alloc, 2, driver.given(), answers.as_slice())?;
+    let found = refusals(alloc, 2, driver.given(), answers.as_slice())?;
     let shares = handled(alloc, 2, driver.given())?;
-    assert_eq!(rt; (wanted.len(), shares.len()), (2, 2));
-    assert_eq!(rt; wanted[0].as_slice(), of_first, "of {posts:?}");
-    assert_eq!(rt; wanted[1].as_slice(), of_second, "of {posts:?}");
+    assert_eq!(rt; (found.len(), shares.len()), (2, 2));
+    assert_eq!(rt; found[0].as_slice(), of_first, "of {posts:?}");
+    assert_eq!(rt; found[1].as_slice(), of_second, "of {posts:?}");
     assert_eq!(rt;
         (shares[0].len(), shares[1].len()),
         (of_first.len(), of_second.len())

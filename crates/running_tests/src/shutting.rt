@@ -28,12 +28,12 @@ impl Door {
     }
 }
 
-/// A gate with a door before messages and one inside accounts, which counts what it is told.
+/// A gate with a door before messages and one inside accounts, which counts the answers that it hears of.
 #[derive(Drop)]
 pub(crate) struct Shutting {
     before: Door,
     inside: Door,
-    wanted: AtomicU32,
+    answered: AtomicU32,
 }
 
 impl Shutting {
@@ -42,14 +42,14 @@ impl Shutting {
         Shutting {
             before: Door::new(before),
             inside: Door::new(inside),
-            wanted: AtomicU32::new(0),
+            answered: AtomicU32::new(0),
         }
     }
 
-    /// How many messages it was asked for, and how many it was told of.
+    /// How many messages it was asked for, and how many answers it heard of.
     pub(crate) fn counts(&self) -> (u32, u32) {
         let asked = self.before.asked.load(Ordering::SeqCst);
-        (asked, self.wanted.load(Ordering::SeqCst))
+        (asked, self.answered.load(Ordering::SeqCst))
     }
 }
 
@@ -65,7 +65,7 @@ impl Gate for Shutting {
     }
 
     fn after(&self, _worker: u32, _call: u64) {
-        self.wanted.fetch_add(1, Ordering::SeqCst);
+        self.answered.fetch_add(1, Ordering::SeqCst);
     }
 }
 
@@ -74,7 +74,7 @@ impl Gate for Shutting {
 pub(crate) struct Holding {
     refuses: u64,
     refused: AtomicBool,
-    wanted: AtomicBool,
+    answered: AtomicBool,
 }
 
 impl Holding {
@@ -82,13 +82,13 @@ impl Holding {
         Holding {
             refuses,
             refused: AtomicBool::new(false),
-            wanted: AtomicBool::new(false),
+            answered: AtomicBool::new(false),
         }
     }
 
-    /// Whether it was told of a message that it had held.
+    /// Whether it heard of the answer to a message that it had held.
     pub(crate) fn was_said(&self) -> bool {
-        self.wanted.load(Ordering::SeqCst)
+        self.answered.load(Ordering::SeqCst)
     }
 
     fn holds(&self) {
@@ -117,6 +117,6 @@ impl Gate for Holding {
     }
 
     fn after(&self, _worker: u32, _call: u64) {
-        self.wanted.store(true, Ordering::SeqCst);
+        self.answered.store(true, Ordering::SeqCst);
     }
 }
