@@ -205,7 +205,7 @@ fn check_books<I: Read + Drop>(
 
 /// Gives a row to the checks, and keeps it where it is the first wrong one of its account. The
 /// answer is why the row is refused, if it is.
-#[tactic(auto, unfolding(crate::specs::Books::row_at))]
+#[tactic(auto, unfolding(crate::specs::Books::book_row_at))]
 fn take_row(
     alloc: Global,
     checks: &mut AccountChecks,

@@ -58,7 +58,7 @@ fn day(text: &[u8]) -> Option<u64>
 }
 
 /// The time of day that `HH:MM:SS` writes, or `HH:MM:SS.T`, in units of 100 ms.
-#[tactic(auto, unfolding(crate::specs::Reading::time_of))]
+#[tactic(auto, unfolding(crate::specs::Reading::written_time))]
 fn time(text: &[u8]) -> Option<u64>
     ensures value { result ≡ written_time text.now }
     ensures within { IfSome result (λ time. time < 1000000) }

@@ -49,7 +49,7 @@ pub(crate) struct Call<'a> {
 impl<'a> Call<'a> {
     /// What the columns of a row say. `Number` is the fault where a field isn't a number in its
     /// range, and else `Order` where the end is out of order.
-    #[tactic(auto, unfolding(crate::specs::Calls::call_in))]
+    #[tactic(auto, unfolding(crate::specs::Calls::rated_call_in))]
     pub(crate) fn read(row: &'a ByteRecord, columns: &Columns) -> Result<Call<'a>, RateKind>
         requires { HasAllColumns (length (fields_of row.now)) columns.now }
         ensures value { result_map_both said_by (λ kind. kind) result ≡ rated_call_in

@@ -33,7 +33,7 @@ pub(crate) struct Columns {
 impl Columns {
     /// The columns of a header by these names; none where it hasn't one that must be there, or has
     /// one twice.
-    #[tactic(auto, unfolding(crate::specs::Columns::columns_in))]
+    #[tactic(auto, unfolding(crate::specs::Columns::found_columns))]
     pub(crate) fn find(header: &ByteRecord, names: &Names<'_>) -> Option<Columns>
         ensures value { result ≡ found_columns (fields_of header.now) (wished_names names.now) }
         ensures within { IfSome result (HasAllColumns (length (fields_of header.now))) }

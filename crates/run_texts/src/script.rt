@@ -72,7 +72,7 @@ pub fn read_script<I: Read + Drop>(
 }
 
 /// What a row says, after a row of the moment `last` and the calls that have started.
-#[tactic(auto, unfolding(crate::specs::Scripts::row_at))]
+#[tactic(auto, unfolding(crate::specs::Scripts::script_row_at))]
 fn judge(
     directory: &Directory,
     calls: &BTreeSet<u64>,

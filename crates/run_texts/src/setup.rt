@@ -53,7 +53,7 @@ pub fn read_setup<I: Read + Drop>(alloc: Global, reader: I) -> Result<Directory,
 }
 
 /// Enters what a row names.
-#[tactic(auto, unfolding(crate::specs::Setups::row_at))]
+#[tactic(auto, unfolding(crate::specs::Setups::setup_row_at))]
 fn enter(directory: &mut Directory, row: &ByteRecord) -> Result<(), EntryFault>
     requires fields { 3 ≤ length (fields_of row.now) }
     requires few { length directory.old.accounts ≤ 1000 }
