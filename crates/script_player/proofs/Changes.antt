@@ -10,7 +10,7 @@ use Rattle.ssf_core.specs.declared.config.SsfConfig.{SsfConfig}
 use Rattle.ssf_core.specs.declared.item.Out.{Out}
 use Rattle.run_values.specs.declared.post.Body.{Body}
 use Rattle.script_player.specs.Beginnings.{IsTriggered}
-use Rattle.script_player.specs.Dues.{AreDues, HasTimer, Replaces, ssf_of}
+use Rattle.script_player.specs.Dues.{AreDues, HasTimer, IsPutDown, Replaces, ssf_of}
 use Rattle.script_player.specs.Inputs.{IsGiven, IsNextTimer}
 use Rattle.script_player.specs.Networks.{HaveGiven, Feeds, HasGiven, Shown}
 use Rattle.script_player.specs.Posts.{posts_of}
@@ -19,7 +19,7 @@ use Rattle.script_player.specs.declared.network.Sent.{Sent}
 use Rattle.script_player.specs.declared.network.Input.{Input}
 use Rattle.script_player.specs.declared.network.Input.TheVariants as what
 use Rattle.script_player.proofs.InputLemmas.{same_next, waited_next}
-use Rattle.script_player.proofs.DueMoments.{dues_on, sets_by, timer_of}
+use Rattle.script_player.proofs.DueMoments.{dues_on, put_down, sets_by, timer_of}
 
 -- what a network of these shows
 abbrev pub shown : SsfConfig → BTreeMap ℕ View → List (ℕ × Body) → Bool → Shown
@@ -31,12 +31,13 @@ gave_of config before after now call given input fed are feeds = rw feeds.moves.
 
 -- the moments go on with a gsmSSF that is given an input
 pub dues_fed : (config : SsfConfig) (before after : BTreeMap ℕ View) (dues kept : BTreeSet (ℕ × ℕ)) (now call : ℕ) (given : List (ℕ × Body)) (input : Input) (fed : Sent)
-    → HaveGiven config before given → AreDues before.entries dues → Feeds before after now call input fed → Replaces dues kept call fed.before fed.after → AreDues after.entries kept
+    → HaveGiven config before given → AreDues before.entries dues → Feeds before after now call input fed
+    → (IsPutDown dues call fed.before → Replaces dues kept call fed.before fed.after) → AreDues after.entries kept
 dues_fed config before after dues kept now call given input fed gave are feeds replaces =
     let own : HasGiven config call given feeds.moves.old = gave_of config before after now call given input fed gave feeds in
     let further = feeds.moves.goes_on.from own.trace own.stands in
-    dues_on before.entries after.entries dues kept call fed.before fed.after feeds.moves.new further.further are replaces (sets_by before after call feeds.moves.new feeds.moves.updates)
-    feeds.is_next further.stands
+    dues_on before.entries after.entries dues kept call fed.before fed.after feeds.moves.new further.further are
+    (replaces (put_down before.entries dues call feeds.moves.old fed.before are feeds.moves.was feeds.was_next)) (sets_by before after call feeds.moves.new feeds.moves.updates) feeds.is_next further.stands
     (λ at timer. same_next feeds.moves.old own.trace fed.before (Some at) own.stands feeds.was_next (timer_of before.entries call at feeds.moves.old feeds.moves.was timer))
 
 -- it is given the input, and its messages are posted
@@ -76,9 +77,9 @@ without (Some view) none = cc
 -- the moments go on with a gsmSSF that is new
 pub dues_begun : (before after : BTreeMap ℕ View) (dues kept : BTreeSet (ℕ × ℕ)) (config : SsfConfig) (now call : ℕ) (calling called : Number) (view : View) (sent : List Out) (next : Option ℕ)
     → AreDues before.entries dues → is_some (get nat_cmp before call) ≡ false → Updates nat_cmp before after call (Some view) → IsTriggered config now call calling called view sent
-    → IsNextTimer view next → Replaces dues kept call None next → AreDues after.entries kept
+    → IsNextTimer view next → (IsPutDown dues call None → Replaces dues kept call None next) → AreDues after.entries kept
 dues_begun before after dues kept config now call calling called view sent next are none updates begun is_next replaces =
-    dues_on before.entries after.entries dues kept call None next view begun.trace are replaces (sets_by before after call view updates) is_next begun.stands
+    dues_on before.entries after.entries dues kept call None next view begun.trace are (replaces tt) (sets_by before after call view updates) is_next begun.stands
     (λ at timer. absurd (no_timer before call at (without (get nat_cmp before call) none) timer))
 
 pub starts_new : (before after : Shown) (calls now_calls : BTreeMap ℕ View) (now call : ℕ) (calling called : Number) (view : View) (sent : List Out) → before.ssfs ≡ calls.entries

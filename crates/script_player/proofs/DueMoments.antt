@@ -8,7 +8,7 @@ use Rattle.std.specs.Ordering.{nat_cmp}
 use Rattle.std.specs.Prelude.{MatchOption}
 use Rattle.ssf_core.specs.Calls.{Stands, View}
 use Rattle.ssf_core.specs.Happenings.{Happening}
-use Rattle.script_player.specs.Dues.{AreDues, HasTimer, Replaces, pair_cmp, ssf_of}
+use Rattle.script_player.specs.Dues.{AreDues, HasTimer, IsPutDown, Replaces, pair_cmp, ssf_of}
 use Rattle.script_player.specs.Inputs.{IsNextTimer}
 use Rattle.script_player.specs.Steps.{Sets}
 use Rattle.script_player.proofs.InputLemmas.{same_next}
@@ -71,6 +71,24 @@ replaces call old new before between after out in' = record {
   added = put_in call new between after in';
   only = λ at has not. stays_in call old before between out at (was_in call new between after in' at has not);
 }
+
+put_down_at : (call : ℕ) (moment : Option ℕ) (dues : BTreeSet (ℕ × ℕ)) (at : ℕ) → moment ≡ Some at → IsPutDown dues call moment → contains pair_cmp dues (at, call) ≡ true
+put_down_at call None dues at is put = cc
+put_down_at call (Some moment) dues at is put =
+    let same : moment ≡ at = cc in
+    let P : ℕ → Type 0 = λ m. contains pair_cmp dues (m, call) ≡ true in
+    subst P same put
+
+-- the moment that is put down stays
+pub stays : (call : ℕ) (old new : Option ℕ) (dues : BTreeSet (ℕ × ℕ)) → old ≡ new → IsPutDown dues call old → Replaces dues dues call old new
+stays call old new dues same put =
+    record { others = λ at other apart. refl; added = λ at is. put_down_at call old dues at (same ∙ is) put; only = λ at has not. (has, λ was. not (sym same ∙ was)) }
+
+-- the moment at which the next timer of a gsmSSF is due is put down
+pub put_down : (ssfs : List (ℕ × View)) (dues : BTreeSet (ℕ × ℕ)) (call : ℕ) (view : View) (moment : Option ℕ) → AreDues ssfs dues → ssf_of ssfs call ≡ Some view → IsNextTimer view moment
+    → IsPutDown dues call moment
+put_down ssfs dues call view None are is next = tt
+put_down ssfs dues call view (Some at) are is next = are.each at call (record { view = view; is = is; next = next })
 
 -- ---- the moments of the timers
 

@@ -1,5 +1,5 @@
 -- When the timers of the gsmSSFs are due.
-use Rattle.std.specs.Prelude.{◌≡◌, ◌==◌, ◌≤◌, ℕ, Bool, true, false, Option, Some, None, List}
+use Rattle.std.specs.Prelude.{◌≡◌, ◌==◌, ◌≤◌, ℕ, Bool, true, false, Option, Some, None, List, IfSome}
 use Rattle.std.specs.BTreeMap.{is_at}
 use Rattle.std.specs.BTreeSet.{BTreeSet, contains}
 use Rattle.std.specs.List.{list_any}
@@ -45,6 +45,10 @@ pair_cmp one other = ordering_then (nat_cmp one.0 other.0) (nat_cmp one.1 other.
 pub record AreDues (ssfs : List (ℕ × View)) (dues : BTreeSet (ℕ × ℕ)) : Type 0 where
   pub held : (at call : ℕ) → contains pair_cmp dues (at, call) ≡ true → HasTimer ssfs call at
   pub each : (at call : ℕ) → HasTimer ssfs call at → contains pair_cmp dues (at, call) ≡ true
+
+-- a moment is put down with a call, if there is one
+abbrev pub IsPutDown : BTreeSet (ℕ × ℕ) → ℕ → Option ℕ → Type 0
+IsPutDown dues call moment = IfSome moment (λ at. contains pair_cmp dues (at, call) ≡ true)
 
 -- of a call, one moment is put down in the place of another; the others' stay
 pub record Replaces (before after : BTreeSet (ℕ × ℕ)) (call : ℕ) (old new : Option ℕ) : Type 0 where

@@ -4,7 +4,7 @@ ghost use Rattle.std.specs.Prelude.{◌≤◌, ◌≡◌, ◌+◌, ◌<◌, ◌+
 ghost use Rattle.std.specs.BTreeMap.{get};
 ghost use Rattle.std.specs.Ordering.{nat_cmp};
 ghost use Rattle.std.specs.Vec.{vec_capacity, vec_len};
-ghost use Rattle.script_player.specs.Dues.{Replaces};
+ghost use Rattle.script_player.specs.Dues.{IsPutDown, Replaces};
 ghost use Rattle.script_player.specs.Beginnings.{IsTriggered};
 ghost use Rattle.script_player.specs.Inputs.{IsGiven};
 ghost use Rattle.script_player.specs.Networks.{Feeds, SsfGoesOn};
@@ -210,15 +210,20 @@ impl Network {
     }
 }
 
-/// Puts down when a call's next timer is due, in place of what was put down of it.
+/// Puts down when a call's next timer is due, in place of what was put down of it. Where that is
+/// the same it stays.
 fn replace_due(
     dues: &mut BTreeSet<(Moment, u64)>,
     call: u64,
     before: Option<Moment>,
     after: Option<Moment>,
 ) -> Result<(), AllocError>
-    ensures { OnOk result (Replaces dues.old dues.new call before after) }
+    ensures { OnOk result
+        (IsPutDown dues.old call before → Replaces dues.old dues.new call before after) }
 {
+    if before == after {
+        return Ok(());
+    }
     if let Some(at) = before {
         dues.remove(&(at, call));
     }

@@ -10,7 +10,7 @@ returns-in_ok-insert c =
       | in-Some w ↦ rw (w.in-Some.is, w.dues-is) w.remove.ensures.updates
       | in_default w ↦ rw (w.in_default.is, w.dues-is) refl
     ] in
-    replaces c.args.call c.args.before c.args.after c.args.dues.now c.match-before.dues c.insert.new.self out (rw c.in-Some-after.is c.in_ok-insert.ensures.updates)
+    λ _. replaces c.args.call c.args.before c.args.after c.args.dues.now c.match-before.dues c.insert.new.self out (rw c.in-Some-after.is c.in_ok-insert.ensures.updates)
 
 pub returns-in_default-after : goal.returns-in_default-after
 returns-in_default-after c =
@@ -19,4 +19,4 @@ returns-in_default-after c =
       | in-Some w ↦ rw (w.in-Some.is, w.dues-is) w.remove.ensures.updates
       | in_default w ↦ rw (w.in_default.is, w.dues-is) refl
     ] in
-    replaces c.args.call c.args.before c.args.after c.args.dues.now c.match-before.dues c.match-before.dues out (rw c.in_default-after.is refl)
+    λ _. replaces c.args.call c.args.before c.args.after c.args.dues.now c.match-before.dues c.match-before.dues out (rw c.in_default-after.is refl)
