@@ -20,7 +20,7 @@ use std::marker::Model;
 use tariff_core::HORIZON;
 
 /// The most that a gsmSSF sends at one input.
-const MAX_SENT: usize = 8;
+pub(crate) const MAX_SENT: usize = 8;
 
 /// An input of a gsmSSF that was triggered.
 #[derive(Clone, Copy)]

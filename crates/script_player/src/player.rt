@@ -1,12 +1,12 @@
 //! The driver that plays a script.
 
-ghost use Rattle.std.specs.Prelude.{◌≡◌, ◌≤◌, ◌++◌, All, OnErr, OnOk, drop, length, take};
+ghost use Rattle.std.specs.Prelude.{◌≡◌, ◌≤◌, ◌+◌, ◌*◌, ◌++◌, All, OnErr, OnOk, drop, length, take};
 ghost use Rattle.script_player.specs.Networks.{Grows};
 ghost use Rattle.script_player.specs.Rows.{Adds, FollowsRows, TakesRow, next_row};
 ghost use Rattle.script_player.specs.Steps.{PlaysDue, PlaysRow, DeliversDue};
 ghost use Rattle.script_player.specs.Deliveries.{deliveries_of, deliveries_to};
 
-use crate::network::{Input, Network};
+use crate::network::{Input, MAX_SENT, Network};
 use cap_values::ScfOp;
 use run_texts::{Happening, ScriptRow};
 use run_values::{Answer, Body};
@@ -88,7 +88,7 @@ impl ScriptPlayer {
         ensures running { IfOk result (λ player. player.ended ≡ false) }
     {
         Ok(ScriptPlayer {
-            network: Network::new(alloc, config, rows.len())?,
+            network: Network::new(alloc, config, first_room(rows.len()))?,
             deliveries: VecDeque::new(alloc),
             delay,
             rows,
@@ -202,6 +202,16 @@ impl Driver for ScriptPlayer {
         self.sound = true;
         Ok(true)
     }
+}
+
+/// For how many items there is room at first, where there are so many rows: a little more than
+/// twice as many, which is mostly enough for what the gsmSSFs of their calls send.
+fn first_room(rows: usize) -> usize
+    ensures some { rows ≤ result }
+    ensures few { result ≤ 3 * rows + 8 }
+{
+    let spare = (rows / 8).saturating_add(MAX_SENT);
+    rows.saturating_mul(2).saturating_add(spare)
 }
 
 /// The moment of the first row that wasn't taken yet.
