@@ -1,11 +1,16 @@
 -- The account of a call, row by row.
-use Rattle.std.proofs.Common.{◌≡◌, ◌<◌, ◌+◌, ◌∙◌, ℕ, cond, Option, Some, None, List, [], ◌∷◌, ◌++◌, length, map, refl, sym, ap, get_or, take}
+use Rattle.std.proofs.Common.{◌≡◌, ◌==◌, ◌<◌, ◌+◌, ◌∙◌, ℕ, Bool, true, false, cond, subst, Option, Some, None, List, [], ◌∷◌, ◌++◌, length, map, refl, sym, ap, get_or, take}
 use Rattle.std.proofs.lemmas.List.{map-append, take_more}
+use Rattle.std.proofs.lemmas.Bool.{eqb-true}
+use Rattle.std.specs.BTreeMap.{insert_entry}
 use Rattle.std.specs.Option.{option_or}
+use Rattle.std.specs.Ordering.{nat_cmp}
+use Rattle.std.specs.Prelude.{if◌then◌else◌}
 use Rattle.std.specs.Str.{bytes_eq}
 use Rattle.cap_values.specs.NumberDigits.{digits_of_number}
 use Rattle.cap_values.specs.declared.number.Number.{Number}
-use Rattle.run_parts.specs.Parts.{account_of_digits, payer_by, payer_of}
+use Rattle.rising_map.proofs.RisingLemmas.{looked_up}
+use Rattle.run_parts.specs.Parts.{account_of_digits, payer_by, payer_in, payer_of}
 use Rattle.run_texts.specs.Happenings.{ScriptEvent}
 use Rattle.run_texts.specs.Views.{script_event, with_digits}
 use Rattle.run_texts.specs.declared.script.ScriptRow.{ScriptRow}
@@ -40,3 +45,15 @@ pub by_its_digits : (number : Number) (subscribers : List (Number × ℕ)) → s
 by_its_digits number [] = refl
 by_its_digits number (subscriber ∷ subscribers) =
     ap (λ (rest : Option ℕ). cond (bytes_eq (digits_of_number subscriber.0) (digits_of_number number)) (Some subscriber.1) rest) (by_its_digits number subscribers)
+
+-- ---- a map keeps the first account of a call
+
+kept_by : (here : Bool) (call other account : ℕ) (payers : List (ℕ × ℕ)) → (call == other) ≡ here → payer_in payers call ≡ None
+    → cond here (Some account) (payer_in payers other) ≡ option_or (payer_in payers other) (cond here (Some account) None)
+kept_by true call other account payers is none = rw (subst (λ (n : ℕ). payer_in payers n ≡ None) (eqb-true call other is) none) refl
+kept_by false call other account payers is none = sym (or_none (payer_in payers other))
+
+pub keeps : (payers new : List (ℕ × ℕ)) (call account other : ℕ) → new ≡ insert_entry nat_cmp payers call account → payer_in payers call ≡ None
+    → payer_in new other ≡ option_or (payer_in payers other) (if call == other then Some account else None)
+keeps payers new call account other inserted none =
+    ap (λ p. payer_in p other) inserted ∙ looked_up call account other payers ∙ kept_by (call == other) call other account payers refl none

@@ -1,6 +1,6 @@
 -- Which part of a run each row of its script goes to.
 use Rattle.std.specs.Prelude.{◌≡◌, ◌<◌, ◌==◌, ◌+◌, ◌%◌, ℕ, Option, Some, None, List, [], ◌∷◌, length, min, max, if◌then◌else◌, nat_le, slice_index_or}
-use Rattle.std.specs.BTreeMap.{BTreeMap, get}
+use Rattle.std.specs.BTreeMap.{is_at}
 use Rattle.std.specs.List.{filter}
 use Rattle.std.specs.Map.{lookup}
 use Rattle.std.specs.Option.{option_or}
@@ -57,6 +57,10 @@ pub record AreParts (firsts : List ℕ) (payer : ℕ → Option ℕ) (rows : Lis
   pub count : length parts ≡ 1 + length firsts
   pub each : (part : ℕ) → part < 1 + length firsts → slice_index_or parts part [] ≡ part_rows firsts payer rows part
 
+-- the account of a call in a map, by number
+abbrev pub payer_in : List (ℕ × ℕ) → ℕ → Option ℕ
+payer_in payers call = lookup (is_at (nat_cmp call)) payers
+
 -- a map has the account of each call
-abbrev pub HavePayers : (ℕ → Option ℕ) → BTreeMap ℕ ℕ → Type 0
-HavePayers payer payers = (call : ℕ) → get nat_cmp payers call ≡ payer call
+abbrev pub HavePayers : (ℕ → Option ℕ) → List (ℕ × ℕ) → Type 0
+HavePayers payer payers = (call : ℕ) → payer_in payers call ≡ payer call

@@ -1,19 +1,18 @@
 //! A script is divided.
 
 ghost use Rattle.std.specs.Prelude.{◌≡◌, ◌≤◌, ◌<◌, ◌+◌, ℕ, true, All, length, map, max, IfOk, IfSome};
-ghost use Rattle.std.specs.BTreeMap.{get};
 ghost use Rattle.std.specs.List.Sorted.{IsStrictlySortedBy};
 ghost use Rattle.std.specs.Ordering.{nat_cmp};
-ghost use Rattle.run_parts.specs.Parts.{AreParts, part_by, part_count, part_of, payer_of};
+ghost use Rattle.run_parts.specs.Parts.{AreParts, part_by, part_count, part_of, payer_in, payer_of};
 ghost use Rattle.run_values.specs.Setups.{has_account};
 ghost use Rattle.run_texts.specs.Views.{rows_are_in_order, happens_of, script_event, with_digits};
 
 use crate::firsts::Firsts;
 use crate::payers::payers_in;
+use rising_map::RisingMap;
 use run_texts::{Happening, ScriptRow};
 use run_values::RunSetup;
 use std::alloc::{AllocError, Global};
-use std::collections::BTreeMap;
 use tariff_core::MAX_MOMENT;
 
 /// A script that is divided.
@@ -62,7 +61,7 @@ pub fn divide(
 fn weights_in(
     alloc: Global,
     setup: &RunSetup,
-    payers: &BTreeMap<u64, u32>,
+    payers: &RisingMap<u32>,
     script: &[ScriptRow],
 ) -> Result<Vec<u64>, AllocError>
     ensures { IfOk result (λ weights. length weights.items ≡ length setup.now.accounts) }
@@ -80,11 +79,11 @@ fn weights_in(
 }
 
 /// The place of the account of what happens, if it has one.
-fn place_of(setup: &RunSetup, payers: &BTreeMap<u64, u32>, what: Happening) -> Option<usize>
+fn place_of(setup: &RunSetup, payers: &RisingMap<u32>, what: Happening) -> Option<usize>
     ensures { IfSome result (λ place. place < length setup.now.accounts) }
 {
     let account = match what {
-        Happening::Start { call, .. } | Happening::Meets { call, .. } => *payers.get(&call)?,
+        Happening::Start { call, .. } | Happening::Meets { call, .. } => *payers.get(call)?,
         Happening::Recharge { account, .. } => account,
     };
     setup.place_of(account)
@@ -143,10 +142,10 @@ fn total(weights: &[u64]) -> u64 {
 fn deal(
     alloc: Global,
     firsts: &Firsts,
-    payers: &BTreeMap<u64, u32>,
+    payers: &RisingMap<u32>,
     script: &[ScriptRow],
 ) -> Result<Vec<Vec<ScriptRow>>, AllocError>
-    ensures { IfOk result (λ piles. AreParts firsts.now (get nat_cmp payers.now)
+    ensures { IfOk result (λ piles. AreParts firsts.now (payer_in payers.now)
         script.now (map (λ rows. rows.items) piles.items)) }
 {
     let mut piles = Vec::with_capacity(alloc, firsts.part_count())?;
@@ -160,13 +159,13 @@ fn deal(
 }
 
 /// The part of what happens.
-fn part_of(firsts: &Firsts, payers: &BTreeMap<u64, u32>, what: Happening) -> usize
-    ensures part { result ≡ part_of firsts.now (get nat_cmp payers.now) (happens_of what) }
+fn part_of(firsts: &Firsts, payers: &RisingMap<u32>, what: Happening) -> usize
+    ensures part { result ≡ part_of firsts.now (payer_in payers.now) (happens_of what) }
     ensures within { result ≤ length firsts.now }
 {
     match what {
         Happening::Start { call, .. } | Happening::Meets { call, .. } => {
-            part_by(firsts, payers.get(&call).copied(), call)
+            part_by(firsts, payers.get(call).copied(), call)
         }
         Happening::Recharge { account, .. } => firsts.part_of(account),
     }

@@ -1,27 +1,25 @@
 //! The accounts of the calls of a script.
 
 ghost use Rattle.std.specs.Prelude.{◌≡◌, ◌==◌, ℕ, None, if◌then◌else◌, map, IfOk, OnOk};
-ghost use Rattle.std.specs.BTreeMap.{get};
 ghost use Rattle.std.specs.Option.{option_or};
-ghost use Rattle.std.specs.Ordering.{nat_cmp};
-ghost use Rattle.run_parts.specs.Parts.{HavePayers, payer_by, payer_of};
+ghost use Rattle.run_parts.specs.Parts.{HavePayers, payer_by, payer_in, payer_of};
 ghost use Rattle.run_texts.specs.Views.{happens_of, script_event, with_digits};
 
+use rising_map::RisingMap;
 use run_texts::{Happening, ScriptRow};
 use run_values::RunSetup;
 use std::alloc::{AllocError, Global};
-use std::collections::BTreeMap;
 
 /// The account of each call that a subscriber starts.
 pub(crate) fn payers_in(
     alloc: Global,
     setup: &RunSetup,
     script: &[ScriptRow],
-) -> Result<BTreeMap<u64, u32>, AllocError>
+) -> Result<RisingMap<u32>, AllocError>
     ensures { IfOk result (HavePayers
         (payer_of (with_digits setup.now.subscribers) (map script_event script.now))) }
 {
-    let mut payers = BTreeMap::new(alloc);
+    let mut payers = RisingMap::new(alloc);
     for row in script {
         note(&mut payers, setup, row.what)?;
     }
@@ -29,13 +27,9 @@ pub(crate) fn payers_in(
 }
 
 /// Keeps the account of a call that starts, where it has none yet.
-fn note(
-    payers: &mut BTreeMap<u64, u32>,
-    setup: &RunSetup,
-    what: Happening,
-) -> Result<(), AllocError>
-    ensures { OnOk result ((call : ℕ) → get nat_cmp payers.new call
-        ≡ option_or (get nat_cmp payers.old call)
+fn note(payers: &mut RisingMap<u32>, setup: &RunSetup, what: Happening) -> Result<(), AllocError>
+    ensures { OnOk result ((call : ℕ) → payer_in payers.new call
+        ≡ option_or (payer_in payers.old call)
         (payer_by (with_digits setup.now.subscribers) call (happens_of what))) }
 {
     match what {
@@ -45,14 +39,14 @@ fn note(
 }
 
 /// Keeps the account of a call, if there is one, where it has none yet.
-fn keep(payers: &mut BTreeMap<u64, u32>, call: u64, account: Option<u32>) -> Result<(), AllocError>
-    ensures { OnOk result ((other : ℕ) → get nat_cmp payers.new other
-        ≡ option_or (get nat_cmp payers.old other) (if call == other then account else None)) }
+fn keep(payers: &mut RisingMap<u32>, call: u64, account: Option<u32>) -> Result<(), AllocError>
+    ensures { OnOk result ((other : ℕ) → payer_in payers.new other
+        ≡ option_or (payer_in payers.old other) (if call == other then account else None)) }
 {
     let Some(account) = account else {
         return Ok(());
     };
-    if !payers.contains_key(&call) {
+    if payers.get(call).is_none() {
         payers.insert(call, account)?;
     }
     Ok(())

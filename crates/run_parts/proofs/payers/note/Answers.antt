@@ -2,8 +2,7 @@ use Rattle.std.proofs.Common.{◌==◌, ℕ, Option, None, ap, ◌∙◌}
 use Rattle.std.proofs.lemmas.Result.{on_ok_weaker}
 use Rattle.std.specs.Prelude.{if◌then◌else◌}
 use Rattle.std.specs.Option.{option_or}
-use Rattle.std.specs.BTreeMap.{get}
-use Rattle.std.specs.Ordering.{nat_cmp}
+use Rattle.run_parts.specs.Parts.{payer_in}
 use Rattle.run_parts.proofs.Accounts.{by_its_digits}
 use Rattle.run_parts.proofs.payers.note.Goals as goal
 
@@ -11,5 +10,5 @@ pub returns-in-Start : goal.returns-in-Start
 returns-in-Start c =
     let found = c.account_of.ensures ∙ by_its_digits c.in-Start.calling c.args.setup.now.subscribers in
     on_ok_weaker c.keep.result (λ kept call.
-    kept call ∙ rw c.in-Start.is (ap (λ (account : Option ℕ). option_or (get nat_cmp c.args.payers.now call) (if c.in-Start.call == call then account else None)) found))
+    kept call ∙ rw c.in-Start.is (ap (λ (account : Option ℕ). option_or (payer_in c.args.payers.now call) (if c.in-Start.call == call then account else None)) found))
     c.keep.ensures
