@@ -3,20 +3,17 @@ use Rattle.std.proofs.Common.{◌≡◌, ◌≤◌, ◌+◌, ◌*◌, ℕ, List,
 use Rattle.std.proofs.lemmas.List.Elements.{All-head, All-map, All-same, All-tail}
 use Rattle.book_texts.specs.Printable.{row_count}
 use Rattle.runs_core.proofs.Listed.{all_unmapped}
-use Rattle.run_laws.proofs.Openings.{as_many}
-use Rattle.run_laws.specs.Books.{RunsHaveFewRows}
 use Rattle.run_values.specs.Setups.{Setup}
 use Rattle.runs_core.specs.Closing.{terms_shown}
 use Rattle.runs_core.specs.Teams.{terms_of, terms_with}
 use Rattle.shared_account.specs.Closed.{Closed}
-use Rattle.shared_account.specs.Refusals.{Knowing}
 use Rattle.shared_account.specs.Terms.{Terms}
 
 -- a history has at most so many entries
 abbrev pub IsWithin : ℕ → Closed → Type 0
 IsWithin limit book = length book.history ≤ limit
 
-counted : (limit : ℕ) (books : List Closed) → All (IsWithin limit) books → row_count books ≤ length books * (1 + limit)
+pub counted : (limit : ℕ) (books : List Closed) → All (IsWithin limit) books → row_count books ≤ length books * (1 + limit)
 counted limit [] within = omega arith
 counted limit (book ∷ books) within =
     let first : length book.history ≤ limit = All-head (IsWithin limit) book books within in
@@ -24,16 +21,8 @@ counted limit (book ∷ books) within =
     grind arith
 
 -- each book has the limit of the setup
-limits_are : (setup : Setup) (workers : ℕ) (books : List Closed) → map (terms_shown workers) books ≡ terms_of setup.limit workers setup.accounts → All (λ (book : Closed). book.limit ≡ setup.limit) books
+pub limits_are : (setup : Setup) (workers : ℕ) (books : List Closed) → map (terms_shown workers) books ≡ terms_of setup.limit workers setup.accounts → All (λ (book : Closed). book.limit ≡ setup.limit) books
 limits_are setup workers books opened =
     let Is : Terms → Type 0 = λ terms. terms.limit ≡ setup.limit in
     let made : All Is (terms_of setup.limit workers setup.accounts) = All-map Is (terms_with setup.limit workers) setup.accounts (λ k d within. refl) in
     all_unmapped Is (terms_shown workers) books (All-same Is (map (terms_shown workers) books) (terms_of setup.limit workers setup.accounts) opened made)
-
-pub few_rows : (Stood : Closed → ℕ → Knowing) → RunsHaveFewRows Stood
-few_rows Stood setup workers given books is =
-    let limits = limits_are setup workers books is.run.opened in
-    let within : All (IsWithin setup.limit) books = λ k d here. let limit = limits k d here in let typed = is.typed k d here in omega (arith, limit, typed.within_limit) in
-    let many = as_many setup workers books is.may_be is.run.opened is.accounts in
-    let all = counted setup.limit books within in
-    rw many at all

@@ -20,6 +20,13 @@ pub record HasAccounts (accounts : List (ℕ × OpeningCredit)) : Type 0 where
   pub ordered : IsStrictlySortedBy nat_cmp (keys_of accounts)
   pub range : All (λ account. opening_is_in_range account.1 ≡ true) accounts
 
+-- a run over such accounts, to which nothing was given that has no range
+pub record IsTimelyRun (Stood : Closed → ℕ → Knowing) (setup : Setup) (workers : ℕ) (given : List (ℕ × Body)) (answers : List Answer) (books : List Closed) : Type 0 where
+  pub may_be : are_workers workers ≡ true
+  pub run : IsRun Stood setup workers given answers books
+  pub accounts : HasAccounts setup.accounts
+  pub timely : AreTimely given
+
 -- the books of a run whose table can be read back, where it has room for its rows: each number in it has its range
 pub record IsRecorded (Stood : Closed → ℕ → Knowing) (setup : Setup) (workers : ℕ) (given : List (ℕ × Body)) (books : List Closed) : Type 0 where
   -- these are the books that a run has come to
