@@ -1,12 +1,14 @@
 //! The parts of a run, played by threads.
 
-ghost use Rattle.std.specs.Prelude.{◌≡◌, ◌≤◌, ◌<◌, ℕ, All, IfErr, IfOk, Ok, length, map, slice_index_or, true};
+ghost use Rattle.std.specs.Prelude.{◌≡◌, ◌≢◌, ◌≤◌, ◌<◌, ℕ, All, IfErr, IfOk, Ok, length, map, slice_index_or, true};
 ghost use Rattle.run_command.specs.Answers.{MayFail};
 ghost use Rattle.run_command.specs.InParts.{ArePlayed};
-ghost use Rattle.run_command.specs.Turns.{HasPlayedPart, IsInOrder};
+ghost use Rattle.run_command.specs.Turns.{HasPlayedPart, IsFirstPartFault, IsInOrder};
+ghost use Rattle.run_command.specs.declared.error.RunError.TheVariants as error;
 ghost use Rattle.run_command.specs.declared.turns.Turn.{Turn};
 ghost use Rattle.run_options.specs.Options.{ask_of};
 ghost use Rattle.run_texts.specs.Views.{rows_are_in_order};
+ghost use Rattle.runs_core.specs.declared.run_fault.RunFault.TheVariants as run;
 
 use crate::RunError;
 use crate::parts::{Part, play_part};
@@ -109,12 +111,15 @@ impl Turn {
     }
 }
 
-/// What is kept of parts that were played, or the first fault that one of them has.
+/// What is kept of parts that were played, or the first fault that one of them has. Memory may run
+/// out at any.
 fn played(alloc: Global, turns: Vec<Turn>) -> Result<Vec<Part>, RunError>
     ensures parts { IfOk result (λ parts.
         map (λ turn. turn.played) turns.items ≡ map (λ part. Ok part) parts.items) }
     ensures fault { (workers : ℕ) → All (λ turn. IfErr turn.played (MayFail workers)) turns.items
         → IfErr result (MayFail workers) }
+    ensures first { IfErr result (λ fault. fault ≢ error.Run run.OutOfMemory
+        → IsFirstPartFault turns.items fault) }
 {
     let mut parts = Vec::with_capacity(alloc, turns.len())?;
     for turn in turns {
