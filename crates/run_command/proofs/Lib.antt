@@ -1,3 +1,4 @@
+pub mod Joining
 pub mod ListenLemmas
 pub mod Merging
 pub mod Parting

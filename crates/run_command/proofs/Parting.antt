@@ -1,11 +1,12 @@
 -- Parts that are played one after another, and what they come to together.
-use Rattle.std.proofs.Common.{◌≡◌, ◌<◌, ◌+◌, ◌∙◌, ℕ, zero, suc, List, [], ◌∷◌, ◌++◌, length, map, refl, sym, true, ap, subst, arith, append_assoc}
+use Rattle.std.proofs.Common.{◌≡◌, ◌<◌, ◌+◌, ◌∙◌, ℕ, zero, suc, List, [], ◌∷◌, ◌++◌, length, map, refl, sym, true, ap, subst, arith, append_assoc, All}
 use Rattle.std.proofs.Math.ListN.{get_or}
 use Rattle.std.proofs.lemmas.Grind.{flat_map-append}
 use Rattle.std.proofs.lemmas.List.{append-nil, map-append}
 use Rattle.std.proofs.lemmas.List.Sums.{sum_by-append}
 use Rattle.std.specs.List.{flat_map, sum_by}
 use Rattle.book_texts.specs.RunTexts.{AreLinesOf, LinesSaid}
+use Rattle.book_texts.specs.Typed.{IsTyped}
 use Rattle.call_records.specs.declared.call_record.CallRecord.{CallRecord}
 use Rattle.run_command.specs.InParts.{AreKept, ArePlayed, IsInParts, IsKeptPart, IsPartsText, IsPlayedPart, KeepsPart, KeepsBooks, KeepsCalls, PartSaid, joined_parts, own_books, with_part}
 use Rattle.run_command.specs.Played.{IsPlayedRun, run_of}
@@ -146,6 +147,12 @@ keeps_both output.Book books later lines more new kept kept_more kept_new adds g
 keeps_both (output.Calls clock) books later lines more new kept kept_more kept_new adds grown are also = tt
 keeps_both (output.Trace clock) books later lines more new kept kept_more kept_new adds grown are also = adds books later are also
 
+-- the books that are kept are typed, so they are
+typed_kept : (kept : RunOutput) (said : PartSaid) (part : Part) → kept ≡ output.Book → KeepsPart kept said part → All IsTyped part.books.items → All IsTyped said.books
+typed_kept kept said part is keeps typed =
+    let own : KeepsPart output.Book said part = subst (λ (o : RunOutput). KeepsPart o said part) is keeps in
+    subst (λ (l : List Closed). All IsTyped l) own.books typed
+
 -- ---- what all parts come to
 
 module _ (ask : RunAsk) (setup : Setup) (firsts : List ℕ) (rows : ℕ → List ScriptRow) where
@@ -179,8 +186,9 @@ pub in_parts : (asked : ℕ) (ask : RunAsk) (setup : Setup) (rows : List ScriptR
     → 1 + length firsts ≡ part_count asked (length setup.accounts)
     → AreParts firsts (payer_of (with_digits setup.subscribers) (map script_event rows)) rows scripts → ArePlayed ask setup firsts scripts parts
     → ((output : RunOutput) (said : List PartSaid) → AreKept output said parts → KeepsPart output (joined_parts said) whole)
-    → ((said : PartSaid) → KeepsPart ask.output said whole → IsPartsText ask.output setup.tariff said.books said.calls text) → IsInParts asked ask setup rows text whole.refusals
-in_parts asked ask setup rows firsts scripts parts whole text count divided played joins printed =
+    → ((said : PartSaid) → KeepsPart ask.output said whole → IsPartsText ask.output setup.tariff said.books said.calls text) → (ask.output ≡ output.Book → All IsTyped whole.books.items)
+    → IsInParts asked ask setup rows text whole.refusals
+in_parts asked ask setup rows firsts scripts parts whole text count divided played joins printed typed =
     let payer = payer_of (with_digits setup.subscribers) (map script_event rows) in
     let own : (part : ℕ) → part < length parts → get_or scripts part [] ≡ part_rows firsts payer rows part =
     λ part within. divided.each part (let all = played.count in let many = divided.count in omega (arith, all, many, within)) in
@@ -195,5 +203,6 @@ in_parts asked ask setup rows firsts scripts parts whole text count divided play
       all = said.count ∙ played.count ∙ divided.count;
       each = λ part d within. let same : 0 + part ≡ part = omega arith in subst (λ n. IsPlayedPart ask setup firsts n (part_rows firsts payer rows n) (get_or said.said part d)) same (said.each part d within);
       printed = printed (joined_parts said.said) keeps;
+      typed = λ is. typed_kept ask.output (joined_parts said.said) whole is keeps (typed is);
       refused = keeps.refusals;
     }

@@ -1,11 +1,13 @@
 -- What a run of an input says, from what its rows came to over its setup.
-use Rattle.std.proofs.Common.{◌≡◌, ◌∙◌, ℕ, List, [], map, length, ap, subst, arith}
+use Rattle.std.proofs.Common.{◌≡◌, ◌<◌, ◌∙◌, ℕ, List, [], map, length, ap, subst, arith}
 use Rattle.std.specs.List.{flat_map}
+use Rattle.std.specs.Prelude.{slice_index_or}
 use Rattle.run_laws.specs.Runs.{HasAccounts}
 use Rattle.run_command.proofs.Resaid.{part_said_alike}
 use Rattle.run_command.specs.Answers.{IsRunOf, RunSaid}
 use Rattle.run_command.specs.Books.{AreBooksOf, IsSetupOf}
 use Rattle.run_command.specs.InParts.{IsInParts, IsPartOf, IsPartsText, IsPlayedPart, IsRunInParts, PartSaid}
+use Rattle.run_command.specs.Joined.{AreAllParts, JoinedBooksHaveAllAccounts, JoinedBooksPass}
 use Rattle.run_command.specs.Laws.{PlayedBooksPass, PlayedCallsHavePaid}
 use Rattle.run_command.specs.Played.{AreWhole, IsWhole}
 use Rattle.run_command.specs.Plays.{IsGivenBy}
@@ -107,18 +109,24 @@ module _ (paid : PlayedCallsHavePaid) (ask : RunAsk) (said : RunInput) (setup : 
 some_said : PartSaid
 some_said = record { books = []; calls = []; refusals = none_refused }
 
-pub parts_said : PlayedCallsHavePaid → (asked : ℕ) (ask : RunAsk) (input : List ℕ) (setup : Setup) (rows : List ScriptRow) (text : List ℕ) (refusals : Refusals)
+pub parts_said : PlayedCallsHavePaid → JoinedBooksHaveAllAccounts → JoinedBooksPass → (asked : ℕ) (ask : RunAsk) (input : List ℕ) (setup : Setup) (rows : List ScriptRow) (text : List ℕ) (refusals : Refusals)
     → IsStartOf ask input setup rows → IsInParts asked ask setup rows text refusals → IsRunInParts asked ask input text refusals
-parts_said paid asked ask input setup rows text refusals start is =
+parts_said paid have pass asked ask input setup rows text refusals start is =
+    let workers = (is.each 0 some_said (let all = is.all in omega (arith, all))).workers in
+    let each : (part : ℕ) (d : PartSaid) → part < length is.parts → IsPartOf ask start.said is.firsts part (slice_index_or is.parts part d) =
+    λ part d within. part_of_input paid ask start.said setup rows start.of_input start.range.accounts start.says is.firsts part _ (is.each part d within) in
+    let are : AreAllParts ask start.said is.firsts is.parts = record { workers = workers; range = start.range; all = is.all; each = each } in
     record {
       said = start.said;
       read = start.read;
-      workers = (is.each 0 some_said (let all = is.all in omega (arith, all))).workers;
+      workers = workers;
       firsts = is.firsts;
       count = is.count ∙ ap (λ a. part_count asked (length a)) start.of_input.accounts;
       parts = is.parts;
       all = is.all;
-      each = λ part d within. part_of_input paid ask start.said setup rows start.of_input start.range.accounts start.says is.firsts part _ (is.each part d within);
+      each = each;
       printed = subst (λ (t : List Band). IsPartsText ask.output t (flat_map (λ part. part.books) is.parts) (flat_map (λ part. part.calls) is.parts) text) start.of_input.tariff is.printed;
       refused = is.refused;
+      accounts = have ask start.said is.firsts is.parts are;
+      passes = λ asked_for. pass ask start.said is.firsts is.parts are (is.typed asked_for);
     }

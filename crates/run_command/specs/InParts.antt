@@ -1,15 +1,17 @@
 -- A run that is played in parts.
 use Rattle.std.specs.Prelude.{◌≡◌, ◌<◌, ◌==◌, ◌+◌, ◌++◌, ℕ, true, List, [], ◌∷◌, Ok, length, map, slice_index_or}
-use Rattle.std.specs.List.{filter, flat_map}
+use Rattle.std.specs.List.{All, filter, flat_map}
 use Rattle.std.specs.List.Sorted.{IsNonDecreasingBy}
+use Rattle.std.specs.Map.{keys_of}
 use Rattle.book_texts.specs.BookTexts.{book_text, version_of}
 use Rattle.book_texts.specs.RunTexts.{AreLinesOf, IsRunText, LinesSaid}
+use Rattle.book_texts.specs.Typed.{IsTyped}
 use Rattle.call_records.specs.Records.{AreRecords, Run}
 use Rattle.call_records.specs.Tables.{call_text}
 use Rattle.call_records.specs.declared.call_record.CallRecord.{CallRecord}
 use Rattle.moment_texts.specs.declared.clock.Clock.{Clock}
 use Rattle.run_command.specs.Books.{AreBooksOf}
-use Rattle.run_command.specs.Laws.{CallsHavePaid}
+use Rattle.run_command.specs.Laws.{CallsHavePaid, PassTheirAudits}
 use Rattle.run_command.specs.Plays.{IsGivenBy}
 use Rattle.run_command.specs.Refused.{added_up, refusals_counted_in, with_refusals}
 use Rattle.run_command.specs.declared.parts.Part.{Part}
@@ -97,6 +99,10 @@ pub record IsRunInParts (asked : ℕ) (ask : RunAsk) (input text : List ℕ) (re
   pub each : (part : ℕ) (d : PartSaid) → part < length parts → IsPartOf ask said firsts part (slice_index_or parts part d)
   pub printed : IsPartsText ask.output said.tariff (flat_map (λ part. part.books) parts) (flat_map (λ part. part.calls) parts) text
   pub refused : refusals ≡ added_up (map (λ part. part.refusals) parts)
+  -- the books are those of all accounts of the input, in order
+  pub accounts : map (λ book. book.account) (flat_map (λ part. part.books) parts) ≡ keys_of said.setup.accounts
+  -- a long audit of their table says yes for each account, and so does a short one where that takes as many rows
+  pub passes : ask.output ≡ output.Book → PassTheirAudits (flat_map (λ part. part.books) parts)
 
 -- ---- of the rows of a script, over a setup
 
@@ -150,4 +156,5 @@ pub record IsInParts (asked : ℕ) (ask : RunAsk) (setup : Setup) (rows : List S
   pub each : (part : ℕ) (d : PartSaid) → part < length parts
       → IsPlayedPart ask setup firsts part (part_rows firsts (payer_of (with_digits setup.subscribers) (map script_event rows)) rows part) (slice_index_or parts part d)
   pub printed : IsPartsText ask.output setup.tariff (flat_map (λ part. part.books) parts) (flat_map (λ part. part.calls) parts) text
+  pub typed : ask.output ≡ output.Book → All IsTyped (flat_map (λ part. part.books) parts)
   pub refused : refusals ≡ added_up (map (λ part. part.refusals) parts)

@@ -1,6 +1,7 @@
 pub mod Answers
 pub mod Books
 pub mod InParts
+pub mod Joined
 pub mod Laws
 pub mod Listening
 pub mod Played

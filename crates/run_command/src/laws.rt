@@ -1,6 +1,7 @@
 //! What holds of a run, each the contract of a function that does nothing.
 
 ghost use Rattle.std.specs.Prelude.{◌≡◌, ◌++◌, true, List};
+ghost use Rattle.run_command.specs.Joined.{JoinedBooksHaveAllAccounts, JoinedBooksPass};
 ghost use Rattle.run_command.specs.Laws.{PlayedBooksPass, PlayedCallsHavePaid};
 ghost use Rattle.run_command.specs.Plays.{HearsItsRounds, IsPlayOf};
 ghost use Rattle.run_texts.specs.declared.script.ScriptRow.{ScriptRow};
@@ -30,6 +31,16 @@ pub(crate) fn is_played(player: &ScriptPlayer)
 /// and `MAX_ACCOUNTS` histories of `MAX_LIMIT` entries have fewer rows than that takes.
 pub(crate) fn played_books_pass()
     ensures { PlayedBooksPass }
+{
+    reports_are_in_range();
+    runs_pass_the_audit::<TurnAccount>();
+}
+
+/// The joined books of all parts of a run are those of its accounts, in order, and their table
+/// passes the audit as that of a run that isn't in parts.
+pub(crate) fn joined_books_pass()
+    ensures accounts { JoinedBooksHaveAllAccounts }
+    ensures pass { JoinedBooksPass }
 {
     reports_are_in_range();
     runs_pass_the_audit::<TurnAccount>();

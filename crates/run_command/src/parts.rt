@@ -3,6 +3,7 @@
 ghost use Rattle.std.specs.Prelude.{◌≡◌, ◌≤◌, ◌==◌, [], All, IfOk, IfErr, List, OnOk, string_bytes, true};
 ghost use Rattle.std.specs.List.{filter};
 ghost use Rattle.book_texts.specs.RunTexts.{AreLinesOf};
+ghost use Rattle.book_texts.specs.Typed.{IsTyped};
 ghost use Rattle.run_command.specs.Answers.{MayFail};
 ghost use Rattle.run_command.specs.InParts.{AreKept, IsInParts, IsKeptPart, IsMergedText, IsPartsText, KeepsPart, KeepsBooks, KeepsCalls, PartSaid, joined_parts, own_books, with_part};
 ghost use Rattle.run_options.specs.declared.options.RunOutput.{RunOutput};
@@ -194,8 +195,9 @@ fn print_joined(
     setup: &RunSetup,
     whole: Part,
 ) -> Result<String, AllocError>
-    ensures { IfOk result (λ text. (said : PartSaid) → KeepsPart output said whole
+    ensures text { IfOk result (λ text. (said : PartSaid) → KeepsPart output said whole
         → IsPartsText output setup.now.tariff said.books said.calls (string_bytes text)) }
+    ensures typed { output ≡ RunOutput.Book → OnOk result (All IsTyped whole.books.items) }
 {
     let Part {
         lines,

@@ -55,6 +55,7 @@ pub fn run<R: Wait + Threads + Sync>(
     let Start { setup, script } = set_up(alloc, options, input)?;
     laws::played_books_pass();
     laws::played_calls_have_paid();
+    laws::joined_books_pass();
     match options.played_parts() {
         None => Ok(run_whole(rt, alloc, options, &setup, script)?),
         Some(parts) => Ok(run_in_parts(rt, alloc, options, parts, &setup, script)?),
