@@ -7,4 +7,4 @@ use Rattle.run_values.proofs.directory.Directory.account.Goals as goal
 pub invariant_of-self-2 : goal.invariant_of-self-2
 invariant_of-self-2 c =
     rw c.in_ok-insert.ensures.entries
-    (All-values-insert_entry nat_cmp c.args.number c.args.opening (λ opening. opening_is_in_range opening ≡ true) c.self.inside.accounts.entries c.self.invariant (sym c.is_in_range.ensures ∙ c.if-not-opening_is_in_range.false))
+    (All-values-insert_entry nat_cmp c.args.number c.args.opening (λ opening. opening_is_in_range opening ≡ true) c.self.inside.accounts.entries c.self.invariant (sym c.is_in_range.ensures ∙ c.if-not-is_in_range.false))
