@@ -42,10 +42,10 @@ all_pass : {X : Type 0} (test : X → Bool) (xs : List X) → ((x : X) → test 
 all_pass test [] each = refl
 all_pass test (x ∷ xs) each = rw (each x) (ap (λ l. x ∷ l) (all_pass test xs each))
 
-shares_all : (given : List (ℕ × Body)) → share 1 given 0 ≡ numbered 0 given
+pub shares_all : (given : List (ℕ × Body)) → share 1 given 0 ≡ numbered 0 given
 shares_all given = all_pass (λ (item : Item). worker_of 1 item.body == 0) (numbered 0 given) (λ item. goes_there item.body)
 
-answers_all : (given : List (ℕ × Body)) (answers : List Answer) → length answers ≡ length given → answers_to 1 0 given answers ≡ answers
+pub answers_all : (given : List (ℕ × Body)) (answers : List Answer) → length answers ≡ length given → answers_to 1 0 given answers ≡ answers
 answers_all [] [] many = refl
 answers_all [] (answer ∷ answers) many = absurd (cc)
 answers_all (item ∷ given) [] many = absurd (cc)
@@ -77,7 +77,7 @@ own_all (event ∷ history) all =
 abbrev pub histories_of : List Closed → List (List EntryData)
 histories_of books = map (λ book. book.history) books
 
-own_lists : (books : List Closed) → All (λ book. All (λ event. event.seat < 1) book.history) books → lists_of 0 books ≡ histories_of books
+pub own_lists : (books : List Closed) → All (λ book. All (λ event. event.seat < 1) book.history) books → lists_of 0 books ≡ histories_of books
 own_lists [] all = refl
 own_lists (book ∷ books) all =
     let P : Closed → Type 0 = λ b. All (λ event. event.seat < 1) b.history in
@@ -85,13 +85,13 @@ own_lists (book ∷ books) all =
     let later = own_lists books (All-tail P book books all) in
     ap (λ l. l ∷ lists_of 0 books) here ∙ ap (λ l. book.history ∷ l) later
 
-abbrev opening_at : List (ℕ × OpeningCredit) → ℕ → ℕ
+abbrev pub opening_at : List (ℕ × OpeningCredit) → ℕ → ℕ
 opening_at accounts place = (slice_index_or accounts place (0, no_credit)).1.amount
 
-abbrev until_at : List (ℕ × OpeningCredit) → ℕ → Option ℕ
+abbrev pub until_at : List (ℕ × OpeningCredit) → ℕ → Option ℕ
 until_at accounts place = (slice_index_or accounts place (0, no_credit)).1.until
 
-are_legal : (limit : ℕ) (accounts : List (ℕ × OpeningCredit)) (books : List Closed) (place : ℕ) → map (terms_shown 1) books ≡ map (terms_with limit 1) accounts
+pub are_legal : (limit : ℕ) (accounts : List (ℕ × OpeningCredit)) (books : List Closed) (place : ℕ) → map (terms_shown 1) books ≡ map (terms_with limit 1) accounts
     → All (λ book. IsLegal book.opening book.until book.history) books → place < length accounts
     → IsLegal (opening_at accounts place) (until_at accounts place) (slice_index_or (histories_of books) place [])
 are_legal limit [] books place opened legal within = absurd (omega (arith, within))
@@ -110,7 +110,7 @@ are_legal limit (account ∷ accounts) (book ∷ books) (suc place) opened legal
 
 -- ---- two runs
 
-none_is_fault : (answers : List Answer) → NoneIsRefused answers → NoFault (views_of answers)
+pub none_is_fault : (answers : List Answer) → NoneIsRefused answers → NoFault (views_of answers)
 none_is_fault [] none = tt
 none_is_fault (answer ∷ answers) none =
     let P : Answer → Type 0 = λ a. a.refused ≡ None in (All-head P answer answers none, none_is_fault answers (All-tail P answer answers none))

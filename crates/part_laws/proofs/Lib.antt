@@ -1,0 +1,6 @@
+pub mod Apart
+pub mod Blind
+pub mod Choosing
+pub mod Lines
+pub mod Plain
+pub mod Records

@@ -1,0 +1,24 @@
+-- Accounts don't interfere: a run that is given only what some accounts are concerned with comes to their books, and answers as one that is given all.
+use Rattle.std.specs.Prelude.{◌≡◌, ℕ, List, map}
+use Rattle.live_recovery.specs.Laws.{NoneIsRefused}
+use Rattle.part_laws.specs.Chosen.{AreByAccount, Choice, HasBooksOf, answers_for, chosen}
+use Rattle.part_laws.specs.Numbers.{said_by}
+use Rattle.run_values.specs.Setups.{Setup}
+use Rattle.run_values.specs.declared.post.Answer.{Answer}
+use Rattle.run_values.specs.declared.post.Body.{Body}
+use Rattle.runs_core.specs.Runs.{IsRun}
+use Rattle.shared_account.specs.Closed.{Closed}
+use Rattle.shared_account.specs.Seen.{StoodIn}
+use Rattle.tariff_core.specs.Laws.{IsProper}
+
+-- a run was given the items of some accounts, and another one all items: its answers say what the other's say to these items, and it has the books of these accounts
+pub record IsOfTheChosen (choice : Choice) (given : List (ℕ × Body)) (answers own_answers : List Answer) (books own_books : List Closed) : Type 0 where
+  pub answers_are : map said_by own_answers ≡ map said_by (answers_for choice given answers)
+  pub books_are : HasBooksOf choice books own_books
+
+-- so it is of two runs of one worker over one setup, where each call goes with the account of the subscriber who begins it, and no ask was refused in either
+abbrev pub AccountsDontInterfere : Type 0
+AccountsDontInterfere =
+    (setup : Setup) (choice : Choice) (given : List (ℕ × Body)) (answers own_answers : List Answer) (books own_books : List Closed) → IsProper setup.tariff
+    → AreByAccount setup choice given → IsRun StoodIn setup 1 given answers books → IsRun StoodIn setup 1 (chosen choice given) own_answers own_books
+    → NoneIsRefused answers → NoneIsRefused own_answers → IsOfTheChosen choice given answers own_answers books own_books

@@ -1,0 +1,4 @@
+pub mod Chosen
+pub mod Laws
+pub mod Numbers
+pub mod Printed

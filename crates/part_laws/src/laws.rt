@@ -1,0 +1,33 @@
+//! The laws of a run in parts, each the contract of a function that does nothing else.
+
+ghost use Rattle.part_laws.specs.Laws.{AccountsDontInterfere};
+ghost use Rattle.part_laws.specs.Printed.{LinesHaveNoNumbers, RecordsAreThoseOfAll};
+
+use book_texts::books_have_one_text;
+
+/// Accounts don't interfere. One run of one worker is given items, and another over the same setup
+/// just those of some accounts: the recharges of these, and the messages of the calls that their
+/// subscribers begin, and perhaps of calls that no subscriber begins. Where the tariff is proper
+/// and no account refuses an ask in either run:
+///
+/// * the second answers each of its items as the first does: the same operations, and a stray where
+///   it is one there;
+/// * its books of these accounts have the same entries in the same order, but for the numbers that
+///   settles carry, which are those of their items;
+/// * its books of the other accounts have no entry.
+pub fn accounts_dont_interfere()
+    ensures { AccountsDontInterfere }
+{}
+
+/// Books that are the same but for the numbers of settles have the same lines, byte for byte.
+pub fn lines_have_no_numbers()
+    ensures { LinesHaveNoNumbers }
+{
+    books_have_one_text();
+}
+
+/// Of two such runs, the records that the first has of the calls of these accounts are the records
+/// of the second: one of each of its calls, ascending, with the same fields.
+pub fn records_are_those_of_all()
+    ensures { RecordsAreThoseOfAll }
+{}

@@ -1,0 +1,6 @@
+//! The laws of a run in parts: what its parts come to is what one run comes to.
+#![tactic(auto)]
+
+mod laws;
+
+pub use laws::{accounts_dont_interfere, lines_have_no_numbers, records_are_those_of_all};
