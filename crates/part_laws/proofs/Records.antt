@@ -156,7 +156,7 @@ module _ (setup : Setup) (choice : Choice) where
 
   -- ---- the history of an account
 
-  chosen_account : (book : Closed) → (chosen_book choice book).account ≡ book.account
+  pub chosen_account : (book : Closed) → (chosen_book choice book).account ≡ book.account
   chosen_account book = by_own (choice.accounts book.account)
     where
       other : Closed

@@ -1,4 +1,5 @@
 pub mod Chosen
 pub mod Laws
 pub mod Numbers
+pub mod Parts
 pub mod Printed

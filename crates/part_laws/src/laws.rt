@@ -1,6 +1,7 @@
 //! The laws of a run in parts, each the contract of a function that does nothing else.
 
 ghost use Rattle.part_laws.specs.Laws.{AccountsDontInterfere};
+ghost use Rattle.part_laws.specs.Parts.{PartsAreAsOneRun};
 ghost use Rattle.part_laws.specs.Printed.{LinesHaveNoNumbers, RecordsAreThoseOfAll};
 
 use book_texts::books_have_one_text;
@@ -31,3 +32,15 @@ pub fn lines_have_no_numbers()
 pub fn records_are_those_of_all()
     ensures { RecordsAreThoseOfAll }
 {}
+
+/// The books of all parts, one part's after another's, are the books of one run, but for the
+/// numbers of settles, and have its lines, byte for byte. The parts are those of `run_parts`: each
+/// has its accounts, and of the calls those that subscribers of these begin. Each part was given
+/// just its own items of the one run, in their order, and no account refused an ask in any run.
+///
+/// That a part which is played by its own rows is given just these items no law says yet.
+pub fn parts_are_as_one_run()
+    ensures { PartsAreAsOneRun }
+{
+    books_have_one_text();
+}

@@ -3,4 +3,6 @@
 
 mod laws;
 
-pub use laws::{accounts_dont_interfere, lines_have_no_numbers, records_are_those_of_all};
+pub use laws::{
+    accounts_dont_interfere, lines_have_no_numbers, parts_are_as_one_run, records_are_those_of_all,
+};
