@@ -23,7 +23,7 @@ use Rattle.cap_values.specs.declared.number.Number.{Number}
 use Rattle.part_laws.proofs.Blind.{call_same, known_same, reverse_map}
 use Rattle.part_laws.specs.Chosen.{AreByAccount, Choice, HasBooksOf, IsByAccount, chosen, chosen_book, is_chosen}
 use Rattle.part_laws.specs.Numbers.{unnumbered, unnumbered_book, without_number, without_numbers}
-use Rattle.part_laws.specs.Printed.{RecordsAreThoseOfAll, run_of}
+use Rattle.part_laws.specs.Printed.{RecordsAreThoseOfAll, run_given}
 use Rattle.run_values.specs.Setups.{Setup, account_of}
 use Rattle.run_values.specs.declared.post.Body.{Body}
 use Rattle.run_values.specs.declared.post.Body.TheVariants.{Ssf, Recharge}
@@ -200,7 +200,7 @@ module _ (setup : Setup) (choice : Choice) where
   pasts_same call (Some account) books own_books own by same = sym (history_same account books own_books (sym (by account refl) ∙ own) same)
 
   record_too : (given : List (ℕ × Body)) (books own_books : List Closed) (call : CallRecord) → AreByAccount setup choice given → HasBooksOf choice books own_books → choice.calls call.call ≡ true
-      → IsRecord (run_of setup given books) call → IsRecord (run_of setup (chosen choice given) own_books) call
+      → IsRecord (run_given setup given books) call → IsRecord (run_given setup (chosen choice given) own_books) call
   record_too given books own_books call by same own is =
       let own_account = start_own call.call given is.start is.begins by in
       let F : Option ℕ → Type 0 = λ account. ForSome account (λ a. choice.calls call.call ≡ choice.accounts a) in
@@ -280,16 +280,16 @@ module _ (setup : Setup) (choice : Choice) where
       by_own false apart = ap is_some (first_none call start_by given apart) ∙ sym (any_none call numbers apart)
 
   each_too : (given : List (ℕ × Body)) (books own_books : List Closed) (calls : List CallRecord) → AreByAccount setup choice given → HasBooksOf choice books own_books
-      → All (IsRecord (run_of setup given books)) calls → All (IsRecord (run_of setup (chosen choice given) own_books)) (own_calls calls)
-  each_too given books own_books [] by same all = All-nil (IsRecord (run_of setup (chosen choice given) own_books))
+      → All (IsRecord (run_given setup given books)) calls → All (IsRecord (run_given setup (chosen choice given) own_books)) (own_calls calls)
+  each_too given books own_books [] by same all = All-nil (IsRecord (run_given setup (chosen choice given) own_books))
   each_too given books own_books (call ∷ calls) by same all =
-      let P = IsRecord (run_of setup given books) in
+      let P = IsRecord (run_given setup given books) in
       by_own (choice.calls call.call) refl (All-head P call calls all) (each_too given books own_books calls by same (All-tail P call calls all))
     where
-      by_own : (b : Bool) → choice.calls call.call ≡ b → IsRecord (run_of setup given books) call → All (IsRecord (run_of setup (chosen choice given) own_books)) (own_calls calls)
-          → All (IsRecord (run_of setup (chosen choice given) own_books)) (if b then call ∷ own_calls calls else own_calls calls)
+      by_own : (b : Bool) → choice.calls call.call ≡ b → IsRecord (run_given setup given books) call → All (IsRecord (run_given setup (chosen choice given) own_books)) (own_calls calls)
+          → All (IsRecord (run_given setup (chosen choice given) own_books)) (if b then call ∷ own_calls calls else own_calls calls)
       by_own true own is rest =
-          All-cons (IsRecord (run_of setup (chosen choice given) own_books)) call (own_calls calls) (record_too given books own_books call by same own is) rest
+          All-cons (IsRecord (run_given setup (chosen choice given) own_books)) call (own_calls calls) (record_too given books own_books call by same own is) rest
       by_own false own is rest = rest
 
 pub records_alike : RecordsAreThoseOfAll

@@ -28,5 +28,5 @@ unnumbered_book book =
     record { account = book.account; opening = book.opening; until = book.until; limit = book.limit; history = without_numbers book.history }
 
 -- what an answer says, so
-abbrev pub said_by : Answer → AnswerView
-said_by answer = record { number = 0; orders = orders_of answer.ops.items; stray = answer.stray; refused = answer.refused }
+abbrev pub answer_said : Answer → AnswerView
+answer_said answer = record { number = 0; orders = orders_of answer.ops.items; stray = answer.stray; refused = answer.refused }

@@ -16,12 +16,12 @@ LinesHaveNoNumbers =
     (books others : List Closed) (one other : List ℕ) → map unnumbered_book books ≡ map unnumbered_book others → IsRunText books one → IsRunText others other → one ≡ other
 
 -- a run in this setup
-abbrev pub run_of : Setup → List (ℕ × Body) → List Closed → Run
-run_of setup given books = record { setup = setup; given = given; books = books }
+abbrev pub run_given : Setup → List (ℕ × Body) → List Closed → Run
+run_given setup given books = record { setup = setup; given = given; books = books }
 
 -- the records of a run of all items, of the calls of some accounts alone, are the records of a run of these accounts' items
 abbrev pub RecordsAreThoseOfAll : Type 0
 RecordsAreThoseOfAll =
     (setup : Setup) (choice : Choice) (given : List (ℕ × Body)) (books own_books : List Closed) (calls : List CallRecord) → AreByAccount setup choice given
-    → HasBooksOf choice books own_books → AreRecords (run_of setup given books) calls
-    → AreRecords (run_of setup (chosen choice given) own_books) (filter (λ call. choice.calls call.call) calls)
+    → HasBooksOf choice books own_books → AreRecords (run_given setup given books) calls
+    → AreRecords (run_given setup (chosen choice given) own_books) (filter (λ call. choice.calls call.call) calls)
