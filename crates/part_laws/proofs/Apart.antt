@@ -15,7 +15,7 @@ use Rattle.part_laws.proofs.Choosing.{GoByAccount, HoldsPart, chain_part, chosen
 use Rattle.part_laws.proofs.Plain.{AllShown, chain_plain, plain, plain_lists, plain_post, plain_said_so}
 use Rattle.part_laws.specs.Chosen.{AreByAccount, Choice, IsByAccount, answers_for, chosen, chosen_book, is_chosen}
 use Rattle.part_laws.specs.Laws.{AccountsDontInterfere}
-use Rattle.part_laws.specs.Numbers.{answer_said, unnumbered_book, without_numbers}
+use Rattle.part_laws.specs.Numbers.{unnumbered_answer, unnumbered_book, without_numbers}
 use Rattle.run_values.specs.Openings.{no_credit}
 use Rattle.run_values.specs.Setups.{Setup}
 use Rattle.run_values.specs.declared.directory.OpeningCredit.{OpeningCredit}
@@ -106,9 +106,9 @@ module _ (setup : Setup) (choice : Choice) where
       by_own true rest = ap (λ l. answer_view answer ∷ l) rest
       by_own false rest = rest
 
-  said_same : (answers : List Answer) → map plain_said_so (map answer_view answers) ≡ map answer_said answers
+  said_same : (answers : List Answer) → map plain_said_so (map answer_view answers) ≡ map unnumbered_answer answers
   said_same [] = refl
-  said_same (answer ∷ answers) = ap (λ l. answer_said answer ∷ l) (said_same answers)
+  said_same (answer ∷ answers) = ap (λ l. unnumbered_answer answer ∷ l) (said_same answers)
 
   no_fault_plain : (answers : List AnswerView) → NoFault answers → NoFault (map plain_said_so answers)
   no_fault_plain [] none = tt

@@ -2,7 +2,7 @@
 use Rattle.std.specs.Prelude.{◌≡◌, ℕ, List, map}
 use Rattle.live_recovery.specs.Laws.{NoneIsRefused}
 use Rattle.part_laws.specs.Chosen.{AreByAccount, Choice, HasBooksOf, answers_for, chosen}
-use Rattle.part_laws.specs.Numbers.{answer_said}
+use Rattle.part_laws.specs.Numbers.{unnumbered_answer}
 use Rattle.run_values.specs.Setups.{Setup}
 use Rattle.run_values.specs.declared.post.Answer.{Answer}
 use Rattle.run_values.specs.declared.post.Body.{Body}
@@ -13,7 +13,7 @@ use Rattle.tariff_core.specs.Laws.{IsProper}
 
 -- a run was given the items of some accounts, and another one all items: its answers say what the other's say to these items, and it has the books of these accounts
 pub record IsOfTheChosen (choice : Choice) (given : List (ℕ × Body)) (answers own_answers : List Answer) (books own_books : List Closed) : Type 0 where
-  pub answers_are : map answer_said own_answers ≡ map answer_said (answers_for choice given answers)
+  pub answers_are : map unnumbered_answer own_answers ≡ map unnumbered_answer (answers_for choice given answers)
   pub books_are : HasBooksOf choice books own_books
 
 -- so it is of two runs of one worker over one setup, where each call goes with the account of the subscriber who begins it, and no ask was refused in either

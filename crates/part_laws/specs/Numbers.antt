@@ -28,5 +28,5 @@ unnumbered_book book =
     record { account = book.account; opening = book.opening; until = book.until; limit = book.limit; history = without_numbers book.history }
 
 -- what an answer says, so
-abbrev pub answer_said : Answer → AnswerView
-answer_said answer = record { number = 0; orders = orders_of answer.ops.items; stray = answer.stray; refused = answer.refused }
+abbrev pub unnumbered_answer : Answer → AnswerView
+unnumbered_answer answer = record { number = 0; orders = orders_of answer.ops.items; stray = answer.stray; refused = answer.refused }
