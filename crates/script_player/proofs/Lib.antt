@@ -10,6 +10,8 @@ pub mod Items
 pub mod DueMoments
 pub mod DueCalls
 pub mod LifeLemmas
+pub mod OnePlay
+pub mod OneSsf
 pub mod DueRows
 pub mod RoundLemmas
 pub mod AnswerLemmas

@@ -49,11 +49,11 @@ grown : (call : ℕ) (given : List (ℕ × Body)) (before after : List Happening
 grown call given before after sent same sends = items_of-own call given sent ∙ rw (same, sends) (sym (posts_of-append call (sent_in before) sent))
 
 -- a trace whose timers have run, which a gsmSSF stands for once it was given an input
-abbrev Timed : View → View → ℕ → Input → List Happening → List Out → Type 0
+abbrev pub Timed : View → View → ℕ → Input → List Happening → List Out → Type 0
 Timed before after now input trace sent = (timed : List Happening) × (RunsUntil before.config now trace timed
     × (Stands after (taken_or_refused before.config now input timed) × (sent_in (taken_or_refused before.config now input timed) ≡ sent_in trace ++ sent)))
 
-timed_by : (before after : View) (now : ℕ) (input : Input) (trace : List Happening) (sent : List Out) → GoesOnBy before after now input trace sent → Timed before after now input trace sent
+pub timed_by : (before after : View) (now : ℕ) (input : Input) (trace : List Happening) (sent : List Out) → GoesOnBy before after now input trace sent → Timed before after now input trace sent
 timed_by before after now (what.Operate op) trace sent goes = (goes.1.timed, (goes.1.runs, (goes.1.stands, goes.1.sends)))
 timed_by before after now (what.Meet event) trace sent goes = (goes.1.timed, (goes.1.runs, (goes.1.stands, goes.1.sends)))
 timed_by before after now what.Wait trace sent goes = (goes.timed, (goes.runs, (goes.stands, goes.sends)))

@@ -5,6 +5,7 @@ pub mod Dues
 pub mod Inputs
 pub mod Lives
 pub mod Networks
+pub mod OneWay
 pub mod Playing
 pub mod Plays
 pub mod Posts

@@ -2,7 +2,9 @@
 //! gsmSSF for each call.
 #![tactic(auto)]
 
+mod laws;
 mod network;
 mod player;
 
+pub use laws::plays_go_one_way;
 pub use player::ScriptPlayer;

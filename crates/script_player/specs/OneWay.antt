@@ -1,0 +1,29 @@
+-- A play goes one way: what it gives is known by its rows and by what it hears.
+use Rattle.std.specs.Prelude.{◌≡◌, ℕ, List, map}
+use Rattle.cap_values.specs.declared.operation.ScfOp.{ScfOp}
+use Rattle.run_texts.specs.declared.script.ScriptRow.{ScriptRow}
+use Rattle.run_values.specs.declared.post.Answer.{Answer}
+use Rattle.script_player.specs.Plays.{Play}
+use Rattle.script_player.specs.Runs.{HasHeard}
+use Rattle.ssf_core.specs.declared.config.SsfConfig.{SsfConfig}
+
+-- what a play hears of an answer: the number of its item, and the operations
+abbrev pub order_heard : Answer → ℕ × List ScfOp
+order_heard answer = (answer.number, answer.ops.items)
+
+-- the same of all answers, round by round
+abbrev pub orders_heard : List (List Answer) → List (List (ℕ × List ScfOp))
+orders_heard heard = map (λ answers. map order_heard answers) heard
+
+-- two plays have given the same, in the same order, wait for the same and have ended or not
+pub record HaveDoneAlike (one other : Play) : Type 0 where
+  pub given : one.network.given ≡ other.network.given
+  pub queue : one.queue ≡ other.queue
+  pub left : one.left ≡ other.left
+  pub ended : one.ended ≡ other.ended
+
+-- so it is of two plays of the same rows that hear the same, round by round
+abbrev pub PlaysGoOneWay : Type 0
+PlaysGoOneWay =
+    (config : SsfConfig) (delay : ℕ) (rows : List ScriptRow) (heard others : List (List Answer)) (one other : Play) → orders_heard heard ≡ orders_heard others
+    → HasHeard config delay rows heard one → HasHeard config delay rows others other → HaveDoneAlike one other

@@ -1,0 +1,16 @@
+//! Laws of a player, each the contract of a function that does nothing else.
+
+ghost use Rattle.script_player.specs.OneWay.{PlaysGoOneWay};
+
+use ssf_core::timers_run_one_way;
+
+/// A play goes one way. Two plays of the same rows, with gsmSSFs of the same configuration and the
+/// same delay, that hear the same operations in answer to the same items, round by round, have
+/// given the same items in the same order; the same deliveries wait, the same rows are left, and
+/// both have ended or neither has. So the order of what happens at one moment is known: deliveries
+/// as they were sent, then rows in their order, then the timers of the calls in ascending order.
+pub fn plays_go_one_way()
+    ensures { PlaysGoOneWay }
+{
+    timers_run_one_way();
+}
