@@ -51,7 +51,7 @@ answers_all [] (answer ∷ answers) many = absurd (cc)
 answers_all (item ∷ given) [] many = absurd (cc)
 answers_all (item ∷ given) (answer ∷ answers) many = rw (goes_there item.1) (ap (λ l. answer ∷ l) (answers_all given answers (omega (arith, many))))
 
-numbered_many : (first : ℕ) (given : List (ℕ × Body)) → length (numbered first given) ≡ length given
+pub numbered_many : (first : ℕ) (given : List (ℕ × Body)) → length (numbered first given) ≡ length given
 numbered_many first [] = refl
 numbered_many first (item ∷ given) = ap suc (numbered_many (first + 1) given)
 
@@ -59,7 +59,7 @@ pub as_many : (given : List (ℕ × Body)) (answers : List Answer) → AnswersEa
 as_many given answers each =
     sym (length-map answers (λ (a : Answer). a.number)) ∙ ap length each ∙ length-map (numbered 0 given) (λ (i : Item). i.number) ∙ numbered_many 0 given
 
-numbered_more : (first : ℕ) (given more : List (ℕ × Body)) → numbered first (given ++ more) ≡ numbered first given ++ numbered (first + length given) more
+pub numbered_more : (first : ℕ) (given more : List (ℕ × Body)) → numbered first (given ++ more) ≡ numbered first given ++ numbered (first + length given) more
 numbered_more first [] more = let same : first + 0 ≡ first = omega arith in ap (λ n. numbered n more) (sym same)
 numbered_more first (item ∷ given) more =
     let same : (first + 1) + length given ≡ first + suc (length given) = omega arith in

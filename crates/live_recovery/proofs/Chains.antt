@@ -44,7 +44,7 @@ pub record ChainsAreAlike (answers longer : List AnswerView) (more : List Item) 
 
 module _ (opening_at : ℕ → ℕ) (until_at : ℕ → Option ℕ) (Shows Others : ℕ → Showing) (setup : Setup) (numbers : List ℕ) (one : IsProper setup.tariff) where
   -- two posts that say the same
-  once_alike : (post other : Post) (old new again last : Holding) (answer also : AnswerView) (ends endings : List (List EntryData)) → ItemsAlike (item_of post) (item_of other)
+  pub once_alike : (post other : Post) (old new again last : Holding) (answer also : AnswerView) (ends endings : List (List EntryData)) → ItemsAlike (item_of post) (item_of other)
       → length old.lists ≡ length setup.accounts → ArePlaced (length setup.accounts) old.talks → HoldAlike old again → answer.number ≡ post.number → also.number ≡ other.number
       → answer.refused ≡ None → also.refused ≡ None → Begin new.lists ends → AreLegal opening_at until_at (length setup.accounts) ends
       → Begin last.lists endings → AreLegal opening_at until_at (length setup.accounts) endings

@@ -1,6 +1,6 @@
 -- Accounts don't interfere: a run that is given only what some accounts are concerned with comes to their books, and answers as one that is given all.
-use Rattle.std.specs.Prelude.{◌≡◌, ℕ, List, map}
-use Rattle.live_recovery.specs.Laws.{NoneIsRefused}
+use Rattle.std.specs.Prelude.{◌≡◌, ◌++◌, ℕ, List, length, map, take}
+use Rattle.live_recovery.specs.Laws.{NoneIsRefused, views_of}
 use Rattle.part_laws.specs.Chosen.{AreByAccount, Choice, HasBooksOf, answers_for, chosen}
 use Rattle.part_laws.specs.Numbers.{unnumbered_answer}
 use Rattle.run_values.specs.Setups.{Setup}
@@ -22,3 +22,10 @@ AccountsDontInterfere =
     (setup : Setup) (choice : Choice) (given : List (ℕ × Body)) (answers own_answers : List Answer) (books own_books : List Closed) → IsProper setup.tariff
     → AreByAccount setup choice given → IsRun StoodIn setup 1 given answers books → IsRun StoodIn setup 1 (chosen choice given) own_answers own_books
     → NoneIsRefused answers → NoneIsRefused own_answers → IsOfTheChosen choice given answers own_answers books own_books
+
+-- where two runs of one worker over one setup are given the same at first, they answer that alike, whatever comes behind it in either
+abbrev pub FrontsAreAnsweredAlike : Type 0
+FrontsAreAnsweredAlike =
+    (setup : Setup) (given more rest : List (ℕ × Body)) (answers others : List Answer) (books other : List Closed) → IsProper setup.tariff
+    → IsRun StoodIn setup 1 (given ++ more) answers books → IsRun StoodIn setup 1 (given ++ rest) others other → NoneIsRefused answers → NoneIsRefused others
+    → take (length given) (views_of answers) ≡ take (length given) (views_of others)

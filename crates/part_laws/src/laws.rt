@@ -1,6 +1,6 @@
 //! The laws of a run in parts, each the contract of a function that does nothing else.
 
-ghost use Rattle.part_laws.specs.Laws.{AccountsDontInterfere};
+ghost use Rattle.part_laws.specs.Laws.{AccountsDontInterfere, FrontsAreAnsweredAlike};
 ghost use Rattle.part_laws.specs.Parts.{PartsAreAsOneRun};
 ghost use Rattle.part_laws.specs.Printed.{LinesHaveNoNumbers, RecordsAreThoseOfAll};
 
@@ -18,6 +18,13 @@ use book_texts::books_have_one_text;
 /// * its books of the other accounts have no entry.
 pub fn accounts_dont_interfere()
     ensures { AccountsDontInterfere }
+{}
+
+/// Two runs of one worker over the same setup that are given the same at first answer that alike,
+/// with the same numbers, whatever comes behind it in either, where no account refuses an ask. So
+/// what a driver hears in a round is known by what it has given before.
+pub fn fronts_are_answered_alike()
+    ensures { FrontsAreAnsweredAlike }
 {}
 
 /// Books that are the same but for the numbers of settles have the same lines, byte for byte.
