@@ -4,7 +4,8 @@
 Each slip of a table is told by its line alone, and with `--explain` in front of the command by this line and the lines of
 the table behind it; the output stays empty. The same holds with CR LF at the end of each line, without an LF at the end of
 the input, and where the row is at the end of an input of 16 MB. Behind the answer of a run a line says which calls no
-subscriber makes, with the word alone, and the output stays as it is. On a pseudo-terminal a fault is explained without the word,
+subscriber makes, with the word alone, and the output stays as it is. Of an output that fails, nothing is said without the word,
+and with it why it failed, at each command. On a pseudo-terminal a fault is explained without the word,
 but not behind `--plain`, and a command says that it waits for its input.
 """
 import argparse
@@ -183,6 +184,50 @@ def answers(program):
     return None
 
 
+HELPS = ["help", "--version", "run --help"]
+FULL = "the output: No space left on device (os error 28)\n"
+CLOSED = "the output: Bad file descriptor (os error 9)\n"
+
+
+def outputs(program):
+    """What is said of an output that fails, at each command: nothing without the word, and with it why, as of a full device
+    and of a closed file."""
+    run_text = parts(script="20,,recharge,7,0\n")
+    book = run(program, "run --book", parts())[0]
+    texts = {
+        "price --fee 50 --before 1000": "before,after\n600,0\n",
+        "replay --opening 5000": "seat,op,call,x1,x2,x3,x4,x5\n0,return,1,,,,,\n",
+        "run": run_text,
+        "run --parts 1": run_text,
+        "run --workers 2 --trace": run_text,
+        "audit": book,
+        "audit --long": book,
+        "quote --called 4930 --at 0": TARIFF,
+        "rate --called called --answer answer --end end": f"{TARIFF}%%\ncalled,answer,end\n4930,0,600\n",
+        "serve": f"{TARIFF}%%\n{SETUP}%%\nmoment,number,call,from,what,x1,x2,x3,x4\n",
+    }
+    texts.update({words: "" for words in HELPS})
+    for words, text in texts.items():
+        if run(program, words, text)[2] != 0:
+            return f"{words} has no answer: {run(program, words, text)}"
+        for front, full, closed in (("", "", ""), ("--explain ", FULL, CLOSED)):
+            with open("/dev/full", "wb") as output:
+                found = failing(program, front + words, text, output)
+            if found != (full, 2):
+                return f"{front}{words} to a full device: {found} in place of {full!r}"
+            with open("/dev/null", "rb") as output:
+                found = failing(program, front + words, text, output)
+            if found != (closed, 2):
+                return f"{front}{words} to a file that is read: {found} in place of {closed!r}"
+    return None
+
+
+def failing(program, words, text, output):
+    """What is said where this is the output, and the status."""
+    done = subprocess.run([program, *words.split()], input=text.encode(), stdout=output, stderr=subprocess.PIPE, timeout=SECONDS)
+    return done.stderr.decode(), done.returncode
+
+
 def on_terminal(program, words, text=None):
     """What a terminal shows of the error writer, where the input is a text, or else what is typed there: one Ctrl-D."""
     outer, inner = pty.openpty()
@@ -238,11 +283,11 @@ def main():
     parser = argparse.ArgumentParser(description=__doc__.split("\n")[0])
     parser.add_argument("--program", default=f"{ROOT}/bin/prepaid")
     program = os.path.abspath(parser.parse_args().program)
-    for name, trial in {"slips": slips, "answers": answers, "terminals": terminals}.items():
+    for name, trial in {"slips": slips, "answers": answers, "outputs": outputs, "terminals": terminals}.items():
         if wrong := trial(program):
             print(f"explain: {name}: {wrong}")
             return 1
-    print(f"explain: {len(SLIPS)} slips in 4 forms, {len(OTHERS)} others, {len(STRANGERS)} answers, and a terminal: as the pages say")
+    print(f"explain: {len(SLIPS)} slips in 4 forms, {len(OTHERS)} others, {len(STRANGERS)} answers, failed outputs, and a terminal: as the pages say")
     return 0
 
 

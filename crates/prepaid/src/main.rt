@@ -3,7 +3,7 @@
 //! somebody sits at a terminal.
 #![tactic(auto)]
 
-use prepaid_command::{Fault, command};
+use prepaid_command::{Fault, Noting, command};
 use std::alloc::AllocError;
 use std::io::{BufReader, IsTerminal};
 use std::process::ExitCode;
@@ -34,7 +34,7 @@ fn main(rt: HostRuntime) -> ExitCode {
                 &rt,
                 words.as_slice(),
                 input,
-                &mut io::writer(&rt),
+                &mut Noting::new(io::writer(&rt)),
                 &mut rt.stderr(),
             )
         }

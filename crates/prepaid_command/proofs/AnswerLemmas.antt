@@ -1,5 +1,5 @@
 -- An answer to a wish is an answer to the words that ask for it.
-use Rattle.std.proofs.Common.{◌≡◌, ℕ, Bool, true, false, List, Option, Some, None, Result, Ok, Err, ap, refl, ◌∙◌, subst, sym, inl, inr}
+use Rattle.std.proofs.Common.{◌≡◌, ℕ, Bool, true, false, List, Option, Some, None, Result, Ok, Err, ap, refl, ◌∙◌, subst, subst₂, sym, inl, inr}
 use Rattle.std.specs.Prelude.{◌⊎◌, ⊤, IfErr, IfNone, IfOk, IfSome, MatchResult, option_map, if◌then◌else◌, length, nat_lt}
 use Rattle.std.specs.Result.{result_map_both}
 use Rattle.book_texts.specs.Books.{Books, books_of}
@@ -261,7 +261,7 @@ module _ {V W X : Type 0} (items : V → List ℕ) (text_of : W → List ℕ) (v
       → IfNone kept (IfErr answer (λ why. IfSome more (λ m. slip_of (has_parts wish) why ≡ None)))
       → IfSome kept (λ bytes. IfErr answer (λ why. IfSome more (λ said. IsSaidOfFault (has_parts wish) (items bytes) why (text_of said))))
       → IfSome known (λ text. IfOk (result_map_both view (λ why. why) answer) (λ printout. IfSome (option_map text_of more) (λ said. IsAdded words text said)))
-      → IsSaidOrReported (option_map text_of more) (result_map_both view (λ why. why) ending_answer) status old new → Answers words known status old new
+      → IsSaidOrReported explaining (option_map text_of more) (result_map_both view (λ why. why) ending_answer) status old new → Answers words known status old new
   wished wish of_input asked is same_answer explains_is only same none said added ending = record {
     answer = result_map_both view (λ why. why) answer;
     answered = answered_known words known wish of_input (result_map_both view (λ why. why) answer) asked is;
@@ -269,7 +269,7 @@ module _ {V W X : Type 0} (items : V → List ℕ) (text_of : W → List ℕ) (v
     only = λ off. none_said text_of more (only (explains_is ∙ off));
     said = said_over words items text_of view known kept more answer wish asked same none said;
     added = added;
-    printed = subst (λ (a : Result X Fault). IsSaidOrReported (option_map text_of more) (result_map_both view (λ why. why) a) status old new) same_answer ending;
+    printed = subst₂ (λ (on : Bool) (a : Result X Fault). IsSaidOrReported on (option_map text_of more) (result_map_both view (λ why. why) a) status old new) explains_is same_answer ending;
   }
 
 pub price_wished : (plan : Rates) (input : List ℕ) (answer : Result Printout Fault) → IsAnswerTo (Prices plan) input answer → IfErr answer IsOfInput
@@ -284,7 +284,8 @@ about_texts text_of P (Some m) is = is
 
 module _ (words : List (List ℕ)) (status : ℕ) (old new : Written) where
   -- the help or the version
-  pub helped : (known : Option (List ℕ)) (printout : Printout) (text : List ℕ) → AsksHelp words ⊎ AsksVersion words → printout ≡ plain text → IsSaidOrReported None (Ok printout) status old new
+  pub helped : (known : Option (List ℕ)) (printout : Printout) (text : List ℕ) → AsksHelp words ⊎ AsksVersion words → printout ≡ plain text
+      → IsSaidOrReported (explains words) None (Ok printout) status old new
       → Answers words known status old new
   helped None printout text asked is ending = record { answer = Ok printout; answered = tt; more = None; only = λ off. refl; said = tt; added = tt; printed = ending }
   helped (Some input) printout text asked is ending =
@@ -292,7 +293,7 @@ module _ (words : List (List ℕ)) (status : ℕ) (old new : Written) where
 
   -- words that are refused, and what is said of them
   pub refused : (known more : Option (List ℕ)) (why : WordsFault) (fault : Fault) → IsRead words (Err why) → fault ≡ of_words why → (explains words ≡ false → more ≡ None)
-      → (IfSome more (λ said. IsOfWords fault)) → IsSaidOrReported more (Err fault) status old new → Answers words known status old new
+      → (IfSome more (λ said. IsOfWords fault)) → IsSaidOrReported (explains words) more (Err fault) status old new → Answers words known status old new
   refused None more why fault read is only of_words ending = record { answer = Err fault; answered = tt; more = more; only = only; said = tt; added = tt; printed = ending }
   refused (Some input) more why fault read is only of_words ending = record {
     answer = Err fault;
@@ -307,17 +308,18 @@ module _ (words : List (List ℕ)) (status : ℕ) (old new : Written) where
 module _ {W X : Type 0} (text_of : W → List ℕ) (view : X → Printout) (words : List (List ℕ)) (status : ℕ) (old new : Written) (known : Option (List ℕ)) (more : Option W)
     (ending_answer : Result X Fault) where
   -- the same, as the code says it
-  pub helped_plainly : (answer : X) (text : List ℕ) → AsksHelp words ⊎ AsksVersion words → view answer ≡ plain text → ending_answer ≡ Ok answer → more ≡ None
-      → IsSaidOrReported (option_map text_of more) (result_map_both view (λ why. why) ending_answer) status old new → Answers words known status old new
-  helped_plainly answer text asked is answer_is none ending =
-      let said : IsSaidOrReported (option_map text_of more) (Ok (view answer)) status old new =
-      subst (λ (a : Result X Fault). IsSaidOrReported (option_map text_of more) (result_map_both view (λ why. why) a) status old new) answer_is ending in
-      helped words status old new known (view answer) text asked is (subst (λ (m : Option W). IsSaidOrReported (option_map text_of m) (Ok (view answer)) status old new) none said)
+  pub helped_plainly : (explaining : Bool) (answer : X) (text : List ℕ) → AsksHelp words ⊎ AsksVersion words → view answer ≡ plain text → explaining ≡ explains words
+      → ending_answer ≡ Ok answer → more ≡ None
+      → IsSaidOrReported explaining (option_map text_of more) (result_map_both view (λ why. why) ending_answer) status old new → Answers words known status old new
+  helped_plainly explaining answer text asked is explains_is answer_is none ending =
+      let said : IsSaidOrReported (explains words) (option_map text_of more) (Ok (view answer)) status old new =
+      subst₂ (λ (on : Bool) (a : Result X Fault). IsSaidOrReported on (option_map text_of more) (result_map_both view (λ why. why) a) status old new) explains_is answer_is ending in
+      helped words status old new known (view answer) text asked is (subst (λ (m : Option W). IsSaidOrReported (explains words) (option_map text_of m) (Ok (view answer)) status old new) none said)
 
   pub refused_words_printed : (explaining : Bool) (why : WordsFault) → IsRead words (Err why) → ending_answer ≡ Err (of_words why) → explaining ≡ explains words
       → (explaining ≡ false → more ≡ None) → IfSome more (λ said. IsOfWords (of_words why))
-      → IsSaidOrReported (option_map text_of more) (result_map_both view (λ why. why) ending_answer) status old new → Answers words known status old new
+      → IsSaidOrReported explaining (option_map text_of more) (result_map_both view (λ why. why) ending_answer) status old new → Answers words known status old new
   refused_words_printed explaining why read answer_is explains_is only about ending =
       refused words status old new known (option_map text_of more) why (of_words why) read refl (λ off. none_said text_of more (only (explains_is ∙ off)))
       (about_texts text_of (IsOfWords (of_words why)) more about)
-      (subst (λ (a : Result X Fault). IsSaidOrReported (option_map text_of more) (result_map_both view (λ why. why) a) status old new) answer_is ending)
+      (subst₂ (λ (on : Bool) (a : Result X Fault). IsSaidOrReported on (option_map text_of more) (result_map_both view (λ why. why) a) status old new) explains_is answer_is ending)

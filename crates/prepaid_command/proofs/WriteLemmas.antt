@@ -1,8 +1,11 @@
--- Two texts that are written one behind the other.
+-- Two texts that are written one behind the other, and an output of which nothing is said.
 use Rattle.std.proofs.Common.{◌≡◌, ℕ, zero, suc, ◌+◌, Bool, true, false, List, [], ◌∷◌, ◌++◌, length, take, Option, Some, None, refl, ap, ◌∙◌, append_assoc}
 use Rattle.std.proofs.Math.Seq.{take-append-add}
+use Rattle.std.specs.Prelude.{codes}
 use Rattle.std.specs.Io.KnownBytes.{Appends}
+use Rattle.rating.proofs.FrontLemmas.{none_written, still_held}
 use Rattle.rating.specs.Fronts.{AppendsFront, Writes}
+use Rattle.prepaid_command.specs.Outputs.{IsSaidOfOutput}
 
 -- a front of the first text is one of both
 abbrev IsFront : List ℕ → List ℕ → List ℕ → Type 0
@@ -38,3 +41,12 @@ both_written old now new first second one other =
 pub wholly : (old new : Option (List ℕ)) (text : List ℕ) (all : Bool) → all ≡ true → Writes old new text all → Appends old new text
 wholly old new text true is wrote = wrote
 wholly old new text false is wrote = cc
+
+nothing_said : (known : Option (List ℕ)) → IsSaidOfOutput true known known
+nothing_said known =
+    let line : List ℕ = codes "the output: " ++ ([] ++ codes "\n") in (line, (record { why = []; says = refl }, (0, none_written known line)))
+
+-- nothing was said, since the line has no room
+pub none_said : (explaining : Bool) (known : Option (List ℕ)) → IsSaidOfOutput explaining known known
+none_said true known = nothing_said known
+none_said false known = still_held known

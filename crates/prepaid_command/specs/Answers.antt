@@ -1,5 +1,5 @@
 -- What the program answers to words and an input.
-use Rattle.std.specs.Prelude.{◌≡◌, ◌⊎◌, ◌++◌, ℕ, true, List, [], MatchResult, Option, Some, None, Result, Ok, Err, ⊤, IfErr, IfOk, IfSome, codes, false, unwrap_or}
+use Rattle.std.specs.Prelude.{◌≡◌, ◌⊎◌, ◌++◌, ℕ, Bool, true, List, [], MatchResult, Option, Some, None, Result, Ok, Err, ⊤, IfErr, IfOk, IfSome, codes, false, unwrap_or}
 use Rattle.std.specs.Io.KnownBytes.{Appends, Keeps}
 use Rattle.std.specs.Result.{result_map_both}
 use Rattle.answer_command.specs.Inputs.{live_input_of}
@@ -35,6 +35,7 @@ use Rattle.rating.specs.declared.fault.RateFault.{RateFault}
 use Rattle.rating.specs.declared.tally.Tally.{Tally}
 use Rattle.rating.specs.Fronts.{AppendsFront}
 use Rattle.prepaid_command.specs.Input.{sized, sized_as}
+use Rattle.prepaid_command.specs.Outputs.{IsSaidOfOutput}
 use Rattle.prepaid_command.specs.PriceLines.{price_lines}
 use Rattle.prepaid_command.specs.Quotes.{IsQuoteText}
 use Rattle.prepaid_command.specs.Replays.{replayed}
@@ -142,11 +143,11 @@ pub record IsPrinted (printout : Printout) (more : List ℕ) (status : ℕ) (old
   pub whole : Appends old.output new.output printout.text
   pub line : AppendsFront old.faults new.faults (printout.refused ++ more)
 
--- the output failed, at status 2: a front of the text went to it, and nothing to the error writer
-pub record IsCutOff (printout : Printout) (status : ℕ) (old new : Written) : Type 0 where
+-- the output failed, at status 2: a front of the text went to it, and to the error writer what is said of that
+pub record IsCutOff (explaining : Bool) (printout : Printout) (status : ℕ) (old new : Written) : Type 0 where
   pub status_is : status ≡ 2
   pub front : AppendsFront old.output new.output printout.text
-  pub faults : Keeps old.faults new.faults
+  pub faults : IsSaidOfOutput explaining old.faults new.faults
 
 -- the line of a fault went to the error writer, or where that failed a front of it. The output stays as it was
 pub record IsReported (why : Fault) (status : ℕ) (old new : Written) : Type 0 where
@@ -161,10 +162,10 @@ pub record IsReportedWith (why : Fault) (text : List ℕ) (status : ℕ) (old ne
   pub output : Keeps old.output new.output
 
 -- an answer was printed, or a fault reported, and what is said of it
-abbrev pub IsSaidOrReported : Option (List ℕ) → Result Printout Fault → ℕ → Written → Written → Type 0
-IsSaidOrReported more (Ok printout) status old new = IsPrinted printout (unwrap_or more []) status old new ⊎ IsCutOff printout status old new
-IsSaidOrReported None (Err why) status old new = IsReported why status old new
-IsSaidOrReported (Some text) (Err why) status old new = IsReportedWith why text status old new
+abbrev pub IsSaidOrReported : Bool → Option (List ℕ) → Result Printout Fault → ℕ → Written → Written → Type 0
+IsSaidOrReported explaining more (Ok printout) status old new = IsPrinted printout (unwrap_or more []) status old new ⊎ IsCutOff explaining printout status old new
+IsSaidOrReported explaining None (Err why) status old new = IsReported why status old new
+IsSaidOrReported explaining (Some text) (Err why) status old new = IsReportedWith why text status old new
 
 -- the status and what was written are of one answer, which is that to the words and the input, where this is known
 pub record Answers (words : List (List ℕ)) (input : Option (List ℕ)) (status : ℕ) (old new : Written) : Type 0 where
@@ -176,18 +177,18 @@ pub record Answers (words : List (List ℕ)) (input : Option (List ℕ)) (status
   pub said : IfSome input (λ text. IfErr answer (λ why. IfSome more (λ said. IsSaidBy words text why said)))
   -- and behind an answer: nothing but of a run
   pub added : IfSome input (λ text. IfOk answer (λ printout. IfSome more (λ said. IsAdded words text said)))
-  pub printed : IsSaidOrReported more answer status old new
+  pub printed : IsSaidOrReported (explains words) more answer status old new
 
 -- ---- records that are rated as they come
 
--- what is said of a fault to the error writer: its line or a front of it, at its status; of an output that failed nothing, at status 2
-abbrev pub IsSaid : Option Fault → ℕ → Option (List ℕ) → Option (List ℕ) → Type 0
-IsSaid None status old new = (status ≡ 2) × Keeps old new
-IsSaid (Some why) status old new = (status ≡ status_of why) × AppendsFront old new (line_of_fault why ++ codes "\n")
+-- what is said of a fault to the error writer: its line or a front of it, at its status; of an output that failed what is said of that, at status 2
+abbrev pub IsSaid : Bool → Option Fault → ℕ → Option (List ℕ) → Option (List ℕ) → Type 0
+IsSaid explaining None status old new = (status ≡ 2) × IsSaidOfOutput explaining old new
+IsSaid explaining (Some why) status old new = (status ≡ status_of why) × AppendsFront old new (line_of_fault why ++ codes "\n")
 
--- the line of a failed input or of memory that ran out, or nothing where the output failed
-abbrev pub IsOfFailure : Option (List ℕ) → Option (List ℕ) → Type 0
-IsOfFailure old new = Keeps old new ⊎ AppendsFront old new (line_of_fault fault.Device ++ codes "\n") ⊎ AppendsFront old new (line_of_fault (fault.Run run.OutOfMemory) ++ codes "\n")
+-- the line of a failed input or of memory that ran out, or what is said of an output that failed
+abbrev pub IsOfFailure : Bool → Option (List ℕ) → Option (List ℕ) → Type 0
+IsOfFailure explaining old new = IsSaidOfOutput explaining old new ⊎ AppendsFront old new (line_of_fault fault.Device ++ codes "\n") ⊎ AppendsFront old new (line_of_fault (fault.Run run.OutOfMemory) ++ codes "\n")
 
 -- all rows were rated and printed: the status says whether all are right, and the summary went to the error writer where it was asked for, or a front of it
 pub record IsRatedInput (wish : RateWish) (text : List ℕ) (status : ℕ) (old new : Written) : Type 0 where
@@ -205,37 +206,38 @@ pub record IsRatingRefused (wish : RateWish) (text : List ℕ) (status : ℕ) (o
   pub reported : IsReported fault status old new
 
 -- the input, memory or the output failed, at status 2: a front of the text was printed, or nothing, and of a line about it a front, or nothing
-pub record IsBroken (wish : RateWish) (text : List ℕ) (status : ℕ) (old new : Written) : Type 0 where
+pub record IsBroken (explaining : Bool) (wish : RateWish) (text : List ℕ) (status : ℕ) (old new : Written) : Type 0 where
   pub status_is : status ≡ 2
   pub front : Keeps old.output new.output ⊎ IsInPart wish.differing (rate_input_of wish.names text) old.output new.output
-  pub line : IsOfFailure old.faults new.faults
+  pub line : IsOfFailure explaining old.faults new.faults
 
 -- how records that are rated as they come were printed: whole, refused, or broken off
-abbrev pub IsRatedByWish : RateWish → List ℕ → ℕ → Written → Written → Type 0
-IsRatedByWish wish text status old new = IsRatedInput wish text status old new ⊎ IsRatingRefused wish text status old new ⊎ IsBroken wish text status old new
+abbrev pub IsRatedByWish : Bool → RateWish → List ℕ → ℕ → Written → Written → Type 0
+IsRatedByWish explaining wish text status old new =
+    IsRatedInput wish text status old new ⊎ IsRatingRefused wish text status old new ⊎ IsBroken explaining wish text status old new
 
 -- the words ask for records to be rated, and so they were
 pub record RatesAsAsked (words : List (List ℕ)) (input : Option (List ℕ)) (status : ℕ) (old new : Written) : Type 0 where
   pub wish : RateWish
   pub asked : AsksFor words (RatesRecords wish)
-  pub rated : IfSome input (λ text. IsRatedByWish wish text status old new)
+  pub rated : IfSome input (λ text. IsRatedByWish (explains words) wish text status old new)
 
 -- ---- messages that are answered as they come
 
 -- how the service ended: at status 0, where it has printed all, and then nothing is said; else by the line of its fault
-abbrev pub IsServeEnd : Result (Unit {0}) ServeError → ℕ → Option (List ℕ) → Option (List ℕ) → Type 0
-IsServeEnd (Ok done) status old new = (status ≡ 0) × Keeps old new
-IsServeEnd (Err why) status old new = IsSaid (of_serve why) status old new
+abbrev pub IsServeEnd : Bool → Result (Unit {0}) ServeError → ℕ → Option (List ℕ) → Option (List ℕ) → Type 0
+IsServeEnd explaining (Ok done) status old new = (status ≡ 0) × Keeps old new
+IsServeEnd explaining (Err why) status old new = IsSaid explaining (of_serve why) status old new
 
 -- the output and the status are of one end of the service, which is that over this input, where this is known
-pub record IsServedInput (ask : LiveAsk) (log : Option LogWish) (input : Option (List ℕ)) (status : ℕ) (old new : Written) : Type 0 where
+pub record IsServedInput (explaining : Bool) (ask : LiveAsk) (log : Option LogWish) (input : Option (List ℕ)) (status : ℕ) (old new : Written) : Type 0 where
   pub result : Result (Unit {0}) ServeError
   pub serves : IfSome input (λ text. ServesBy ask log (live_input_of text) old.output new.output result)
-  pub ends : IsServeEnd result status old.faults new.faults
+  pub ends : IsServeEnd explaining result status old.faults new.faults
 
 -- the words ask for the service, and so an input was answered
 pub record ServesAsAsked (words : List (List ℕ)) (input : Option (List ℕ)) (status : ℕ) (old new : Written) : Type 0 where
   pub ask : LiveAsk
   pub log : Option LogWish
   pub asked : AsksFor words (Serves ask log)
-  pub served : IsServedInput ask log input status old new
+  pub served : IsServedInput (explains words) ask log input status old new

@@ -5,6 +5,7 @@ pub mod Explanations
 pub mod Faults
 pub mod Files
 pub mod Input
+pub mod Outputs
 pub mod PriceLines
 pub mod Quotes
 pub mod Refused

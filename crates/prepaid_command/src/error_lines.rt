@@ -2,7 +2,9 @@
 
 ghost use Rattle.std.specs.Prelude.{◌≡◌, ◌++◌, [], codes, IfOk, OnOk};
 ghost use Rattle.rating.specs.Fronts.{AppendsFront};
+ghost use Rattle.prepaid_command.specs.Answers.{IsSaid};
 ghost use Rattle.prepaid_command.specs.Faults.{line_of_fault, status_of};
+ghost use Rattle.prepaid_command.specs.Outputs.{IsOutputLine, IsSaidOfOutput};
 ghost use Rattle.prepaid_command.specs.Refused.{kinds_of, refused_line, with_kind};
 
 use crate::Fault;
@@ -87,6 +89,58 @@ pub(crate) fn report_with<E: io::Write>(faults: &mut E, fault: Fault, more: &[u8
         write_both(faults, line.as_str().as_bytes(), more);
     }
     fault.status()
+}
+
+/// The status of an answer that is printed as it comes and didn't come to its end: its fault is
+/// reported; without one the output failed.
+pub(crate) fn report_end<E: io::Write>(
+    faults: &mut E,
+    explains: bool,
+    fault: Option<Fault>,
+    failed: Option<io::Error>,
+) -> u8
+    ensures { IsSaid explains fault result (E.contents faults.old) (E.contents faults.new) }
+{
+    match fault {
+        Some(fault) => report(faults, fault),
+        None => {
+            tell_output(faults, explains, failed);
+            2
+        }
+    }
+}
+
+/// Says why an output failed, where that is asked for. The line takes no memory.
+pub(crate) fn tell_output<E: io::Write>(faults: &mut E, explains: bool, failed: Option<io::Error>)
+    ensures { IsSaidOfOutput explains (E.contents faults.old) (E.contents faults.new) }
+{
+    if !explains {
+        return;
+    }
+    if let Ok(line) = output_line(failed) {
+        write_text(faults, line.as_str().as_bytes());
+    }
+}
+
+/// The line that says why an output failed.
+fn output_line(failed: Option<io::Error>) -> Result<ArrayString<MOST_BYTES>, fmt::Error>
+    ensures { IfOk result (λ line. IsOutputLine line.bytes) }
+{
+    let why = words_of(failed);
+    let mut line = ArrayString::new();
+    writeln!(line, "the output: {why}")?;
+    Ok(line)
+}
+
+/// What an error says; of a writer that has no error, and took nothing more, just that.
+fn words_of(failed: Option<io::Error>) -> ArrayString<MOST_BYTES> {
+    let mut why = ArrayString::new();
+    // Where there is no room for all of it, a front of it is said.
+    let _ = match failed {
+        Some(error) => write!(why, "{error}"),
+        None => why.write_str("it takes no more"),
+    };
+    why
 }
 
 /// Writes a text and another behind it, as far as the writer takes them.

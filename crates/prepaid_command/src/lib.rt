@@ -7,6 +7,7 @@ mod error_lines;
 mod fault;
 mod files;
 mod input;
+mod noting;
 mod price_lines;
 mod program;
 mod quoting;
@@ -19,4 +20,5 @@ mod stranger_lines;
 
 pub use fault::{Fault, Part};
 pub use input::MAX_INPUT;
+pub use noting::Noting;
 pub use program::command;

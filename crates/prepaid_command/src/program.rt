@@ -14,9 +14,10 @@ ghost use Rattle.prepaid_command.specs.Printouts.{printout_of};
 
 use crate::answer::Answer;
 use crate::ending::Ending;
-use crate::error_lines::{refused_line, report, report_with, write_both};
+use crate::error_lines::{refused_line, report, report_with, tell_output, write_both};
 use crate::fault::{Fault, Part};
 use crate::input::read_input;
+use crate::noting::Noting;
 use crate::price_lines::print_reports;
 use crate::quoting::print_quote;
 use crate::rating_rows::rate_input;
@@ -50,39 +51,55 @@ use tariff_core::Plan;
 /// and of `serve` are printed as they come, so where their input, a log or memory fails in the
 /// middle, `output` has what was printed before. Where the accounts of a run refused anything, a
 /// line about it goes to `faults` behind the answer. Where `output` failed, what went to it is a
-/// front of the answer, and nothing goes to `faults`; a failing `faults` has a front of the line,
-/// and changes no status.
+/// front of the answer, and `faults` gets a line that says why where faults are explained, else
+/// nothing; a failing `faults` has a front of its line, and changes no status.
 pub fn command<R, S: AsStr, I: BufRead + Drop, O: Write, E: Write>(
     rt: &R,
     words: &[S],
     input: I,
-    output: &mut O,
+    output: &mut Noting<O>,
     faults: &mut E,
 ) -> u8
 where
     R: AllocGlobal + Wait + Threads + Sync + Files<File = File>,
     ensures answers { Answers (map S.text words.now) (I.remaining input) result
-        (record { output = O.contents output.old; faults = E.contents faults.old })
-        (record { output = O.contents output.new; faults = E.contents faults.new })
+        (record { output = O.contents output.old.inner; faults = E.contents faults.old })
+        (record { output = O.contents output.new.inner; faults = E.contents faults.new })
         ⊎ RatesAsAsked (map S.text words.now) (I.remaining input) result
-        (record { output = O.contents output.old; faults = E.contents faults.old })
-        (record { output = O.contents output.new; faults = E.contents faults.new })
+        (record { output = O.contents output.old.inner; faults = E.contents faults.old })
+        (record { output = O.contents output.new.inner; faults = E.contents faults.new })
         ⊎ ServesAsAsked (map S.text words.now) (I.remaining input) result
-        (record { output = O.contents output.old; faults = E.contents faults.old })
-        (record { output = O.contents output.new; faults = E.contents faults.new }) }
-    ensures silent { result ≡ 1 → Keeps (O.contents output.old) (O.contents output.new) }
+        (record { output = O.contents output.old.inner; faults = E.contents faults.old })
+        (record { output = O.contents output.new.inner; faults = E.contents faults.new }) }
+    ensures silent { result ≡ 1
+        → Keeps (O.contents output.old.inner) (O.contents output.new.inner) }
 {
     let alloc = rt.alloc();
     let explains = explains(words);
     let mut kept = None;
     match read_words(alloc, words) {
-        Ok(Request::Help(text)) => tell(output, faults, Ending::plain(Ok(Answer::plain(text)))),
-        Ok(Request::Version(text)) => tell(output, faults, Ending::plain(Ok(Answer::plain(text)))),
+        Ok(Request::Help(text)) => {
+            tell(
+                output,
+                faults,
+                explains,
+                Ending::plain(Ok(Answer::plain(text))),
+            )
+        }
+        Ok(Request::Version(text)) => {
+            tell(
+                output,
+                faults,
+                explains,
+                Ending::plain(Ok(Answer::plain(text))),
+            )
+        }
         Ok(Request::Price(plan)) => {
             let answer = price_reports(alloc, &plan, input, &mut kept);
             tell(
                 output,
                 faults,
+                explains,
                 Ending::over(alloc, explains, false, &kept, answer),
             )
         }
@@ -91,6 +108,7 @@ where
             tell(
                 output,
                 faults,
+                explains,
                 Ending::over(alloc, explains, false, &kept, answer),
             )
         }
@@ -99,6 +117,7 @@ where
             tell(
                 output,
                 faults,
+                explains,
                 Ending::of_run(alloc, explains, &options, &kept, answer),
             )
         }
@@ -112,6 +131,7 @@ where
             tell(
                 output,
                 faults,
+                explains,
                 Ending::of_files(alloc, explains, &options, &kept, &failed, answer),
             )
         }
@@ -120,6 +140,7 @@ where
             tell(
                 output,
                 faults,
+                explains,
                 Ending::over(alloc, explains, false, &kept, answer),
             )
         }
@@ -128,32 +149,38 @@ where
             tell(
                 output,
                 faults,
+                explains,
                 Ending::over(alloc, explains, false, &kept, answer),
             )
         }
-        Ok(Request::Rate(ask)) => rate_input(alloc, &ask, input, output, faults),
+        Ok(Request::Rate(ask)) => rate_input(alloc, &ask, input, output, faults, explains),
         Ok(Request::Serve(options, log)) => {
-            serve_messages(rt, alloc, &options, log, input, output, faults)
+            serve_messages(rt, alloc, &options, log, input, output, faults, explains)
         }
-        Err(why) => tell(
-            output,
-            faults,
-            Ending::of_words(alloc, explains, words, why),
-        ),
+        Err(why) => {
+            let ending = Ending::of_words(alloc, explains, words, why);
+            tell(output, faults, explains, ending)
+        }
     }
 }
 
 /// Prints an answer, or reports a fault, with what is said of it, and gives the status.
-fn tell<O: Write, E: Write>(output: &mut O, faults: &mut E, ending: Ending) -> u8
-    ensures printed { IsSaidOrReported (option_map string_bytes ending.more)
+fn tell<O: Write, E: Write>(
+    output: &mut Noting<O>,
+    faults: &mut E,
+    explains: bool,
+    ending: Ending,
+) -> u8
+    ensures printed { IsSaidOrReported explains (option_map string_bytes ending.more)
         (result_map_both printout_of (λ fault. fault) ending.answer) result
-        (record { output = O.contents output.old; faults = E.contents faults.old })
-        (record { output = O.contents output.new; faults = E.contents faults.new }) }
-    ensures silent { result ≡ 1 → Keeps (O.contents output.old) (O.contents output.new) }
+        (record { output = O.contents output.old.inner; faults = E.contents faults.old })
+        (record { output = O.contents output.new.inner; faults = E.contents faults.new }) }
+    ensures silent { result ≡ 1
+        → Keeps (O.contents output.old.inner) (O.contents output.new.inner) }
 {
     match (ending.answer, ending.more) {
-        (Ok(answer), None) => print(output, faults, &answer, &[]),
-        (Ok(answer), Some(more)) => print(output, faults, &answer, more.as_bytes()),
+        (Ok(answer), None) => print(output, faults, explains, &answer, &[]),
+        (Ok(answer), Some(more)) => print(output, faults, explains, &answer, more.as_bytes()),
         (Err(fault), None) => report(faults, fault),
         (Err(fault), Some(more)) => report_with(faults, fault, more.as_bytes()),
     }
@@ -271,18 +298,25 @@ fn quote_input<I: Read + Drop>(
 
 /// The status of an answer: its own where the whole text went to the output, and then the line
 /// about refusals to the error writer, with what is said besides; 2 where the output failed.
-fn print<O: Write, E: Write>(output: &mut O, faults: &mut E, answer: &Answer, more: &[u8]) -> u8
+fn print<O: Write, E: Write>(
+    output: &mut Noting<O>,
+    faults: &mut E,
+    explains: bool,
+    answer: &Answer,
+    more: &[u8],
+) -> u8
     ensures printed { IsPrinted (printout_of answer.now) more.now result
-        (record { output = O.contents output.old; faults = E.contents faults.old })
-        (record { output = O.contents output.new; faults = E.contents faults.new })
-        ⊎ IsCutOff (printout_of answer.now) result
-        (record { output = O.contents output.old; faults = E.contents faults.old })
-        (record { output = O.contents output.new; faults = E.contents faults.new }) }
+        (record { output = O.contents output.old.inner; faults = E.contents faults.old })
+        (record { output = O.contents output.new.inner; faults = E.contents faults.new })
+        ⊎ IsCutOff explains (printout_of answer.now) result
+        (record { output = O.contents output.old.inner; faults = E.contents faults.old })
+        (record { output = O.contents output.new.inner; faults = E.contents faults.new }) }
 {
     if write_text(output, answer.text.as_bytes()) && output.flush().is_ok() {
         tell_refusals(faults, &answer.refusals, more);
         answer.status()
     } else {
+        tell_output(faults, explains, output.failed);
         2
     }
 }

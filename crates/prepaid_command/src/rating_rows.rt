@@ -5,14 +5,14 @@ ghost use Rattle.std.specs.Io.KnownBytes.{Keeps};
 ghost use Rattle.rating.specs.Fronts.{AppendsFront};
 ghost use Rattle.rating.specs.SaidOf.{rate_wish_of};
 ghost use Rattle.rating.specs.Tallies.{IsBoundedTally};
-ghost use Rattle.prepaid_command.specs.Answers.{IsRatedByWish, IsSaid};
-ghost use Rattle.prepaid_command.specs.Faults.{of_rate};
+ghost use Rattle.prepaid_command.specs.Answers.{IsRatedByWish};
 ghost use Rattle.prepaid_command.specs.Summaries.{counts_text, status_of_rating, sums_text, summary_line};
 
-use crate::error_lines::report;
+use crate::error_lines::report_end;
 use crate::fault::Fault;
+use crate::noting::Noting;
 use arrayvec::ArrayString;
-use rating::{RateAsk, RateFault, Tally, rate, write_text};
+use rating::{RateAsk, Tally, rate, write_text};
 use std::alloc::Global;
 use std::fmt::{self, Write as WriteText};
 use std::io::{Read, Write};
@@ -27,18 +27,20 @@ pub(crate) fn rate_input<I: Read + Drop, O: Write, E: Write>(
     alloc: Global,
     ask: &RateAsk<'_>,
     input: I,
-    output: &mut O,
+    output: &mut Noting<O>,
     faults: &mut E,
+    explains: bool,
 ) -> u8
-    ensures rated { IfSome (I.remaining input) (λ text. IsRatedByWish
-        (rate_wish_of ask.now) text result
-        (record { output = O.contents output.old; faults = E.contents faults.old })
-        (record { output = O.contents output.new; faults = E.contents faults.new })) }
-    ensures silent { result ≡ 1 → Keeps (O.contents output.old) (O.contents output.new) }
+    ensures rated { IfSome (I.remaining input) (λ text.
+        IsRatedByWish explains (rate_wish_of ask.now) text result
+        (record { output = O.contents output.old.inner; faults = E.contents faults.old })
+        (record { output = O.contents output.new.inner; faults = E.contents faults.new })) }
+    ensures silent { result ≡ 1
+        → Keeps (O.contents output.old.inner) (O.contents output.new.inner) }
 {
     match rate(alloc, ask, input, output) {
         Ok(tally) => tell_tally(faults, ask.summary, &tally),
-        Err(why) => tell_fault(faults, why),
+        Err(why) => report_end(faults, explains, Fault::of_rate(why), output.failed),
     }
 }
 
@@ -53,17 +55,6 @@ fn tell_tally<E: Write>(faults: &mut E, summary: bool, tally: &Tally) -> u8
         write_summary(faults, tally);
     }
     if tally.passes() { 0 } else { 3 }
-}
-
-/// Reports why records weren't rated to their end, and gives the status: 2, and nothing is said,
-/// where the output failed.
-fn tell_fault<E: Write>(faults: &mut E, why: RateFault) -> u8
-    ensures { IsSaid (of_rate why) result (E.contents faults.old) (E.contents faults.new) }
-{
-    match Fault::of_rate(why) {
-        Some(fault) => report(faults, fault),
-        None => 2,
-    }
 }
 
 /// Writes the summary.

@@ -6,13 +6,14 @@ ghost use Rattle.run_options.specs.Logs.{log_wish_of};
 ghost use Rattle.run_options.specs.Options.{live_ask_of};
 ghost use Rattle.prepaid_command.specs.Answers.{IsServeEnd, IsServedInput};
 
-use crate::error_lines::report;
+use crate::error_lines::report_end;
 use crate::fault::Fault;
+use crate::noting::Noting;
 use answer_command::{ServeError, serve_input};
 use run_options::{LiveOptions, LogAsk};
 use std::alloc::Global;
 use std::fs::File;
-use std::io::{BufRead, Write};
+use std::io::{BufRead, Error, Write};
 use std::rt::Files;
 use std::sync::Wait;
 use std::thread::Threads;
@@ -26,31 +27,34 @@ pub(crate) fn serve_messages<R, I: BufRead + Drop, O: Write, E: Write>(
     options: &LiveOptions,
     log: Option<LogAsk<'_>>,
     input: I,
-    output: &mut O,
+    output: &mut Noting<O>,
     faults: &mut E,
+    explains: bool,
 ) -> u8
 where
     R: Wait + Threads + Sync + Files<File = File>,
-    ensures served { IsServedInput (live_ask_of options.now) (option_map log_wish_of log.entry)
+    ensures served { IsServedInput explains (live_ask_of options.now) (option_map log_wish_of log.entry)
         (I.remaining input) result
-        (record { output = O.contents output.old; faults = E.contents faults.old })
-        (record { output = O.contents output.new; faults = E.contents faults.new }) }
-    ensures silent { result ≡ 1 → Keeps (O.contents output.old) (O.contents output.new) }
+        (record { output = O.contents output.old.inner; faults = E.contents faults.old })
+        (record { output = O.contents output.new.inner; faults = E.contents faults.new }) }
+    ensures silent { result ≡ 1
+        → Keeps (O.contents output.old.inner) (O.contents output.new.inner) }
 {
     let ended = serve_input(rt, alloc, options, log, input, output);
-    tell_end(faults, ended)
+    tell_end(faults, explains, ended, output.failed)
 }
 
-/// Reports why an input wasn't served to its end, and gives the status: 2, and nothing is said,
-/// where the output failed.
-fn tell_end<E: Write>(faults: &mut E, ended: Result<(), ServeError>) -> u8
-    ensures { IsServeEnd ended result (E.contents faults.old) (E.contents faults.new) }
+/// Reports why an input wasn't served to its end, and gives the status.
+fn tell_end<E: Write>(
+    faults: &mut E,
+    explains: bool,
+    ended: Result<(), ServeError>,
+    failed: Option<Error>,
+) -> u8
+    ensures { IsServeEnd explains ended result (E.contents faults.old) (E.contents faults.new) }
 {
     match ended {
         Ok(()) => 0,
-        Err(why) => match Fault::of_serve(why) {
-            Some(fault) => report(faults, fault),
-            None => 2,
-        },
+        Err(why) => report_end(faults, explains, Fault::of_serve(why), failed),
     }
 }

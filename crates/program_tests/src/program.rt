@@ -1,6 +1,6 @@
 //! The program over words and a text.
 
-use prepaid_command::command;
+use prepaid_command::{Noting, command};
 use std::alloc::{AllocError, Global};
 use std::fs::File;
 use std::io::{BufReader, Read, Write};
@@ -41,7 +41,8 @@ where
     let Ok(input) = BufReader::new(rt.alloc(), input) else {
         return Err(AllocError);
     };
-    Ok(command(rt, words.as_slice(), input, output, faults))
+    let mut output = Noting::new(output);
+    Ok(command(rt, words.as_slice(), input, &mut output, faults))
 }
 
 /// Runs a line of words over an input, and compares the status and all that was written.

@@ -14,19 +14,19 @@ use Rattle.prepaid_command.proofs.program.command.Goals as goal
 
 pub returns-in-Ok-Help-clause-answers : goal.returns-in-Ok-Help-clause-answers
 returns-in-Ok-Help-clause-answers g c =
-    inl (helped_plainly string_bytes printout_of _ _ _ _ (g.I.Read.remaining c.args.input) c.plain-in-Ok-Help.result.more c.plain-in-Ok-Help.result.answer c.plain.result _
-    (inl (rw c.in-Ok-Help.field-0-is at c.in-Ok-Help.ensures)) c.plain.ensures c.plain-in-Ok-Help.ensures.answer c.plain-in-Ok-Help.ensures.more c.tell.ensures.printed)
+    inl (helped_plainly string_bytes printout_of _ _ _ _ (g.I.Read.remaining c.args.input) c.plain-in-Ok-Help.result.more c.plain-in-Ok-Help.result.answer c.explains-explains.result c.plain.result _
+    (inl (rw c.in-Ok-Help.field-0-is at c.in-Ok-Help.ensures)) c.plain.ensures c.explains-explains.ensures c.plain-in-Ok-Help.ensures.answer c.plain-in-Ok-Help.ensures.more c.tell.ensures.printed)
 
 pub returns-in-Ok-Version-clause-answers : goal.returns-in-Ok-Version-clause-answers
 returns-in-Ok-Version-clause-answers g c =
     inl (helped_plainly string_bytes printout_of _ _ _ _ (g.I.Read.remaining c.args.input) c.plain-in-Ok-Version-2.result.more c.plain-in-Ok-Version-2.result.answer
-    c.plain-in-Ok-Version.result _ (inr (rw c.in-Ok-Version.field-0-is at c.in-Ok-Version.ensures)) c.plain-in-Ok-Version.ensures c.plain-in-Ok-Version-2.ensures.answer
+    c.explains-explains.result c.plain-in-Ok-Version.result _ (inr (rw c.in-Ok-Version.field-0-is at c.in-Ok-Version.ensures)) c.plain-in-Ok-Version.ensures c.explains-explains.ensures c.plain-in-Ok-Version-2.ensures.answer
     c.plain-in-Ok-Version-2.ensures.more c.tell-in-Ok-Version.ensures.printed)
 
 pub returns-in-Err-clause-answers : goal.returns-in-Err-clause-answers
 returns-in-Err-clause-answers g c =
-    inl (refused_words_printed string_bytes printout_of _ _ _ _ (g.I.Read.remaining c.args.input) c.of_words.result.more c.of_words.result.answer c.explains-explains.result c.in-Err.why
-    c.in-Err.ensures c.of_words.ensures.answer c.explains-explains.ensures c.of_words.ensures.only c.of_words.ensures.words c.tell-in-Err.ensures.printed)
+    inl (refused_words_printed string_bytes printout_of _ _ _ _ (g.I.Read.remaining c.args.input) c.of_words-ending.result.more c.of_words-ending.result.answer c.explains-explains.result c.in-Err.why
+    c.in-Err.ensures c.of_words-ending.ensures.answer c.explains-explains.ensures c.of_words-ending.ensures.only c.of_words-ending.ensures.words c.tell-in-Err.ensures.printed)
 
 pub returns-in-Ok-Price-clause-answers : goal.returns-in-Ok-Price-clause-answers
 returns-in-Ok-Price-clause-answers g c =
@@ -90,7 +90,7 @@ pub returns-in-Ok-Rate-clause-answers : goal.returns-in-Ok-Rate-clause-answers
 returns-in-Ok-Rate-clause-answers g c = inr (inl (record {
   wish = rate_wish_of c.in-Ok-Rate.ask;
   asked = rw c.in-Ok-Rate.field-0-is at c.in-Ok-Rate.ensures;
-  rated = c.rate_input.ensures.rated;
+  rated = rw c.explains-explains.ensures at c.rate_input.ensures.rated;
 }))
 
 pub returns-in-Ok-Serve-clause-answers : goal.returns-in-Ok-Serve-clause-answers
@@ -98,5 +98,5 @@ returns-in-Ok-Serve-clause-answers g c = inr (inr (record {
   ask = live_ask_of c.in-Ok-Serve.options;
   log = option_map log_wish_of c.in-Ok-Serve.log;
   asked = rw c.in-Ok-Serve.field-0-is at c.in-Ok-Serve.ensures;
-  served = c.serve_messages.ensures.served;
+  served = rw c.explains-explains.ensures at c.serve_messages.ensures.served;
 }))
