@@ -97,6 +97,13 @@ impl ScriptPlayer {
             sound: true,
         })
     }
+
+    /// The rows that it has taken, in order.
+    pub fn rows_taken(&self) -> &[ScriptRow]
+        ensures { result.now ≡ self.now.taken }
+    {
+        &self.rows[..self.taken]
+    }
 }
 
 impl Driver for ScriptPlayer {
