@@ -6,15 +6,18 @@ the table behind it; the output stays empty. The same holds with CR LF at the en
 the input, and where the row is at the end of an input of 16 MB. Behind the answer of a run a line says which calls no
 subscriber makes, with the word alone, and the output stays as it is. Of an output that fails, nothing is said without the word,
 and with it why it failed, at each command. On a pseudo-terminal a fault is explained without the word,
-but not behind `--plain`, and a command says that it waits for its input.
+but not behind `--plain`, and a command says that it waits for its input; and a run of more than two seconds shows there how far it
+is, and takes that away at its end.
 """
 import argparse
 import os
 import pty
+import re
 import subprocess
 import sys
 import tempfile
 import threading
+import time
 
 ROOT = os.path.dirname(os.path.dirname(os.path.abspath(__file__)))
 MAX_INPUT = 16_777_216
@@ -279,15 +282,66 @@ def terminals(program):
     return None
 
 
+# What shows how far a run is, and what takes that away.
+SHOWN = re.compile(r"\r(?:moment (\d+), row (\d+) of (\d+)|part (\d+) of (\d+), moment (\d+))\x1b\[K")
+TAKEN = "\r\x1b[K"
+# Runs, how many parts they have, and whether their parts come one after another. All but those of two workers print the same.
+LONG_RUNS = [("run --workers 1", 1, True), ("run --parts 4", 4, True), ("run --parts 16 --threads 2", 16, False), ("run --workers 2", 1, True)]
+
+
+def long_input(program):
+    """An input whose run takes four seconds at least, with a call of a number that no subscriber has, and its lines."""
+    for hold in (120, 1200, 7200):
+        words = [sys.executable, f"{ROOT}/examples/generate.py", "--calls", "150000", "--rate", "60000", "--hold", str(hold)]
+        text = subprocess.run(words, capture_output=True, check=True).stdout.decode()
+        text += text[text.rindex("\n", 0, -1) + 1 :].split(",")[0] + ",1000000,start,1,4930\n"
+        start = time.monotonic()
+        lines, faults, status = run(program, "run --workers 1", text)
+        if (faults, status) != ("", 0):
+            sys.exit(f"explain: a long run: {faults} {status}")
+        if time.monotonic() - start > 4:
+            return text, lines
+    sys.exit("explain: no input takes four seconds")
+
+
+def progress(program):
+    """What a terminal shows of how far a run is: its rows and their moments, or its parts, and at the end only what is said of
+    it. The output is what it is without a terminal."""
+    text, lines = long_input(program)
+    script = text.split("%%\n")[2].splitlines()
+    said = "1 call of a number that no subscriber has: 1000000\n"
+    for words, parts_of_all, in_order in LONG_RUNS:
+        shown, output, status = on_terminal(program, words, text)
+        if status or words != "run --workers 2" and output != lines or not output:
+            return f"{words} on a terminal: another output, status {status}"
+        *steps, end = shown.split(TAKEN)
+        if end != said or not "".join(steps):
+            return f"{words} on a terminal: {shown[-300:]!r}"
+        if SHOWN.sub("", "".join(steps)):
+            return f"{words} on a terminal: {SHOWN.sub('', ''.join(steps))[:300]!r}"
+        rows = []
+        for moment, row, last, part, of_parts, _ in SHOWN.findall("".join(steps)):
+            if parts_of_all > 1 and not (1 <= int(part or 0) <= int(of_parts) == parts_of_all):
+                return f"{words} shows part {part} of {of_parts}"
+            if parts_of_all == 1 and (int(last or 0) != len(script) or script[int(row) - 1].split(",")[0] != moment):
+                return f"{words} shows moment {moment}, row {row} of {last}"
+            rows.append(int(part or row))
+        if in_order and rows != sorted(rows) or len(rows) < 3:
+            return f"{words} shows {rows}"
+    if (found := on_terminal(program, "--plain run --workers 1", text)) != ("", lines, 0):
+        return f"--plain run on a terminal: {found[0]!r} {found[2]}"
+    return None
+
+
 def main():
     parser = argparse.ArgumentParser(description=__doc__.split("\n")[0])
     parser.add_argument("--program", default=f"{ROOT}/bin/prepaid")
     program = os.path.abspath(parser.parse_args().program)
-    for name, trial in {"slips": slips, "answers": answers, "outputs": outputs, "terminals": terminals}.items():
+    for name, trial in {"slips": slips, "answers": answers, "outputs": outputs, "terminals": terminals, "progress": progress}.items():
         if wrong := trial(program):
             print(f"explain: {name}: {wrong}")
             return 1
-    print(f"explain: {len(SLIPS)} slips in 4 forms, {len(OTHERS)} others, {len(STRANGERS)} answers, failed outputs, and a terminal: as the pages say")
+    print(f"explain: {len(SLIPS)} slips in 4 forms, {len(OTHERS)} others, {len(STRANGERS)} answers, failed outputs, a terminal, and long runs on it: as the pages say")
     return 0
 
 

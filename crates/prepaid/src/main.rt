@@ -3,7 +3,7 @@
 //! somebody sits at a terminal.
 #![tactic(auto)]
 
-use prepaid_command::{Fault, Noting, command};
+use prepaid_command::{Fault, Noting, Terminal, command};
 use std::alloc::AllocError;
 use std::io::{BufReader, IsTerminal};
 use std::process::ExitCode;
@@ -36,6 +36,7 @@ fn main(rt: HostRuntime) -> ExitCode {
                 input,
                 &mut Noting::new(io::writer(&rt)),
                 &mut rt.stderr(),
+                &Terminal::new(&rt, watches(&rt, words.as_slice())),
             )
         }
         _ => {
@@ -60,6 +61,16 @@ fn words(rt: &HostRuntime) -> io::Result<Vec<String>> {
         words.insert(0, String::from_str(alloc, "--explain")?)?;
     }
     Ok(words)
+}
+
+/// Whether it is shown how far a run is: standard error is a terminal, and the words don't begin
+/// with `--plain`.
+fn watches(rt: &HostRuntime, words: &[String]) -> bool {
+    let is_plain = match words.first() {
+        Some(word) => word.as_str() == "--plain",
+        None => false,
+    };
+    !is_plain && rt.stderr().is_terminal()
 }
 
 /// Whether words ask for a command, which waits for its input.

@@ -17,8 +17,10 @@ mod reports;
 mod running;
 mod serving;
 mod stranger_lines;
+mod terminal;
 
 pub use fault::{Fault, Part};
 pub use input::MAX_INPUT;
 pub use noting::Noting;
 pub use program::command;
+pub use terminal::Terminal;

@@ -28,7 +28,7 @@ use crate::serving::serve_messages;
 use book_texts::{AuditAsk, BookSize, audit_books};
 use command_words::{Opening, QuoteAsk, Request, explains, read_words};
 use rating::write_text;
-use run_command::Refusals;
+use run_command::{Refusals, Watch};
 use run_texts::read_tariff;
 use std::alloc::Global;
 use std::convert::AsStr;
@@ -53,12 +53,15 @@ use tariff_core::Plan;
 /// line about it goes to `faults` behind the answer. Where `output` failed, what went to it is a
 /// front of the answer, and `faults` gets a line that says why where faults are explained, else
 /// nothing; a failing `faults` has a front of its line, and changes no status.
-pub fn command<R, S: AsStr, I: BufRead + Drop, O: Write, E: Write>(
+///
+/// While a run goes on, `watch` is shown how far it is; nothing else depends on that.
+pub fn command<R, S: AsStr, I: BufRead + Drop, O: Write, E: Write, W: Watch + Sync>(
     rt: &R,
     words: &[S],
     input: I,
     output: &mut Noting<O>,
     faults: &mut E,
+    watch: &W,
 ) -> u8
 where
     R: AllocGlobal + Wait + Threads + Sync + Files<File = File>,
@@ -113,7 +116,7 @@ where
             )
         }
         Ok(Request::Run(options)) => {
-            let answer = run_script(rt, alloc, &options, input, &mut kept);
+            let answer = run_script(rt, alloc, &options, input, &mut kept, watch);
             tell(
                 output,
                 faults,
@@ -127,7 +130,7 @@ where
                 path: folder,
                 failed: &mut failed,
             };
-            let answer = run_into_folder(rt, alloc, &options, into, input, &mut kept);
+            let answer = run_into_folder(rt, alloc, &options, into, input, &mut kept, watch);
             tell(
                 output,
                 faults,

@@ -11,7 +11,7 @@ use crate::answer::Answer;
 use crate::fault::Fault;
 use crate::files::write_tables;
 use crate::input::read_input;
-use run_command::{Ran, run, run_tables};
+use run_command::{Ran, Watch, run, run_tables};
 use run_options::RunOptions;
 use std::alloc::Global;
 use std::fs::File;
@@ -21,12 +21,13 @@ use std::sync::Wait;
 use std::thread::Threads;
 
 /// What is printed of a run of the script in the input.
-pub(crate) fn run_script<R: Wait + Threads + Sync, I: Read + Drop>(
+pub(crate) fn run_script<R: Wait + Threads + Sync, I: Read + Drop, W: Watch + Sync>(
     rt: &R,
     alloc: Global,
     options: &RunOptions,
     input: I,
     kept: &mut Option<Vec<u8>>,
+    watch: &W,
 ) -> Result<Answer, Fault>
     requires { kept.old ≡ None }
     ensures kept { IfSome (I.remaining input) (λ text.
@@ -36,7 +37,7 @@ pub(crate) fn run_script<R: Wait + Threads + Sync, I: Read + Drop>(
         (result_map_both printout_of (λ fault. fault) result)) }
 {
     let bytes = read_input(alloc, input)?;
-    let ran = run(rt, alloc, options, bytes.as_slice());
+    let ran = run(rt, alloc, options, bytes.as_slice(), watch);
     *kept = Some(bytes);
     let Ran { text, refusals } = ran?;
     Ok(Answer {
@@ -56,13 +57,14 @@ pub(crate) struct Folder<'a> {
 }
 
 /// The same of a run whose lines and tables go into files of a folder: nothing of it is printed.
-pub(crate) fn run_into_folder<R, I: Read + Drop>(
+pub(crate) fn run_into_folder<R, I: Read + Drop, W: Watch>(
     rt: &R,
     alloc: Global,
     options: &RunOptions,
     folder: Folder<'_>,
     input: I,
     kept: &mut Option<Vec<u8>>,
+    watch: &W,
 ) -> Result<Answer, Fault>
 where
     R: Wait + Threads + Sync + Files<File = File>,
@@ -74,7 +76,7 @@ where
         (result_map_both printout_of (λ fault. fault) result)) }
 {
     let bytes = read_input(alloc, input)?;
-    let tables = run_tables(rt, alloc, options, bytes.as_slice());
+    let tables = run_tables(rt, alloc, options, bytes.as_slice(), watch);
     *kept = Some(bytes);
     let tables = tables?;
     if let Err(error) = write_tables(rt, alloc, folder.path, &tables) {

@@ -37,4 +37,6 @@ mod served;
 #[cfg(test)]
 mod traces;
 #[cfg(test)]
+mod watching;
+#[cfg(test)]
 mod words;

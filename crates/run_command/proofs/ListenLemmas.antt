@@ -20,6 +20,15 @@ abbrev ListenedRounds : List Answer → Listener → List (List Answer) → List
 ListenedRounds before_this old heard new =
     HearsRounds (λ (l : Listener). l.player.network.given) (λ (l : Listener). l.player.ended) Listens before_this old heard new
 
+-- what holds a listener, and hears as it does, has heard the same
+pub listener_hears : {D : Type 0} (of : D → Listener) (before_this : List Answer) (old : D) (heard : List (List Answer)) (new : D)
+    → HearsRounds (λ d. (of d).player.network.given) (λ d. (of d).player.ended) (λ before answers after. Listens (of before) answers (of after)) before_this old heard new
+    → ListenedRounds before_this (of old) heard (of new)
+listener_hears of before_this old [] new rounds = absurd rounds
+listener_hears of before_this old (answers ∷ []) new rounds = (record { each = rounds.0.each; hears_them = rounds.0.hears_them }, rounds.1)
+listener_hears of before_this old (answers ∷ next ∷ heard) new rounds =
+    (of rounds.0, record { each = rounds.1.each; hears_them = rounds.1.hears_them }, rounds.2, listener_hears of (before_this ++ answers) rounds.0 (next ∷ heard) new rounds.3)
+
 -- its player has heard the same
 pub player_hears : (before_this : List Answer) (old : Listener) (heard : List (List Answer)) (new : Listener) → ListenedRounds before_this old heard new
     → Rounds (λ before answers after. before.ended ≡ false → Hears before answers after) before_this old.player heard new.player

@@ -6,6 +6,7 @@ pub mod Laws
 pub mod Listening
 pub mod Played
 pub mod Plays
+pub mod Progresses
 pub mod RanOf
 pub mod Refused
 pub mod Starts

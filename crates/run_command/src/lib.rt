@@ -13,9 +13,12 @@ mod setting_up;
 mod strangers;
 mod tables;
 mod turns;
+mod watched;
+mod watching;
 
 pub use error::RunError;
 pub use refusals::Refusals;
 pub use running::{Ran, run};
 pub use strangers::stranger_calls;
 pub use tables::{RunTables, run_tables};
+pub use watching::{Progress, Unwatched, Watch};

@@ -12,6 +12,7 @@ ghost use Rattle.run_texts.specs.Views.{rows_are_in_order};
 
 use crate::playing::{Played, play};
 use crate::turns::play_all;
+use crate::watching::{Watch, Watching};
 use crate::{Ran, Refusals, RunError};
 use book_texts::{RunLines, book_table};
 use call_records::{CallRecord, call_table, records};
@@ -42,13 +43,14 @@ pub(crate) struct Part {
 
 /// Plays a script in parts, by as many threads as are asked for, and prints what all of them come
 /// to. The fault is that of the first part that has one.
-pub(crate) fn run_in_parts<R: Wait + Threads + Sync>(
+pub(crate) fn run_in_parts<R: Wait + Threads + Sync, W: Watch + Sync>(
     rt: &R,
     alloc: Global,
     options: &RunOptions,
     asked: PartsAsk,
     setup: &RunSetup,
     script: Vec<ScriptRow>,
+    watching: &Watching<'_, W>,
 ) -> Result<Ran, RunError>
     requires in_range { All (λ row. row.at ≤ MAX_MOMENT) script.items }
     requires in_order { rows_are_in_order 0 script.items ≡ true }
@@ -58,7 +60,16 @@ pub(crate) fn run_in_parts<R: Wait + Threads + Sync>(
     ensures fault { IfErr result (MayFail options.now.workers) }
 {
     let Division { firsts, scripts } = divide(alloc, setup, script, asked.count)?;
-    let parts = play_all(rt, alloc, options, asked.threads, setup, &firsts, scripts)?;
+    let parts = play_all(
+        rt,
+        alloc,
+        options,
+        asked.threads,
+        setup,
+        &firsts,
+        scripts,
+        watching,
+    )?;
     let whole = join(alloc, parts)?;
     let refusals = whole.refusals;
     Ok(Ran {
@@ -68,7 +79,7 @@ pub(crate) fn run_in_parts<R: Wait + Threads + Sync>(
 }
 
 /// Plays a part, and keeps what is printed of it.
-pub(crate) fn play_part<R: Wait + Threads + Sync>(
+pub(crate) fn play_part<R: Wait + Threads + Sync, W: Watch>(
     rt: &R,
     alloc: Global,
     options: &RunOptions,
@@ -76,6 +87,7 @@ pub(crate) fn play_part<R: Wait + Threads + Sync>(
     firsts: &Firsts,
     number: usize,
     script: Vec<ScriptRow>,
+    watching: &Watching<'_, W>,
 ) -> Result<Part, RunError>
     requires in_range { All (λ row. row.at ≤ MAX_MOMENT) script.items }
     requires in_order { rows_are_in_order 0 script.items ≡ true }
@@ -86,7 +98,7 @@ pub(crate) fn play_part<R: Wait + Threads + Sync>(
     let Played {
         listener,
         mut books,
-    } = play(rt, alloc, options, setup, script)?;
+    } = play(rt, alloc, options, setup, script, watching)?;
     let given = listener.player.given();
     let calls = kept_calls(alloc, options.output, setup, given, books.as_slice())?;
     keep_own(&mut books, firsts, number);

@@ -8,6 +8,8 @@ ghost use Rattle.run_texts.specs.Views.{rows_are_in_order};
 ghost use Rattle.runs_core.specs.Teams.{are_workers};
 
 use crate::listening::Listener;
+use crate::watched::Watched;
+use crate::watching::{Watch, Watcher, Watching};
 use crate::{RunError, laws};
 use run_options::RunOptions;
 use run_texts::ScriptRow;
@@ -29,13 +31,15 @@ pub(crate) struct Played {
     pub books: Vec<Book>,
 }
 
-/// Plays a script over the accounts of a setup.
-pub(crate) fn play<R: Wait + Threads + Sync>(
+/// Plays a script over the accounts of a setup, which is all that is played or a part. It is shown
+/// how far it is, and at its end nothing any more.
+pub(crate) fn play<R: Wait + Threads + Sync, W: Watch>(
     rt: &R,
     alloc: Global,
     options: &RunOptions,
     setup: &RunSetup,
     script: Vec<ScriptRow>,
+    watching: &Watching<'_, W>,
 ) -> Result<Played, RunError>
     requires in_range { All (λ row. row.at ≤ MAX_MOMENT) script.items }
     requires in_order { rows_are_in_order 0 script.items ≡ true }
@@ -43,10 +47,14 @@ pub(crate) fn play<R: Wait + Threads + Sync>(
     ensures played { IfOk result (IsPlayedRun (ask_of options.now) setup.now script.items) }
     ensures fault { IfErr result (MayFail options.now.workers) }
 {
+    let watcher = Watcher::new(watching, script.as_slice());
     let player = ScriptPlayer::new(alloc, script, options.ssf, options.delay)?;
-    let mut listener = Listener::new(alloc, player, options.output);
-    let workers = options.workers;
-    let books = serve(rt, alloc, setup, &mut listener, workers, &OpenGate)?;
+    let listener = Listener::new(alloc, player, options.output);
+    let mut watched = Watched { listener, watcher };
+    let served = serve(rt, alloc, setup, &mut watched, options.workers, &OpenGate);
+    let Watched { listener, watcher } = watched;
+    watcher.clear();
+    let books = served?;
     laws::is_played(&listener.player);
     Ok(Played { listener, books })
 }

@@ -12,6 +12,7 @@ ghost use Rattle.run_texts.specs.Views.{rows_are_in_order};
 use crate::parts::run_in_parts;
 use crate::playing::{Played, play};
 use crate::setting_up::{Start, set_up};
+use crate::watching::{Watch, Watching};
 use crate::{Refusals, RunError, laws};
 use book_texts::{book_table, run_lines};
 use call_records::{call_table, records};
@@ -43,11 +44,14 @@ pub struct Ran {
 /// The input is judged first, its parts in order, and its first fault is the result. `Workers`
 /// where there can't be so many workers; any other fault of a run comes as `runs_core::serve` has
 /// it.
-pub fn run<R: Wait + Threads + Sync>(
+///
+/// While it goes on, `watch` is shown how far it is, after two seconds, each fifth of a second.
+pub fn run<R: Wait + Threads + Sync, W: Watch + Sync>(
     rt: &R,
     alloc: Global,
     options: &RunOptions,
     input: &[u8],
+    watch: &W,
 ) -> Result<Ran, RunError>
     ensures { IsRunAnswer (ask_of options.now) input.now
         (result_map_both run_said_of (λ error. error) result) }
@@ -56,19 +60,21 @@ pub fn run<R: Wait + Threads + Sync>(
     laws::played_books_pass();
     laws::played_calls_have_paid();
     laws::joined_books_pass();
+    let watching = Watching::new(watch);
     match options.played_parts() {
-        None => Ok(run_whole(rt, alloc, options, &setup, script)?),
-        Some(parts) => Ok(run_in_parts(rt, alloc, options, parts, &setup, script)?),
+        None => Ok(run_whole(rt, alloc, options, &setup, script, &watching)?),
+        Some(parts) => Ok(run_in_parts(rt, alloc, options, parts, &setup, script, &watching)?),
     }
 }
 
 /// Plays a script that isn't in parts, and prints what it comes to.
-fn run_whole<R: Wait + Threads + Sync>(
+fn run_whole<R: Wait + Threads + Sync, W: Watch>(
     rt: &R,
     alloc: Global,
     options: &RunOptions,
     setup: &RunSetup,
     script: Vec<ScriptRow>,
+    watching: &Watching<'_, W>,
 ) -> Result<Ran, RunError>
     requires in_range { All (λ row. row.at ≤ MAX_MOMENT) script.items }
     requires in_order { rows_are_in_order 0 script.items ≡ true }
@@ -76,7 +82,7 @@ fn run_whole<R: Wait + Threads + Sync>(
         IsWhole (ask_of options.now) setup.now script.items (run_said_of ran)) }
     ensures fault { IfErr result (MayFail options.now.workers) }
 {
-    let played = play(rt, alloc, options, setup, script)?;
+    let played = play(rt, alloc, options, setup, script, watching)?;
     Ok(Ran {
         text: print(alloc, options.output, setup, &played)?,
         refusals: played.listener.refusals,

@@ -13,6 +13,7 @@ ghost use Rattle.run_texts.specs.Views.{rows_are_in_order};
 use crate::playing::{Played, play};
 use crate::running::print;
 use crate::setting_up::{Start, set_up};
+use crate::watching::{Watch, Watching};
 use crate::{Refusals, RunError, laws};
 use moment_texts::Clock;
 use run_options::{RunOptions, RunOutput};
@@ -42,12 +43,13 @@ pub struct RunTables {
 /// each output. The moments of the calls and of the trace are printed as those of the output that
 /// is asked for, in digits where that has none.
 ///
-/// Its faults are those of `run`.
-pub fn run_tables<R: Wait + Threads + Sync>(
+/// Its faults are those of `run`, and so is what `watch` is shown.
+pub fn run_tables<R: Wait + Threads + Sync, W: Watch>(
     rt: &R,
     alloc: Global,
     options: &RunOptions,
     input: &[u8],
+    watch: &W,
 ) -> Result<RunTables, RunError>
     ensures { IsTablesAnswer (ask_of options.now) input.now
         (result_map_both tables_said (λ error. error) result) }
@@ -55,16 +57,17 @@ pub fn run_tables<R: Wait + Threads + Sync>(
     let Start { setup, script } = set_up(alloc, options, input)?;
     laws::played_books_pass();
     laws::played_calls_have_paid();
-    Ok(play_tables(rt, alloc, options, &setup, script)?)
+    Ok(play_tables(rt, alloc, options, &setup, script, &Watching::new(watch))?)
 }
 
 /// Plays a script, and prints all that it comes to.
-fn play_tables<R: Wait + Threads + Sync>(
+fn play_tables<R: Wait + Threads + Sync, W: Watch>(
     rt: &R,
     alloc: Global,
     options: &RunOptions,
     setup: &RunSetup,
     script: Vec<ScriptRow>,
+    watching: &Watching<'_, W>,
 ) -> Result<RunTables, RunError>
     requires in_range { All (λ row. row.at ≤ MAX_MOMENT) script.items }
     requires in_order { rows_are_in_order 0 script.items ≡ true }
@@ -73,7 +76,7 @@ fn play_tables<R: Wait + Threads + Sync>(
     ensures fault { IfErr result (MayFail options.now.workers) }
 {
     let clock = clock_of(options.output);
-    let played = play(rt, alloc, &traced(options, clock), setup, script)?;
+    let played = play(rt, alloc, &traced(options, clock), setup, script, watching)?;
     Ok(print_all(alloc, clock, setup, &played)?)
 }
 

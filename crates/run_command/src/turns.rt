@@ -12,6 +12,7 @@ ghost use Rattle.runs_core.specs.declared.run_fault.RunFault.TheVariants as run;
 
 use crate::RunError;
 use crate::parts::{Part, play_part};
+use crate::watching::{Watch, Watching};
 use run_options::RunOptions;
 use run_parts::Firsts;
 use run_texts::ScriptRow;
@@ -34,7 +35,7 @@ pub(crate) struct Turn {
 
 /// Plays parts by at most so many threads, and gives what is kept of each, in order. All threads
 /// are waited for. The fault is that of the first part that has one.
-pub(crate) fn play_all<R: Wait + Threads + Sync>(
+pub(crate) fn play_all<R: Wait + Threads + Sync, W: Watch + Sync>(
     rt: &R,
     alloc: Global,
     options: &RunOptions,
@@ -42,6 +43,7 @@ pub(crate) fn play_all<R: Wait + Threads + Sync>(
     setup: &RunSetup,
     firsts: &Firsts,
     scripts: Vec<Vec<ScriptRow>>,
+    watching: &Watching<'_, W>,
 ) -> Result<Vec<Part>, RunError>
     requires in_range { All (λ rows. All (λ row. row.at ≤ MAX_MOMENT) rows.items) scripts.items }
     requires in_order { All (λ rows. rows_are_in_order 0 rows.items ≡ true) scripts.items }
@@ -51,7 +53,7 @@ pub(crate) fn play_all<R: Wait + Threads + Sync>(
 {
     let mut turns = turns_of(alloc, scripts)?;
     let slots = turns.as_mut_slice();
-    play_turns(rt, alloc, options, threads, setup, firsts, slots);
+    play_turns(rt, alloc, options, threads, setup, firsts, slots, watching);
     played(alloc, turns)
 }
 
@@ -70,7 +72,7 @@ fn turns_of(alloc: Global, scripts: Vec<Vec<ScriptRow>>) -> Result<Vec<Turn>, Al
 }
 
 /// Plays parts by at most so many threads, each of which takes neighbours.
-fn play_turns<R: Wait + Threads + Sync>(
+fn play_turns<R: Wait + Threads + Sync, W: Watch + Sync>(
     rt: &R,
     alloc: Global,
     options: &RunOptions,
@@ -78,23 +80,28 @@ fn play_turns<R: Wait + Threads + Sync>(
     setup: &RunSetup,
     firsts: &Firsts,
     turns: &mut [Turn],
+    watching: &Watching<'_, W>,
 )
     requires { All IsInOrder turns.old }
     ensures { (part : ℕ) (d : Turn) → part < length turns.old
         → HasPlayedPart (ask_of options.now) setup.now firsts.now part
         (slice_index_or turns.old part d) (slice_index_or turns.new part d) }
 {
+    let parts = turns.len();
     let play = move |number: usize, turn: &mut Turn|
         requires { IsInOrder turn.now }
         ensures { HasPlayedPart (ask_of options.entry.now) setup.entry.now firsts.entry.now number
             turn.entry.now turn.exit.now }
-    { turn.play(rt, alloc, options, setup, firsts, number) };
+    {
+        let watching = watching.of_part(number, parts);
+        turn.play(rt, alloc, options, setup, firsts, number, &watching)
+    };
     thread::for_each_mut(rt, turns, threads.max(1) as usize, &play);
 }
 
 impl Turn {
     /// Plays the part of this number.
-    fn play<R: Wait + Threads + Sync>(
+    fn play<R: Wait + Threads + Sync, W: Watch>(
         &mut self,
         rt: &R,
         alloc: Global,
@@ -102,12 +109,13 @@ impl Turn {
         setup: &RunSetup,
         firsts: &Firsts,
         number: usize,
+        watching: &Watching<'_, W>,
     )
         requires { IsInOrder self.old }
         ensures { HasPlayedPart (ask_of options.now) setup.now firsts.now number self.old self.new }
     {
         let script = mem::replace(&mut self.script, Vec::new(alloc));
-        self.played = play_part(rt, alloc, options, setup, firsts, number, script);
+        self.played = play_part(rt, alloc, options, setup, firsts, number, script, watching);
     }
 }
 

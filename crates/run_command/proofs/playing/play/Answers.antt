@@ -1,5 +1,5 @@
 use Rattle.std.proofs.Common.{◌∙◌, ◌++◌, List, [], ap, refl}
-use Rattle.run_command.proofs.ListenLemmas.{counts_heard, keeps_heard, player_hears}
+use Rattle.run_command.proofs.ListenLemmas.{counts_heard, keeps_heard, listener_hears, player_hears}
 use Rattle.run_command.proofs.PlayLemmas.{given_by, rounds_of}
 use Rattle.run_options.specs.Options.{ask_of}
 use Rattle.run_values.specs.declared.post.Answer.{Answer}
@@ -11,10 +11,12 @@ pub returns-clause-played : goal.returns-clause-played
 returns-clause-played g c =
     let listener = c.new-listener.result in
     let before = listener.player in
-    let after = c.serve.new.driver.player in
+    let end = c.serve-served.new.driver.listener in
+    let after = end.player in
     let made = c.new-listener.ensures.player in
     let kept = c.in_ok-books.ensures.plan in
     let ran = c.in_ok-books.ensures.run in
+    let rounds = listener_hears (λ watched. watched.listener) [] _ ran.heard _ ran.rounds in
     let is_fresh = made ∙ c.in_ok-player.ensures.fresh in
     let config = ap (λ p. p.0) kept ∙ ap (λ (play : Play). play.network.config) is_fresh in
     let delay = ap (λ p. p.1) kept ∙ ap (λ (play : Play). play.delay) is_fresh in
@@ -28,8 +30,8 @@ returns-clause-played g c =
           rows
           (c.is_played.ensures c.args.script.items ran.heard rows
           (rounds_of c.args.options.now.ssf after.network.config c.args.options.now.delay after.delay c.args.script.items before ran.heard after is_fresh config delay
-          (player_hears [] listener ran.heard c.serve.new.driver ran.rounds)));
+          (player_hears [] listener ran.heard end rounds)));
       run = ran.run;
-      kept = λ asked. keeps_heard [] listener ran.heard c.serve.new.driver (c.new-listener.ensures.keeps ∙ asked) ran.rounds ∙ ap (λ (l : List Answer). l ++ all_heard ran.heard) c.new-listener.ensures.heard;
-      counted = counts_heard [] listener ran.heard c.serve.new.driver [] c.new-listener.ensures.refusals ran.rounds;
+      kept = λ asked. keeps_heard [] listener ran.heard end (c.new-listener.ensures.keeps ∙ asked) rounds ∙ ap (λ (l : List Answer). l ++ all_heard ran.heard) c.new-listener.ensures.heard;
+      counted = counts_heard [] listener ran.heard end [] c.new-listener.ensures.refusals rounds;
     }
