@@ -7,8 +7,9 @@ ghost use Rattle.run_command.specs.Plays.{HearsItsRounds, IsPlayOf};
 ghost use Rattle.run_texts.specs.declared.script.ScriptRow.{ScriptRow};
 ghost use Rattle.run_values.specs.declared.post.Answer.{Answer};
 
-use run_laws::runs_pass_the_audit;
-use run_laws::{calls_pay_their_route, records_sum_up, unrouted_calls_pay_nothing};
+use run_laws::{
+    calls_pay_their_route, records_sum_up, runs_pass_the_audit, unrouted_calls_pay_nothing,
+};
 use runs_core::Driver;
 use script_player::ScriptPlayer;
 use shared_account::TurnAccount;
