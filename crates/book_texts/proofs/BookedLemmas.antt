@@ -92,7 +92,7 @@ entered_ascends account event books next None is ascend = cc
 entered_ascends account event books next (Some booked) is ascend =
     let same : books_with_entry account booked event books ≡ next = cc in rw (← same) (set_ascends account _ 0 books ascend)
 
-judged_ascends : (books next : Books) (said : Result RowSaid RowKind) → Rattle.table_core.specs.Judging.after said (judged_books books) ≡ Ok next → Ascend 0 books → Ascend 0 next
+judged_ascends : (books next : Books) (said : Result RowSaid RowKind) → Rattle.table_core.specs.Judging.and_then said (judged_books books) ≡ Ok next → Ascend 0 books → Ascend 0 next
 judged_ascends books next (Ok (Opens account opening until)) is ascend = opened_ascends account opening until books next (account_so_far account books) is ascend
 judged_ascends books next (Ok (Enters account event)) is ascend = entered_ascends account event books next (account_so_far account books) is ascend
 judged_ascends books next (Err why) is ascend = cc

@@ -32,7 +32,7 @@ module _ (booked : Booked) (event : EntryData) where
   was_legal : IsLegal booked.opening booked.until (booked.history ++ event ∷ []) → IsLegalPast booked.opening booked.until (event ∷ reverse booked.history)
   was_legal legal = rw (reverse-append booked.history (event ∷ [])) at legal
 
-  booked_right : IsAnswered booked.opening booked.until (reverse booked.history) event → booked_after booked.opening booked.until (reverse booked.history) event.asked ≡ Ok event.reply
+  booked_right : IsAnswered booked.opening booked.until (reverse booked.history) event → response_after booked.opening booked.until (reverse booked.history) event.asked ≡ Ok event.reply
   booked_right answered =
       ap (λ refused. reply_or_fault refused (answer booked.opening booked.until (reverse booked.history) event.asked)) answered.admissible ∙ ap Ok (sym answered.answered)
 
