@@ -12,6 +12,7 @@ pub mod DueCalls
 pub mod LifeLemmas
 pub mod OnePlay
 pub mod OneSsf
+pub mod Orders
 pub mod DueRows
 pub mod RoundLemmas
 pub mod AnswerLemmas

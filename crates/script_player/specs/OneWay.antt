@@ -1,18 +1,18 @@
 -- A play goes one way: what it gives is known by its rows and by what it hears.
 use Rattle.std.specs.Prelude.{◌≡◌, ℕ, List, map}
-use Rattle.cap_values.specs.declared.operation.ScfOp.{ScfOp}
+use Rattle.cap_values.specs.Orders.{Order, orders_of}
 use Rattle.run_texts.specs.declared.script.ScriptRow.{ScriptRow}
 use Rattle.run_values.specs.declared.post.Answer.{Answer}
 use Rattle.script_player.specs.Plays.{Play}
 use Rattle.script_player.specs.Runs.{HasHeard}
 use Rattle.ssf_core.specs.declared.config.SsfConfig.{SsfConfig}
 
--- what a play hears of an answer: the number of its item, and the operations
-abbrev pub order_heard : Answer → ℕ × List ScfOp
-order_heard answer = (answer.number, answer.ops.items)
+-- what a play hears of an answer: the number of its item, and what its operations say
+abbrev pub order_heard : Answer → ℕ × List Order
+order_heard answer = (answer.number, orders_of answer.ops.items)
 
 -- the same of all answers, round by round
-abbrev pub orders_heard : List (List Answer) → List (List (ℕ × List ScfOp))
+abbrev pub orders_heard : List (List Answer) → List (List (ℕ × List Order))
 orders_heard heard = map (λ answers. map order_heard answers) heard
 
 -- two plays have given the same, in the same order, wait for the same and have ended or not
