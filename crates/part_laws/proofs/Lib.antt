@@ -4,5 +4,6 @@ pub mod Choosing
 pub mod Fronts
 pub mod Joined
 pub mod Lines
+pub mod OneRun
 pub mod Plain
 pub mod Records

@@ -3,3 +3,4 @@ pub mod Laws
 pub mod Numbers
 pub mod Parts
 pub mod Printed
+pub mod Scripts

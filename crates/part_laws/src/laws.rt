@@ -3,8 +3,10 @@
 ghost use Rattle.part_laws.specs.Laws.{AccountsDontInterfere, FrontsAreAnsweredAlike};
 ghost use Rattle.part_laws.specs.Parts.{PartsAreAsOneRun};
 ghost use Rattle.part_laws.specs.Printed.{LinesHaveNoNumbers, RecordsAreThoseOfAll};
+ghost use Rattle.part_laws.specs.Scripts.{ScriptsHaveOneRun};
 
 use book_texts::books_have_one_text;
+use ssf_core::timers_run_one_way;
 
 /// Accounts don't interfere. One run of one worker is given items, and another over the same setup
 /// just those of some accounts: the recharges of these, and the messages of the calls that their
@@ -50,4 +52,13 @@ pub fn parts_are_as_one_run()
     ensures { PartsAreAsOneRun }
 {
     books_have_one_text();
+}
+
+/// A script has one run: two runs of one worker that play the same rows, over the same setup, with
+/// gsmSSFs of the same configuration and the same delay, are given the same items in the same
+/// order, answer them alike, and come to the same books, where no account refuses an ask in either.
+pub fn scripts_have_one_run()
+    ensures { ScriptsHaveOneRun }
+{
+    timers_run_one_way();
 }

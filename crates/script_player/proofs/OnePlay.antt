@@ -96,7 +96,7 @@ calls_same one other now calls its alike rises rises_too due due_now =
 
 -- ---- two plays
 
-record PlayAlike (one other : Play) : Type 0 where
+pub record PlayAlike (one other : Play) : Type 0 where
   pub network : ShownAlike one.network other.network
   pub queue : one.queue ≡ other.queue
   pub delay : one.delay ≡ other.delay
@@ -200,7 +200,7 @@ turned one other alike = record {
   ended = sym alike.ended;
 }
 
-turn_alike : TimersRunOneWay → (more its : Bool) (one after other last : Play) (answers others : List Answer) → IsTurn more one after answers → IsTurn its other last others → PlayAlike one other
+pub turn_alike : TimersRunOneWay → (more its : Bool) (one after other last : Play) (answers others : List Answer) → IsTurn more one after answers → IsTurn its other last others → PlayAlike one other
     → map order_heard answers ≡ map order_heard others → PlayAlike after last
 turn_alike one_way true true one after other last answers others is too alike same = round_alike one_way one after other last answers others is too alike same
 turn_alike one_way false false one after other last answers others is too alike same = end_alike one after other last answers others is too alike same
@@ -221,7 +221,7 @@ heard_alike one_way (answers ∷ heard) (replies ∷ others) before one again ot
     heard_alike one_way heard others is.0 one too.0 other rest is.1.1 too.1.1
     (turn_alike one_way is.1.0.more too.1.0.more before is.0 again too.0 answers replies is.1.0.turn too.1.0.turn alike first)
 
-fresh_alike : (config : SsfConfig) (delay : ℕ) (rows : List ScriptRow) → PlayAlike (fresh_play config delay rows) (fresh_play config delay rows)
+pub fresh_alike : (config : SsfConfig) (delay : ℕ) (rows : List ScriptRow) → PlayAlike (fresh_play config delay rows) (fresh_play config delay rows)
 fresh_alike config delay rows =
     record { network = record { config = refl; given = refl; ssfs = λ call. tt }; queue = refl; delay = refl; left = refl; ended = refl }
 
