@@ -14,7 +14,7 @@ use Rattle.run_values.specs.Setups.{Setup}
 use Rattle.run_values.specs.declared.post.Answer.{Answer}
 use Rattle.run_values.specs.declared.post.Body.{Body}
 use Rattle.run_values.specs.declared.post.Body.TheVariants as body
-use Rattle.runs_core.specs.Hearing.{HearsRounds, all_heard}
+use Rattle.runs_core.specs.Hearing.{HearsMore, HearsRounds, all_heard}
 use Rattle.runs_core.specs.Runs.{IsRun}
 use Rattle.script_player.proofs.OnePlay.{PlayAlike, fresh_alike, turn_alike}
 use Rattle.script_player.specs.Chains.{Chain}
@@ -126,61 +126,72 @@ module _ (one_way : TimersRunOneWay) (setup : Setup) (proper : IsProper setup.ta
       let second = ap (λ (l : List Answer). take (length old) (views_of l)) split_too ∙ views_front old its_front its_rest many_too in
       sym first ∙ same ∙ second
 
+  -- two rounds of plays that were alike: all that was heard says the same, and so the plays are alike again
+  record IsSameRound (before_this again answers replies : List Answer) (between also : Play) : Type 0 where
+    views : views_of (before_this ++ answers) ≡ views_of (again ++ replies)
+    alike : PlayAlike between also
+
+  -- what is heard in a round, and behind it
+  record IsHeardOf (whole before_this answers : List Answer) (old new : Play) (final : List (ℕ × Body)) : Type 0 where
+    hears : HearsMore (λ (p : Play). p.network.given) Hears before_this old answers new
+    grown : Grown old.network.given final
+    rest : List Answer
+    split : whole ≡ (before_this ++ answers) ++ rest
+
+  same_round : (before_this again answers replies : List Answer) (old it between also : Play) (given its : List (ℕ × Body)) → IsHeardOf all before_this answers old between given
+      → IsHeardOf its_all again replies it also its → PlayAlike old it → views_of before_this ≡ views_of again → IsRun StoodIn setup 1 given all books → IsRun StoodIn setup 1 its its_all other
+      → IsSameRound before_this again answers replies between also
+  same_round before_this again answers replies old it between also given its here there alike views run run_too =
+      let G : List (ℕ × Body) → Type 0 = λ g. Grown g its in
+      let fronts = fronts_same given its old.network.given given its (before_this ++ answers) here.rest (again ++ replies) there.rest
+      here.grown (subst G (sym alike.network.given) there.grown) refl refl
+      (as_many old.network.given (before_this ++ answers) here.hears.each) (as_many it.network.given (again ++ replies) there.hears.each ∙ sym (ap length alike.network.given))
+      here.split there.split run run_too in
+      let said = append_cancel_left (views_of again) (views_of answers) (views_of replies)
+      (ap (λ l. l ++ views_of answers) (sym views) ∙ sym (map-append answer_view before_this answers) ∙ fronts ∙ map-append answer_view again replies) in
+      record {
+        views = fronts;
+        alike = turn_alike one_way here.hears.hears_them.more there.hears.hears_them.more old between it also answers replies here.hears.hears_them.turn there.hears.hears_them.turn alike
+            (orders_alike answers replies said);
+      }
+
+  last_heard : (whole before_this answers : List Answer) (old new : Play) → Rounds before_this old (answers ∷ []) new → whole ≡ before_this ++ all_heard (answers ∷ [])
+      → IsHeardOf whole before_this answers old new new.network.given
+  last_heard whole before_this answers old new rounds split =
+      record { hears = rounds.0; grown = rounds_grow before_this old (answers ∷ []) new rounds; rest = []; split = split ∙ sym (append_assoc before_this answers []) }
+
+  next_heard : (whole before_this answers next : List Answer) (heard : List (List Answer)) (old new : Play) (rounds : Rounds before_this old (answers ∷ next ∷ heard) new)
+      → whole ≡ before_this ++ all_heard (answers ∷ next ∷ heard) → IsHeardOf whole before_this answers old rounds.0 new.network.given
+  next_heard whole before_this answers next heard old new rounds split = record {
+    hears = rounds.1;
+    grown = rounds_grow before_this old (answers ∷ next ∷ heard) new rounds;
+    rest = all_heard (next ∷ heard);
+    split = split ∙ sym (append_assoc before_this answers (all_heard (next ∷ heard)));
+  }
+
   rounds_alike : (heard others : List (List Answer)) (before_this again : List Answer) (old it new last : Play) → Rounds before_this old heard new → Rounds again it others last → PlayAlike old it
       → views_of before_this ≡ views_of again → all ≡ before_this ++ all_heard heard → its_all ≡ again ++ all_heard others
       → IsRun StoodIn setup 1 new.network.given all books → IsRun StoodIn setup 1 last.network.given its_all other → new.network.given ≡ last.network.given
   rounds_alike [] others before_this again old it new last rounds too alike views split split_too run run_too = absurd rounds
   rounds_alike (answers ∷ heard) [] before_this again old it new last rounds too alike views split split_too run run_too = absurd too
   rounds_alike (answers ∷ []) (replies ∷ []) before_this again old it new last rounds too alike views split split_too run run_too =
-      let here = rounds.0 in
-      let there = too.0 in
-      let G : List (ℕ × Body) → Type 0 = λ g. Grown g last.network.given in
-      let fronts = fronts_same new.network.given last.network.given old.network.given new.network.given last.network.given (before_this ++ answers) [] (again ++ replies) []
-      (rounds_grow before_this old (answers ∷ []) new rounds) (subst G (sym alike.network.given) (rounds_grow again it (replies ∷ []) last too)) refl refl
-      (as_many old.network.given (before_this ++ answers) here.each) (as_many it.network.given (again ++ replies) there.each ∙ sym (ap length alike.network.given))
-      (split ∙ sym (append_assoc before_this answers [])) (split_too ∙ sym (append_assoc again replies [])) run run_too in
-      let said = append_cancel_left (views_of again) (views_of answers) (views_of replies)
-      (ap (λ l. l ++ views_of answers) (sym views) ∙ sym (map-append answer_view before_this answers) ∙ fronts ∙ map-append answer_view again replies) in
-      let turned = turn_alike one_way here.hears_them.more there.hears_them.more old new it last answers replies here.hears_them.turn there.hears_them.turn alike (orders_alike answers replies said) in
-      turned.network.given
+      let same = same_round before_this again answers replies old it new last new.network.given last.network.given (last_heard all before_this answers old new rounds split)
+      (last_heard its_all again replies it last too split_too) alike views run run_too in
+      same.alike.network.given
   rounds_alike (answers ∷ []) (replies ∷ next ∷ others) before_this again old it new last rounds too alike views split split_too run run_too =
-      let here = rounds.0 in
-      let there = too.1 in
-      let G : List (ℕ × Body) → Type 0 = λ g. Grown g last.network.given in
-      let fronts = fronts_same new.network.given last.network.given old.network.given new.network.given last.network.given (before_this ++ answers) [] (again ++ replies) (all_heard (next ∷ others))
-      (rounds_grow before_this old (answers ∷ []) new rounds) (subst G (sym alike.network.given) (rounds_grow again it (replies ∷ next ∷ others) last too)) refl refl
-      (as_many old.network.given (before_this ++ answers) here.each) (as_many it.network.given (again ++ replies) there.each ∙ sym (ap length alike.network.given))
-      (split ∙ sym (append_assoc before_this answers [])) (split_too ∙ sym (append_assoc again replies (all_heard (next ∷ others)))) run run_too in
-      let said = append_cancel_left (views_of again) (views_of answers) (views_of replies)
-      (ap (λ l. l ++ views_of answers) (sym views) ∙ sym (map-append answer_view before_this answers) ∙ fronts ∙ map-append answer_view again replies) in
-      let turned = turn_alike one_way here.hears_them.more there.hears_them.more old new it too.0 answers replies here.hears_them.turn there.hears_them.turn alike (orders_alike answers replies said) in
-      absurd (true≢false (sym rounds.1 ∙ turned.ended ∙ too.2))
+      let same = same_round before_this again answers replies old it new too.0 new.network.given last.network.given (last_heard all before_this answers old new rounds split)
+      (next_heard its_all again replies next others it last too split_too) alike views run run_too in
+      absurd (true≢false (sym rounds.1 ∙ same.alike.ended ∙ too.2))
   rounds_alike (answers ∷ next ∷ heard) (replies ∷ []) before_this again old it new last rounds too alike views split split_too run run_too =
-      let here = rounds.1 in
-      let there = too.0 in
-      let G : List (ℕ × Body) → Type 0 = λ g. Grown g last.network.given in
-      let fronts = fronts_same new.network.given last.network.given old.network.given new.network.given last.network.given (before_this ++ answers) (all_heard (next ∷ heard)) (again ++ replies) []
-      (rounds_grow before_this old (answers ∷ next ∷ heard) new rounds) (subst G (sym alike.network.given) (rounds_grow again it (replies ∷ []) last too)) refl refl
-      (as_many old.network.given (before_this ++ answers) here.each) (as_many it.network.given (again ++ replies) there.each ∙ sym (ap length alike.network.given))
-      (split ∙ sym (append_assoc before_this answers (all_heard (next ∷ heard)))) (split_too ∙ sym (append_assoc again replies [])) run run_too in
-      let said = append_cancel_left (views_of again) (views_of answers) (views_of replies)
-      (ap (λ l. l ++ views_of answers) (sym views) ∙ sym (map-append answer_view before_this answers) ∙ fronts ∙ map-append answer_view again replies) in
-      let turned = turn_alike one_way here.hears_them.more there.hears_them.more old rounds.0 it last answers replies here.hears_them.turn there.hears_them.turn alike (orders_alike answers replies said) in
-      absurd (true≢false (sym too.1 ∙ sym turned.ended ∙ rounds.2))
+      let same = same_round before_this again answers replies old it rounds.0 last new.network.given last.network.given (next_heard all before_this answers next heard old new rounds split)
+      (last_heard its_all again replies it last too split_too) alike views run run_too in
+      absurd (true≢false (sym too.1 ∙ sym same.alike.ended ∙ rounds.2))
   rounds_alike (answers ∷ next ∷ heard) (replies ∷ also ∷ others) before_this again old it new last rounds too alike views split split_too run run_too =
-      let here = rounds.1 in
-      let there = too.1 in
-      let G : List (ℕ × Body) → Type 0 = λ g. Grown g last.network.given in
-      let now_split = split ∙ sym (append_assoc before_this answers (all_heard (next ∷ heard))) in
-      let now_split_too = split_too ∙ sym (append_assoc again replies (all_heard (also ∷ others))) in
-      let fronts = fronts_same new.network.given last.network.given old.network.given new.network.given last.network.given (before_this ++ answers) (all_heard (next ∷ heard)) (again ++ replies) (all_heard (also ∷ others))
-      (rounds_grow before_this old (answers ∷ next ∷ heard) new rounds) (subst G (sym alike.network.given) (rounds_grow again it (replies ∷ also ∷ others) last too)) refl refl
-      (as_many old.network.given (before_this ++ answers) here.each) (as_many it.network.given (again ++ replies) there.each ∙ sym (ap length alike.network.given))
-      now_split now_split_too run run_too in
-      let said = append_cancel_left (views_of again) (views_of answers) (views_of replies)
-      (ap (λ l. l ++ views_of answers) (sym views) ∙ sym (map-append answer_view before_this answers) ∙ fronts ∙ map-append answer_view again replies) in
-      let turned = turn_alike one_way here.hears_them.more there.hears_them.more old rounds.0 it too.0 answers replies here.hears_them.turn there.hears_them.turn alike (orders_alike answers replies said) in
-      rounds_alike (next ∷ heard) (also ∷ others) (before_this ++ answers) (again ++ replies) rounds.0 too.0 new last rounds.3 too.3 turned fronts now_split now_split_too run run_too
+      let here = next_heard all before_this answers next heard old new rounds split in
+      let there = next_heard its_all again replies also others it last too split_too in
+      let same = same_round before_this again answers replies old it rounds.0 too.0 new.network.given last.network.given here there alike views run run_too in
+      rounds_alike (next ∷ heard) (also ∷ others) (before_this ++ answers) (again ++ replies) rounds.0 too.0 new last rounds.3 too.3 same.alike same.views (split ∙ sym (append_assoc before_this answers (all_heard (next ∷ heard))))
+      (split_too ∙ sym (append_assoc again replies (all_heard (also ∷ others)))) run run_too
 
 pub scripts_one_run : TimersRunOneWay → ScriptsHaveOneRun
 scripts_one_run one_way setup config delay rows heard others given its books other proper play too run run_too none none_too =
