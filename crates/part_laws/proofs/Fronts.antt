@@ -52,7 +52,7 @@ module _ (o : ℕ → ℕ) (u : ℕ → Option ℕ) (Shows Others : ℕ → Show
       let goes = done_goes_on setup numbers post.at (verdict setup old.talks post) old between said_so are.1.handled.done in
       let later = fronts_alike front more rest posts others answers replies between new between_too last (cc is) (cc its) (goes.many ∙ many)
       (placed_after setup numbers post old between said_so placed are.1.handled.done) alike.hold none.1 none_too.1 legal legal_too are.2 too.2 in
-      ap (λ (t : AnswerView). t ∷ take (length front) answers) alike.said_so_is ∙ ap (λ (l : List AnswerView). also ∷ l) later
+      ap (λ (t : AnswerView). t ∷ take (length front) answers) alike.answer_is ∙ ap (λ (l : List AnswerView). also ∷ l) later
 
 pub fronts_answered : FrontsAreAnsweredAlike
 fronts_answered setup given more rest answers others books other proper run run_too none none_too =
