@@ -21,7 +21,7 @@ import time
 
 ROOT = os.path.dirname(os.path.dirname(os.path.abspath(__file__)))
 MAX_INPUT = 16_777_216
-SECONDS = 60
+SECONDS = 300
 
 BAND = "49,00:00,50,1000\n"
 TARIFF = f"prefix,from,fee,rate\n{BAND}"
