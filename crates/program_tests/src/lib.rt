@@ -37,6 +37,4 @@ mod served;
 #[cfg(test)]
 mod traces;
 #[cfg(test)]
-mod watching;
-#[cfg(test)]
 mod words;

@@ -1,7 +1,7 @@
 //! The program over words and a text.
 
 use prepaid_command::{Noting, command};
-use run_command::{Unwatched, Watch};
+use run_command::Unwatched;
 use std::alloc::{AllocError, Global};
 use std::fs::File;
 use std::io::{BufReader, Read, Write};
@@ -38,27 +38,12 @@ pub(crate) fn run<R, I: Read + Drop, O: Write, E: Write>(
 where
     R: AllocGlobal + Wait + Threads + Sync + Files<File = File>,
 {
-    run_watched(rt, line, input, output, faults, &Unwatched)
-}
-
-/// The same, while somebody watches.
-pub(crate) fn run_watched<R, I: Read + Drop, O: Write, E: Write, W: Watch + Sync>(
-    rt: &R,
-    line: &str,
-    input: I,
-    output: &mut O,
-    faults: &mut E,
-    watch: &W,
-) -> Result<u8, AllocError>
-where
-    R: AllocGlobal + Wait + Threads + Sync + Files<File = File>,
-{
     let words = words_of(rt.alloc(), line)?;
     let Ok(input) = BufReader::new(rt.alloc(), input) else {
         return Err(AllocError);
     };
     let mut output = Noting::new(output);
-    Ok(command(rt, words.as_slice(), input, &mut output, faults, watch))
+    Ok(command(rt, words.as_slice(), input, &mut output, faults, &Unwatched))
 }
 
 /// Runs a line of words over an input, and compares the status and all that was written.
