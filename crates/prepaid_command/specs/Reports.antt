@@ -32,7 +32,7 @@ last_times_after last (times ∷ rest) = last_times_after times rest
 -- `before,after`, and 10,000 rows at most; each row is a report after the ones before it
 abbrev pub reports_form : Rates → TableForm (List Elapsed) RowKind RowFault
 reports_form plan =
-    table_form ((codes "before" ∷ codes "and_then" ∷ []) ∷ []) 10000 [] (λ header. adds (λ reports. report_row_in plan (last_times_after no_times reports)))
+    table_form ((codes "before" ∷ codes "after" ∷ []) ∷ []) 10000 [] (λ header. adds (λ reports. report_row_in plan (last_times_after no_times reports)))
 
 -- the reports of a table
 abbrev pub table_reports_of : Rates → List (List (List ℕ)) → Result (List Elapsed) RowFault

@@ -1,6 +1,6 @@
 //! The lines that `price` prints.
 
-ghost use Rattle.std.specs.Prelude.{IfOk, string_bytes};
+ghost use Rattle.std.specs.Prelude.{◌≡◌, IfOk, string_bytes};
 ghost use Rattle.prepaid_command.specs.Reports.{AreInOrder};
 ghost use Rattle.prepaid_command.specs.PriceLines.{price_lines};
 ghost use Rattle.tariff_core.specs.RatesOf.{rates_of};
