@@ -1,4 +1,5 @@
 pub mod Apart
+pub mod Beside
 pub mod Blind
 pub mod Choosing
 pub mod Fronts

@@ -3,4 +3,5 @@ pub mod Laws
 pub mod Numbers
 pub mod Parts
 pub mod Printed
+pub mod Rows
 pub mod Scripts
