@@ -1,0 +1,98 @@
+#!/usr/bin/env python3
+"""Looks whether docs/PROOFS.md names what there is: tests/proofs_test.py
+
+Each name in backquotes is a name of the code, of specs, proofs or tests. Where a function, a type or a record stands
+before a colon, what follows are its own clauses or fields; where a clause stands there, what follows are definitions.
+"""
+import glob
+import os
+import re
+import sys
+
+PAGE = "docs/PROOFS.md"
+SECTION = re.compile(r"\*\*`(\w+)`\*\*")
+QUOTED = re.compile(r"`([^`]+)`")
+NAMED = re.compile(r"`([\w:]+)`: ((?:`\w+`(?:, | and )?)+)")
+WORD = re.compile(r"[A-Za-z_]\w*")
+OWNER = re.compile(r"(?:pub(?:\(crate\))? )?(?:impl(?:<.*?>)? (?:[\w<>:', ]+ for )?|trait |struct |enum )(\w+)")
+FUNCTION = re.compile(r"\s*(?:pub(?:\(crate\))? )?fn (\w+)")
+CLAUSE = re.compile(r"\s*(?:ensures|requires) (\w+) \{|\s*(?:pub )?ghost (\w+)(?: =|:)")
+DEFINED = re.compile(r"(?:abbrev |unfoldable )?pub (?:record |data |abbrev )?([^\s:]+)")
+
+
+def text_of(path):
+    with open(path, encoding="utf-8") as it:
+        return it.read()
+
+
+def files(crate, folder):
+    return [it for it in glob.glob(f"crates/{crate}/{folder}/**/*.*", recursive=True) if os.path.isfile(it)]
+
+
+def clauses(crate):
+    """The clauses of each function, by its name with and without its type, and the ghost names of each type."""
+    found = {}
+    for path in files(crate, "src"):
+        owner = function = ""
+        for line in text_of(path).split("\n"):
+            if it := OWNER.match(line):
+                owner, function = it[1], ""
+            if line == "}":
+                owner = ""
+            if it := FUNCTION.match(line):
+                function = it[1]
+                found.setdefault(function, set())
+            if it := CLAUSE.match(line):
+                name = it[1] or it[2]
+                for key in [function, f"{owner}::{function}"] if it[1] else [owner]:
+                    found.setdefault(key, set()).add(name)
+    return found
+
+
+def definitions(crate):
+    """The definitions of a crate, each with the fields that it has where it is a record."""
+    found = {}
+    for path in files(crate, "specs"):
+        name = ""
+        for line in text_of(path).split("\n"):
+            if it := DEFINED.match(line):
+                name = it[1]
+                found[name] = set()
+            elif it := re.match(r"  pub (\w+) :", line):
+                found[name].add(it[1])
+    return found
+
+
+def main():
+    crates = sorted(os.listdir("crates"))
+    of_crate = {crate: (clauses(crate), definitions(crate)) for crate in crates}
+    defined = {name for _, names in of_crate.values() for name in names}
+    tools = glob.glob("tests/**/*", recursive=True) + glob.glob("docs/*") + ["README.md", "Makefile"]
+    words = {"strace", *crates}
+    for path in [it for crate in crates for folder in ("src", "specs", "proofs") for it in files(crate, folder)] + [it for it in tools if os.path.isfile(it)]:
+        words.update(WORD.findall(path))
+        if not path.endswith((".md", ".pyc")):
+            words.update(WORD.findall(text_of(path)))
+    faults, count, crate = [], 0, ""
+    for number, line in enumerate(text_of(PAGE).split("\n"), 1):
+        if it := SECTION.match(line):
+            crate = it[1]
+        elif line.startswith("#"):
+            crate = ""
+        for name in [word for quoted in QUOTED.findall(line) for word in WORD.findall(quoted)]:
+            count += 1
+            if name not in words:
+                faults.append(f"{PAGE}:{number}: nothing is named {name}")
+        for name, names in NAMED.findall(line) if crate else []:
+            functions, records = of_crate[crate]
+            own = records.get(name) or functions.get(name) or functions.get(name.split("::")[-1], set())
+            is_clause = any(name in its for its in functions.values())
+            for one in QUOTED.findall(names):
+                if one not in own and not (is_clause and one in defined):
+                    faults.append(f"{PAGE}:{number}: {name} of {crate} has no {one}")
+    print("\n".join(faults) if faults else f"{count} names, all there")
+    return 1 if faults else 0
+
+
+if __name__ == "__main__":
+    sys.exit(main())
