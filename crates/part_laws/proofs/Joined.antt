@@ -29,11 +29,11 @@ use Rattle.shared_account.specs.Terms.{Terms}
 -- ---- what rises is the pieces of its parts, one after another
 
 module _ {X : Type 0} (n : X → ℕ) where
-  abbrev AreFrom : ℕ → List X → Type 0
+  abbrev pub AreFrom : ℕ → List X → Type 0
   AreFrom low [] = Unit {0}
   AreFrom low (x ∷ xs) = (low ≤ n x) × AreFrom low xs
 
-  abbrev Rise : List X → Type 0
+  abbrev pub Rise : List X → Type 0
   Rise [] = Unit {0}
   Rise (x ∷ xs) = AreFrom (n x) xs × Rise xs
 
@@ -41,7 +41,7 @@ module _ {X : Type 0} (n : X → ℕ) where
   are_from low [] above = tt
   are_from low (x ∷ xs) above = (above zero x (omega arith), are_from low xs (λ i d within. above (suc i) d (omega (arith, within))))
 
-  rise : (xs : List X) → IsNonDecreasingBy n xs → Rise xs
+  pub rise : (xs : List X) → IsNonDecreasingBy n xs → Rise xs
   rise [] sorted = tt
   rise (x ∷ xs) sorted = (
     are_from (n x) xs (λ i d within. sorted zero (suc i) d (omega arith) (omega (arith, within))),
@@ -49,13 +49,13 @@ module _ {X : Type 0} (n : X → ℕ) where
   )
 
   -- those of one part, and those of this part and all later ones
-  abbrev piece : ℕ → List X → List X
+  abbrev pub piece : ℕ → List X → List X
   piece part xs = filter (λ x. n x == part) xs
 
   abbrev behind : ℕ → List X → List X
   behind part xs = filter (λ x. nat_le part (n x)) xs
 
-  no_piece : (part low : ℕ) (xs : List X) → part < low → AreFrom low xs → piece part xs ≡ []
+  pub no_piece : (part low : ℕ) (xs : List X) → part < low → AreFrom low xs → piece part xs ≡ []
   no_piece part low [] below from = refl
   no_piece part low (x ∷ xs) below from =
       let here : (n x == part) ≡ false = grind (arith, nat_tests, below, from.0) in rw here (no_piece part low xs below from.1)
@@ -100,7 +100,7 @@ part_rises (first ∷ firsts) one other below = by_both (nat_le first one) refl 
     by_both false b false c rest = rw (b, c) rest
     by_both true b false c rest = absurd (grind (arith, nat_tests, b, c, below))
 
-part_within : (firsts : List ℕ) (account : ℕ) → part_of_account firsts account ≤ length firsts
+pub part_within : (firsts : List ℕ) (account : ℕ) → part_of_account firsts account ≤ length firsts
 part_within [] account = omega arith
 part_within (first ∷ firsts) account = by_first (nat_le first account) refl (part_within firsts account)
   where
@@ -177,7 +177,7 @@ module _ (firsts : List ℕ) where
     by_account (Ssf call Ended) paid = tt
     by_account (Recharge account amount until) paid = tt
 
-    all_by_account : (given : List (ℕ × Body)) → ArePaidBy setup payer given → AreByAccount setup (choice_of firsts payer part) given
+    pub all_by_account : (given : List (ℕ × Body)) → ArePaidBy setup payer given → AreByAccount setup (choice_of firsts payer part) given
     all_by_account [] paid = All-nil (λ (item : ℕ × Body). IsByAccount setup (choice_of firsts payer part) item.1)
     all_by_account (item ∷ given) paid =
         let P : ℕ × Body → Type 0 = λ i. IsPaidBy setup payer i.1 in

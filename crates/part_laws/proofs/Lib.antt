@@ -5,6 +5,10 @@ pub mod Choosing
 pub mod Fronts
 pub mod Joined
 pub mod Lines
+pub mod MergedTables
+pub mod OneRecord
 pub mod OneRun
+pub mod Payers
 pub mod Plain
 pub mod Records
+pub mod ScriptParts

@@ -4,4 +4,5 @@ pub mod Numbers
 pub mod Parts
 pub mod Printed
 pub mod Rows
+pub mod ScriptParts
 pub mod Scripts
