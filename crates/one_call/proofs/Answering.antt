@@ -14,8 +14,8 @@ use Rattle.dialogue_core.specs.Talks.{AreGot, Gets, Got, IsTalkedOut, after_got,
 use Rattle.ssf_core.specs.Meters.{Meter}
 use Rattle.one_call.specs.Asks.{IsAskedOnce}
 use Rattle.one_call.specs.Covered.{FitsMeter, IsAtRest, IsReadyCall}
-use Rattle.one_call.specs.Tallies.{with_answer}
-use Rattle.one_call.specs.declared.tally.Tally.{Tally}
+use Rattle.one_call.specs.Counts.{with_answer}
+use Rattle.one_call.specs.declared.counts.Counts.{Counts}
 use Rattle.one_call.proofs.Asking.{FitsThen, answered_fits, deed_is, its_call, no_forfeit, of_call, refused_fits}
 
 -- ---- what it says fits
@@ -49,31 +49,31 @@ ready_by call meter queued before after phase asked (Err fault) moves ready =
 
 -- ---- no forfeit
 
-none_by : (call : ℕ) (meter : Meter) (queued : List Paid) (before after : Option CallFacts) (phase : Phase) (asked : Asked) (answer : Result Reply AccountFault) (tally : Tally)
+none_by : (call : ℕ) (meter : Meter) (queued : List Paid) (before after : Option CallFacts) (phase : Phase) (asked : Asked) (answer : Result Reply AccountFault) (counts : Counts)
     → IfSome before (λ kept. MovesCall call kept asked answer after) → IsReadyCall call meter queued before phase (Asks asked)
-    → (with_answer tally answer).forfeits ≡ tally.forfeits
-none_by call meter queued before after phase asked (Ok reply) tally moves ready =
+    → (with_answer counts answer).forfeits ≡ counts.forfeits
+none_by call meter queued before after phase asked (Ok reply) counts moves ready =
     let moved = rw ready.stands at moves in
-    no_forfeit call meter queued ready.kept phase asked reply tally ready.fits (moved.1 (of_call call meter queued ready.kept phase asked ready.fits)).1
-none_by call meter queued before after phase asked (Err fault) tally moves ready = refl
+    no_forfeit call meter queued ready.kept phase asked reply counts ready.fits (moved.1 (of_call call meter queued ready.kept phase asked ready.fits)).1
+none_by call meter queued before after phase asked (Err fault) counts moves ready = refl
 
 -- ---- a talk
 
 -- a port of a talk is ready for what is said, and none of its answers was a forfeit
-record IsSoFar {P : Type 0} (state : P → ℕ → Option CallFacts) (call : ℕ) (meter : Meter) (queued : List Paid) (from now : Tally × P) (next : Says × Phase) : Type 0 where
+record IsSoFar {P : Type 0} (state : P → ℕ → Option CallFacts) (call : ℕ) (meter : Meter) (queued : List Paid) (from now : Counts × P) (next : Says × Phase) : Type 0 where
   ready : IsReadyCall call meter queued (state now.1 call) next.1 next.0
   kept : now.0.forfeits ≡ from.0.forfeits
 
-so_asked : {P : Type 0} (state : P → ℕ → Option CallFacts) (call : ℕ) (meter : Meter) (queued : List Paid) (from between to : Tally × P) (said : Says) (phase : Phase) (got : Got)
+so_asked : {P : Type 0} (state : P → ℕ → Option CallFacts) (call : ℕ) (meter : Meter) (queued : List Paid) (from between to : Counts × P) (said : Says) (phase : Phase) (got : Got)
     → Gets (IsAskedOnce state) between said got to → IsSoFar state call meter queued from between (said, phase) → IsSoFar state call meter queued from to (after_got phase got)
 so_asked state call meter queued from between to (Asks asked) phase got is so = record {
   ready = ready_by call meter queued (state between.1 call) (state to.1 call) phase asked got (is.moves call) so.ready;
-  kept = ap (λ (t : Tally). t.forfeits) is.counts ∙ none_by call meter queued (state between.1 call) (state to.1 call) phase asked got between.0 (is.moves call) so.ready ∙ so.kept;
+  kept = ap (λ (t : Counts). t.forfeits) is.counts ∙ none_by call meter queued (state between.1 call) (state to.1 call) phase asked got between.0 (is.moves call) so.ready ∙ so.kept;
 }
 so_asked state call meter queued from between to (Sends orders) phase got is so = absurd is
 so_asked state call meter queued from between to Finished phase got is so = absurd is
 
-so_far : {P : Type 0} (state : P → ℕ → Option CallFacts) (call : ℕ) (meter : Meter) (queued : List Paid) (first : Says × Phase) (from : Tally × P) (gots : List Got) (to : Tally × P)
+so_far : {P : Type 0} (state : P → ℕ → Option CallFacts) (call : ℕ) (meter : Meter) (queued : List Paid) (first : Says × Phase) (from : Counts × P) (gots : List Got) (to : Counts × P)
     → AreGot (IsAskedOnce state) first from gots to → IsReadyCall call meter queued (state from.1 call) first.1 first.0 → IsSoFar state call meter queued from to (talked first gots)
 so_far state call meter queued first from [] to is ready = rw is (record { ready = ready; kept = refl })
 so_far state call meter queued first from (got ∷ earlier) to is ready =
@@ -87,7 +87,7 @@ rests_then call meter queued standing phase (Sends orders) rests ready = record 
 rests_then call meter queued standing phase Finished rests ready = record { kept = ready.kept; stands = ready.stands; fits = rw (append-nil queued) ready.fits }
 
 -- a talk that began ready has no forfeit, and ends at rest
-pub talked_out : {P : Type 0} (state : P → ℕ → Option CallFacts) (call : ℕ) (meter : Meter) (queued : List Paid) (first : Says × Phase) (from to : Tally × P) (phase : Phase) (orders : List Order)
+pub talked_out : {P : Type 0} (state : P → ℕ → Option CallFacts) (call : ℕ) (meter : Meter) (queued : List Paid) (first : Says × Phase) (from to : Counts × P) (phase : Phase) (orders : List Order)
     → IsTalkedOut (IsAskedOnce state) first from to phase orders → IsReadyCall call meter queued (state from.1 call) first.1 first.0
     → (to.0.forfeits ≡ from.0.forfeits) × IsAtRest call meter (queued ++ paid_by orders) (state to.1 call) phase
 talked_out state call meter queued first from to phase orders talk ready =

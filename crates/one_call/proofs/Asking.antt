@@ -19,8 +19,8 @@ use Rattle.ssf_core.specs.Meters.{Meter}
 use Rattle.tariff_core.specs.Rates.{Rates}
 use Rattle.tariff_core.specs.declared.times.TimeInfo.{TimeInfo}
 use Rattle.one_call.specs.Covered.{FitsMeter, IsAsking, IsCovered, IsFreshCall, IsMore, IsUsedUp}
-use Rattle.one_call.specs.Tallies.{with_answer}
-use Rattle.one_call.specs.declared.tally.Tally.{Tally}
+use Rattle.one_call.specs.Counts.{with_answer}
+use Rattle.one_call.specs.declared.counts.Counts.{Counts}
 
 -- ---- what an entry does to a call that it is of
 
@@ -220,15 +220,15 @@ accepted_in call meter queued kept Ending of number info asks = absurd asks
 accepted_in call meter queued kept Closed of number info asks = absurd asks
 
 -- no reply of the port's kind is a forfeit
-pub no_forfeit : (call : ℕ) (meter : Meter) (queued : List Paid) (kept : CallFacts) (phase : Phase) (asked : Asked) (reply : Reply) (tally : Tally)
-    → IsAsking call meter queued kept phase asked → FitsCall kept asked reply → (with_answer tally (Ok reply)).forfeits ≡ tally.forfeits
-no_forfeit call meter queued kept phase asked (Credited a) tally asks kind = refl
-no_forfeit call meter queued kept phase asked (CreditOver a) tally asks kind = refl
-no_forfeit call meter queued kept phase asked (Granted units last a) tally asks kind = refl
-no_forfeit call meter queued kept phase asked (Denied a) tally asks kind = refl
-no_forfeit call meter queued kept phase asked (Settled p a) tally asks kind = refl
-no_forfeit call meter queued kept phase asked (Returned p a) tally asks kind = refl
-no_forfeit call meter queued kept phase (Credits amount until) (Forfeit p a) tally asks kind = absurd kind
-no_forfeit call meter queued kept phase (Reserves of plan wanted least moment) (Forfeit p a) tally asks kind = absurd kind
-no_forfeit call meter queued kept phase (Settles of number info) (Forfeit p a) tally asks kind = absurd (unsettled kept info (accepted_in call meter queued kept phase of number info asks) kind)
-no_forfeit call meter queued kept phase (Returns of) (Forfeit p a) tally asks kind = absurd kind
+pub no_forfeit : (call : ℕ) (meter : Meter) (queued : List Paid) (kept : CallFacts) (phase : Phase) (asked : Asked) (reply : Reply) (counts : Counts)
+    → IsAsking call meter queued kept phase asked → FitsCall kept asked reply → (with_answer counts (Ok reply)).forfeits ≡ counts.forfeits
+no_forfeit call meter queued kept phase asked (Credited a) counts asks kind = refl
+no_forfeit call meter queued kept phase asked (CreditOver a) counts asks kind = refl
+no_forfeit call meter queued kept phase asked (Granted units last a) counts asks kind = refl
+no_forfeit call meter queued kept phase asked (Denied a) counts asks kind = refl
+no_forfeit call meter queued kept phase asked (Settled p a) counts asks kind = refl
+no_forfeit call meter queued kept phase asked (Returned p a) counts asks kind = refl
+no_forfeit call meter queued kept phase (Credits amount until) (Forfeit p a) counts asks kind = absurd kind
+no_forfeit call meter queued kept phase (Reserves of plan wanted least moment) (Forfeit p a) counts asks kind = absurd kind
+no_forfeit call meter queued kept phase (Settles of number info) (Forfeit p a) counts asks kind = absurd (unsettled kept info (accepted_in call meter queued kept phase of number info asks) kind)
+no_forfeit call meter queued kept phase (Returns of) (Forfeit p a) counts asks kind = absurd kind

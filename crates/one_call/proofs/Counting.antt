@@ -3,15 +3,15 @@ use Rattle.std.proofs.Common.{◌≡◌, Option, Some, None, refl}
 use Rattle.cap_values.specs.declared.message.SsfMsg.{SsfMsg}
 use Rattle.cap_values.specs.declared.message.SsfMsg.TheVariants as msg
 use Rattle.ssf_core.specs.declared.fault.SsfFault.{SsfFault}
-use Rattle.one_call.specs.Tallies.{with_fault, with_message}
-use Rattle.one_call.specs.declared.tally.Tally.{Tally}
+use Rattle.one_call.specs.Counts.{with_fault, with_message}
+use Rattle.one_call.specs.declared.counts.Counts.{Counts}
 
-pub message_counts : (tally : Tally) (message : SsfMsg) → (with_message tally message).forfeits ≡ tally.forfeits
-message_counts tally (msg.InitialDp call calling called) = refl
-message_counts tally (msg.EventReport event leg mode) = refl
-message_counts tally (msg.ChargingReport active info) = refl
-message_counts tally msg.Ended = refl
+pub message_counts : (counts : Counts) (message : SsfMsg) → (with_message counts message).forfeits ≡ counts.forfeits
+message_counts counts (msg.InitialDp call calling called) = refl
+message_counts counts (msg.EventReport event leg mode) = refl
+message_counts counts (msg.ChargingReport active info) = refl
+message_counts counts msg.Ended = refl
 
-pub input_counts : (tally : Tally) (fault : Option SsfFault) → (with_fault tally fault).forfeits ≡ tally.forfeits
-input_counts tally None = refl
-input_counts tally (Some fault) = refl
+pub input_counts : (counts : Counts) (fault : Option SsfFault) → (with_fault counts fault).forfeits ≡ counts.forfeits
+input_counts counts None = refl
+input_counts counts (Some fault) = refl

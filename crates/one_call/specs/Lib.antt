@@ -5,4 +5,4 @@ pub mod Drives
 pub mod Scripts
 pub mod Starts
 pub mod Steps
-pub mod Tallies
+pub mod Counts

@@ -6,14 +6,14 @@ ghost use Rattle.dialogue_core.specs.Views.{phase_of, says_of};
 ghost use Rattle.ssf_core.specs.Meters.{Meter};
 ghost use Rattle.one_call.specs.Covered.{IsAtRest, IsReadyCall};
 
-use crate::tally::Tally;
+use crate::counts::Counts;
 use account_core::{AccountFault, Op, Port, Reply};
 use arrayvec::ArrayVec;
 use cap_values::ScfOp;
 use dialogue_core::{Asker, Dialogue, Turn};
 use std::convert::Infallible;
 
-impl<P: Port> Asker<P> for Tally {
+impl<P: Port> Asker<P> for Counts {
     ghost use Rattle.one_call.specs.Asks.{IsAskedOnce};
 
     type End = Infallible;
@@ -36,20 +36,20 @@ impl<P: Port> Asker<P> for Tally {
 pub(crate) fn converse<P: Port>(
     port: &mut P,
     dialogue: &mut Dialogue,
-    tally: &mut Tally,
+    counts: &mut Counts,
     turn: Turn,
 ) -> ArrayVec<ScfOp, 4>
     ensures kept { (call : ℕ) (meter : Meter) (queued : List Paid)
         → IsReadyCall call meter queued
         (P.state port.old call) (phase_of dialogue.old) (says_of turn)
-        → tally.new.forfeits ≡ tally.old.forfeits }
+        → counts.new.forfeits ≡ counts.old.forfeits }
     ensures rests { (call : ℕ) (meter : Meter) (queued : List Paid)
         → IsReadyCall call meter queued
         (P.state port.old call) (phase_of dialogue.old) (says_of turn)
         → IsAtRest call meter (queued ++ paid_by (orders_of result.items))
         (P.state port.new call) (phase_of dialogue.new) }
 {
-    match dialogue_core::converse(tally, port, dialogue, turn) {
+    match dialogue_core::converse(counts, port, dialogue, turn) {
         Ok(ops) => ops,
         Err(never) => match never {},
     }

@@ -10,7 +10,7 @@ ghost use Rattle.one_call.specs.Deliveries.{AreSent, queued_in};
 
 use crate::DriveFault;
 use crate::converse::converse;
-use crate::tally::Tally;
+use crate::counts::Counts;
 use account_core::Port;
 use arrayvec::ArrayVec;
 use cap_values::{ScfOp, SsfMsg};
@@ -23,24 +23,24 @@ use std::collections::VecDeque;
 fn hear<P: Port>(
     port: &mut P,
     dialogue: &mut Dialogue,
-    tally: &mut Tally,
+    counts: &mut Counts,
     at: Moment,
     message: SsfMsg,
 ) -> ArrayVec<ScfOp, 4>
     ensures kept { (call now : ℕ) (meter after : Meter) (queued : List Paid)
         → IsAtRest call meter queued (P.state port.old call) (phase_of dialogue.old)
         → MetersItem meter now (sent.Msg message) after
-        → tally.new.forfeits ≡ tally.old.forfeits }
+        → counts.new.forfeits ≡ counts.old.forfeits }
     ensures rests { (call now : ℕ) (meter after : Meter) (queued : List Paid)
         → IsAtRest call meter queued (P.state port.old call) (phase_of dialogue.old)
         → MetersItem meter now (sent.Msg message) after
         → IsAtRest call after (queued ++ paid_by (orders_of result.items))
         (P.state port.new call) (phase_of dialogue.new) }
 {
-    let number = tally.messages;
-    *tally = tally.with_message(&message);
+    let number = counts.messages;
+    *counts = counts.with_message(&message);
     match dialogue.take(number, at, message) {
-        Ok(turn) => converse(port, dialogue, tally, turn),
+        Ok(turn) => converse(port, dialogue, counts, turn),
         Err(_) => ArrayVec::new(),
     }
 }
@@ -50,7 +50,7 @@ fn hear<P: Port>(
 fn hear_one<P: Port>(
     port: &mut P,
     dialogue: &mut Dialogue,
-    tally: &mut Tally,
+    counts: &mut Counts,
     deliveries: &mut VecDeque<Delivery>,
     due: Moment,
     to: u64,
@@ -60,7 +60,7 @@ fn hear_one<P: Port>(
         → IsAtRest call meter (handed ++ queued_in deliveries.old.items)
         (P.state port.old call) (phase_of dialogue.old)
         → MetersItem meter now out.item after
-        → tally.new.forfeits ≡ tally.old.forfeits }
+        → counts.new.forfeits ≡ counts.old.forfeits }
     ensures rests { (call now : ℕ) (meter after : Meter) (handed : List Paid)
         → IsAtRest call meter (handed ++ queued_in deliveries.old.items)
         (P.state port.old call) (phase_of dialogue.old)
@@ -72,7 +72,7 @@ fn hear_one<P: Port>(
 {
     match out.item {
         Item::Msg(message) => {
-            let ops = hear(port, dialogue, tally, out.at, message);
+            let ops = hear(port, dialogue, counts, out.at, message);
             Ok(send(deliveries, due, to, ops.as_slice())?)
         }
         Item::Proceed => Ok(()),
@@ -85,7 +85,7 @@ fn hear_one<P: Port>(
 pub(crate) fn hear_all<P: Port>(
     port: &mut P,
     dialogue: &mut Dialogue,
-    tally: &mut Tally,
+    counts: &mut Counts,
     deliveries: &mut VecDeque<Delivery>,
     due: Moment,
     to: u64,
@@ -95,7 +95,7 @@ pub(crate) fn hear_all<P: Port>(
         → IsAtRest call meter (handed ++ queued_in deliveries.old.items)
         (P.state port.old call) (phase_of dialogue.old)
         → RunsThrough handed meter sent.now after
-        → IfOk result (λ _. tally.new.forfeits ≡ tally.old.forfeits) }
+        → IfOk result (λ _. counts.new.forfeits ≡ counts.old.forfeits) }
     ensures rests { (call : ℕ) (meter after : Meter) (handed : List Paid)
         → IsAtRest call meter (handed ++ queued_in deliveries.old.items)
         (P.state port.old call) (phase_of dialogue.old)
@@ -106,7 +106,7 @@ pub(crate) fn hear_all<P: Port>(
     ensures fault { IfErr result (λ fault. fault ≡ DriveFault.OutOfMemory) }
 {
     for out in sent {
-        hear_one(port, dialogue, tally, deliveries, due, to, *out)?;
+        hear_one(port, dialogue, counts, deliveries, due, to, *out)?;
     }
     Ok(())
 }

@@ -4,6 +4,7 @@
 
 mod call_end;
 mod converse;
+mod counts;
 mod driving;
 mod fault;
 mod hear;
@@ -11,7 +12,6 @@ mod moments;
 mod rounds;
 mod script;
 mod step;
-mod tally;
 
 pub use call_end::CallEnd;
 pub use driving::drive_call;

@@ -6,10 +6,10 @@ ghost use Rattle.account_core.specs.Known.{nothing_known};
 ghost use Rattle.one_call.specs.Starts.{IsStarted};
 
 use crate::converse::converse;
+use crate::counts::Counts;
 use crate::hear::hear_all;
 use crate::moments::next_input;
 use crate::step::step;
-use crate::tally::Tally;
 use crate::{CallEnd, DriveFault};
 use account_core::Port;
 use cap_values::Number;
@@ -40,24 +40,24 @@ pub(crate) fn play<P: Port>(
     ensures fault { IfErr result (λ fault. fault ≡ DriveFault.OutOfMemory) }
 {
     let delay = u64::from(delay);
-    let (mut ssf, mut tally) = started(config, start, call);
+    let (mut ssf, mut counts) = started(config, start, call);
     let (mut dialogue, turn) = Dialogue::begin(call.0, start, route, service);
     let mut deliveries = VecDeque::new(alloc);
     let mut played = 0;
-    let ops = converse(port, &mut dialogue, &mut tally, turn);
+    let ops = converse(port, &mut dialogue, &mut counts, turn);
     send(&mut deliveries, start + delay, call.0, ops.as_slice())?;
     'inputs: for _ in 0..u64::MAX {
         let Some(now) = next_input(&ssf, &deliveries, script, played) else {
             break;
         };
         let step = step(&mut ssf, &mut deliveries, script, &mut played, now);
-        tally = tally.with_input(step.fault);
+        counts = counts.with_input(step.fault);
         let due = now + delay;
         let sent = step.sent.as_slice();
         hear_all(
             port,
             &mut dialogue,
-            &mut tally,
+            &mut counts,
             &mut deliveries,
             due,
             call.0,
@@ -66,15 +66,15 @@ pub(crate) fn play<P: Port>(
     }
     Ok(CallEnd {
         state: ssf.state(),
-        reports: tally.reports,
-        forfeits: tally.forfeits,
-        last: tally.last,
-        refused: tally.refused,
+        reports: counts.reports,
+        forfeits: counts.forfeits,
+        last: counts.last,
+        refused: counts.refused,
     })
 }
 
 /// Invokes a new gsmSSF and triggers it.
-fn started(config: SsfConfig, start: Moment, call: (u64, Number, Number)) -> (Ssf, Tally)
+fn started(config: SsfConfig, start: Moment, call: (u64, Number, Number)) -> (Ssf, Counts)
     requires { start ≤ HORIZON }
     ensures started { IsStarted result.0 }
     ensures none { result.1.forfeits ≡ 0 }
@@ -82,6 +82,6 @@ fn started(config: SsfConfig, start: Moment, call: (u64, Number, Number)) -> (Ss
     let mut ssf = Ssf::new(config);
     let invoked = ssf.invoke(start);
     let triggered = ssf.trigger(start, call.0, call.1, call.2);
-    let tally = Tally::new().with_input(invoked.fault);
-    (ssf, tally.with_input(triggered.fault))
+    let counts = Counts::new().with_input(invoked.fault);
+    (ssf, counts.with_input(triggered.fault))
 }

@@ -10,7 +10,7 @@ abbrev pub invariant-loop-out : goal.invariant-loop-out
 invariant-loop-out g l = record {
   kept : (call : ℕ) (meter after : Meter) (handed : List Paid)
       → IsAtRest call meter (handed ++ queued_in l.initial.deliveries.items) (g.P.Port.state l.initial.port call) (phase_of l.initial.dialogue)
-      → RunsThrough handed meter l.sent after → l.tally.forfeits ≡ l.initial.tally.forfeits;
+      → RunsThrough handed meter l.sent after → l.counts.forfeits ≡ l.initial.counts.forfeits;
   rests : (call : ℕ) (meter after : Meter) (handed : List Paid)
       → IsAtRest call meter (handed ++ queued_in l.initial.deliveries.items) (g.P.Port.state l.initial.port call) (phase_of l.initial.dialogue)
       → RunsThrough handed meter l.sent after

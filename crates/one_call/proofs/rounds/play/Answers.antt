@@ -1,6 +1,6 @@
 use Rattle.std.proofs.Common.{[], ap, ◌∙◌, ◌+◌}
 use Rattle.dialogue_core.specs.Views.{phase_of, says_of}
-use Rattle.one_call.specs.declared.tally.Tally.{Tally}
+use Rattle.one_call.specs.declared.counts.Counts.{Counts}
 use Rattle.one_call.proofs.Counting.{input_counts}
 use Rattle.one_call.proofs.Hearing.{first_rests}
 use Rattle.one_call.proofs.Starting.{begun_ready}
@@ -29,7 +29,7 @@ inputs-preserved g c = λ new.
     let run = rw (← c.as_slice-sent.ensures.value) at runs in
     record {
       none = c.in_ok-hear_all.ensures.kept c.args.call.0 inv.meter later handed rest run
-          ∙ (ap (λ (t : Tally). t.forfeits) c.with_input-tally.ensures ∙ (input_counts c.inputs.tally c.step-step.result.fault ∙ inv.none));
+          ∙ (ap (λ (t : Counts). t.forfeits) c.with_input-counts.ensures ∙ (input_counts c.inputs.counts c.step-step.result.fault ∙ inv.none));
       meter = later;
       shows = shows;
       rests = c.in_ok-hear_all.ensures.rests c.args.call.0 inv.meter later handed rest run;

@@ -1,7 +1,7 @@
 //! What is counted as a call is driven.
 
 ghost use Rattle.std.specs.Prelude.{◌≡◌};
-ghost use Rattle.one_call.specs.Tallies.{asks_counted, no_tally, with_answer, with_fault, with_message};
+ghost use Rattle.one_call.specs.Counts.{asks_counted, nothing_counted, with_answer, with_fault, with_message};
 
 use account_core::{AccountFault, Reply};
 use cap_values::SsfMsg;
@@ -10,7 +10,7 @@ use tariff_core::TimeInfo;
 
 /// What was counted of a call so far. A count that reaches the largest `u64` stays there.
 #[derive(Clone, Copy, Debug, PartialEq, Eq)]
-pub(crate) struct Tally {
+pub(crate) struct Counts {
     /// The messages of the gsmSSF: the next one has this number.
     pub messages: u64,
     /// The charging reports among them.
@@ -23,12 +23,12 @@ pub(crate) struct Tally {
     pub refused: u64,
 }
 
-impl Tally {
+impl Counts {
     /// Nothing was counted.
-    pub fn new() -> Tally
-        ensures { result ≡ no_tally }
+    pub fn new() -> Counts
+        ensures { result ≡ nothing_counted }
     {
-        Tally {
+        Counts {
             messages: 0,
             reports: 0,
             forfeits: 0,
@@ -37,28 +37,28 @@ impl Tally {
         }
     }
 
-    /// The tally with a message of the gsmSSF.
-    pub fn with_message(self, message: &SsfMsg) -> Tally
+    /// The counts with a message of the gsmSSF.
+    pub fn with_message(self, message: &SsfMsg) -> Counts
         ensures { result ≡ with_message self message.now }
     {
         let messages = counted(self.messages);
         match *message {
-            SsfMsg::ChargingReport { info, .. } => Tally {
+            SsfMsg::ChargingReport { info, .. } => Counts {
                 messages,
                 reports: counted(self.reports),
                 last: Some(info),
                 ..self
             },
-            _ => Tally { messages, ..self },
+            _ => Counts { messages, ..self },
         }
     }
 
-    /// The tally with an answer of the port.
-    pub fn with_answer(self, answer: &Result<Reply, AccountFault>) -> Tally
+    /// The counts with an answer of the port.
+    pub fn with_answer(self, answer: &Result<Reply, AccountFault>) -> Counts
         ensures { result ≡ with_answer self answer.now }
     {
         match *answer {
-            Ok(Reply::Forfeit { .. }) => Tally {
+            Ok(Reply::Forfeit { .. }) => Counts {
                 forfeits: counted(self.forfeits),
                 ..self
             },
@@ -66,12 +66,12 @@ impl Tally {
         }
     }
 
-    /// The tally with an input of the gsmSSF, and why it was refused, if it was.
-    pub fn with_input(self, fault: Option<SsfFault>) -> Tally
+    /// The counts with an input of the gsmSSF, and why it was refused, if it was.
+    pub fn with_input(self, fault: Option<SsfFault>) -> Counts
         ensures { result ≡ with_fault self fault }
     {
         match fault {
-            Some(_) => Tally {
+            Some(_) => Counts {
                 refused: counted(self.refused),
                 ..self
             },
