@@ -8,3 +8,4 @@ pub mod Lines
 pub mod OneRun
 pub mod Plain
 pub mod Records
+pub mod RoundMoments
