@@ -2,6 +2,7 @@ pub mod Apart
 pub mod Beside
 pub mod Blind
 pub mod Choosing
+pub mod ChosenFronts
 pub mod ChosenSteps
 pub mod Fronts
 pub mod Joined
