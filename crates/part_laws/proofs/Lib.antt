@@ -6,8 +6,10 @@ pub mod ChosenFronts
 pub mod ChosenSteps
 pub mod Fronts
 pub mod Joined
+pub mod LeastMoments
 pub mod Lines
 pub mod OneRun
 pub mod Plain
 pub mod Records
 pub mod RoundMoments
+pub mod RoundsBeside
