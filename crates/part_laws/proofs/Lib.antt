@@ -2,8 +2,11 @@ pub mod Apart
 pub mod Beside
 pub mod Blind
 pub mod Choosing
+pub mod ChosenFronts
+pub mod ChosenSteps
 pub mod Fronts
 pub mod Joined
+pub mod LeastMoments
 pub mod Lines
 pub mod MergedTables
 pub mod OneRecord
@@ -11,4 +14,6 @@ pub mod OneRun
 pub mod Payers
 pub mod Plain
 pub mod Records
+pub mod RoundMoments
+pub mod RoundsBeside
 pub mod ScriptParts
