@@ -3,6 +3,7 @@ pub mod Beside
 pub mod Blind
 pub mod Choosing
 pub mod Fronts
+pub mod FrontsApart
 pub mod Joined
 pub mod Lines
 pub mod OneRun
