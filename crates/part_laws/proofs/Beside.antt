@@ -1,5 +1,5 @@
 -- The play of some rows beside the play of all: what holds between two rounds, and what a round of all is for some.
-use Rattle.std.proofs.Common.{◌≡◌, ◌≤◌, ◌<◌, ◌+◌, ◌++◌, ◌⊎◌, ℕ, Bool, true, false, None, List, [], ◌∷◌, All}
+use Rattle.std.proofs.Common.{◌≡◌, ◌≤◌, ◌<◌, ◌+◌, ◌++◌, ◌⊎◌, ℕ, Bool, true, false, Some, None, List, [], ◌∷◌, All}
 use Rattle.std.specs.List.{filter}
 use Rattle.part_laws.specs.Chosen.{Choice, chosen}
 use Rattle.part_laws.specs.Rows.{chosen_rows}
@@ -11,7 +11,9 @@ use Rattle.script_player.specs.Dues.{HasTimer, ssf_of}
 use Rattle.script_player.specs.Networks.{Shown}
 use Rattle.script_player.specs.Plays.{Play}
 use Rattle.script_player.specs.Rounds.{IsEnd, IsRound, IsTurn, waiting}
-use Rattle.ssf_core.specs.Calls.{View}
+use Rattle.ssf_core.specs.Calls.{IsExpiry, Stands, View}
+use Rattle.ssf_core.specs.Happenings.{Happening}
+use Rattle.ssf_core.specs.Traces.{MayFollow}
 use Rattle.ssf_core.specs.declared.deliveries.Delivery.{Delivery}
 
 -- of all gsmSSFs those of the chosen calls stand alike here, and there is no other
@@ -39,12 +41,20 @@ abbrev pub Rises : ℕ → List Delivery → Type 0
 Rises from [] = Unit {0}
 Rises from (delivery ∷ queue) = (from ≤ delivery.at) × Rises delivery.at queue
 
--- a play is between two rounds, of which one was at a moment: nothing is left from before it, and the operations are in the order in which they come
+-- a gsmSSF stands for a trace after which no timer expires before a moment
+pub record ExpiresFrom (view : View) (moment : ℕ) : Type 0 where
+  pub trace : List Happening
+  pub stands : Stands view trace
+  pub ahead : (e : Happening) → IsExpiry e.what → MayFollow view.config trace e → moment ≤ e.at
+
+-- a play is between two rounds, of which one was at a moment: nothing is left from before it, the operations are in the order in which they come, and no timer expires before the last moment of its
+-- gsmSSF
 pub record IsBetween (play : Play) (queue : List Delivery) (last : ℕ) : Type 0 where
   pub timers : (call at : ℕ) → HasTimer play.network.ssfs call at → last < at
   pub rows : rows_are_in_order last play.left ≡ true
   pub rises : Rises last queue
   pub within : All (λ delivery. delivery.at ≤ last + play.delay) queue
+  pub stood : (call : ℕ) (view : View) → ssf_of play.network.ssfs call ≡ Some view → ExpiresFrom view view.last
 
 -- what a round has added, all at its moment
 pub record IsAdded (before after : Play) (now : ℕ) (added : List (ℕ × Body)) : Type 0 where
@@ -82,5 +92,5 @@ pub record HasEnded (part its : Play) : Type 0 where
 
 abbrev pub EndsAreFollowed : Type 0
 EndsAreFollowed =
-    (choice : Choice) (whole after part its : Play) (answers own_answers : List Answer) (more : Bool) → IsEnd whole after answers → IsTurn more part its own_answers
-    → IsPartPlay choice whole part (waiting whole answers) (waiting part own_answers) → HasEnded part its
+    (choice : Choice) (whole after part its : Play) (answers own_answers : List Answer) (last : ℕ) (more : Bool) → IsEnd whole after answers → IsTurn more part its own_answers
+    → IsBetween whole (waiting whole answers) last → IsPartPlay choice whole part (waiting whole answers) (waiting part own_answers) → HasEnded part its
