@@ -7,5 +7,7 @@ pub mod FrontsApart
 pub mod Joined
 pub mod Lines
 pub mod OneRun
+pub mod OwnDeliveries
+pub mod OwnRows
 pub mod Plain
 pub mod Records
