@@ -9,7 +9,7 @@ use Rattle.live_recovery.proofs.Alike.{GoAlike, goes_itself}
 use Rattle.live_recovery.proofs.Alone.{answers_all, are_legal, as_many, histories_of, none_is_fault, opening_at, own_lists, shares_all, until_at}
 use Rattle.live_recovery.proofs.Chains.{NoFault, chains_alike}
 use Rattle.live_recovery.proofs.Handling.{AreLegal}
-use Rattle.live_recovery.specs.Laws.{views_of}
+use Rattle.live_recovery.specs.Laws.{NoneIsRefused, views_of}
 use Rattle.part_laws.proofs.Blind.{legal_same}
 use Rattle.part_laws.proofs.Choosing.{GoByAccount, HoldsPart, chain_part, chosen_posts, chosen_said_so, masked, picks}
 use Rattle.part_laws.proofs.Plain.{AllShown, chain_plain, plain, plain_lists, plain_post, plain_said_so}
@@ -23,14 +23,15 @@ use Rattle.run_values.specs.declared.post.Answer.{Answer}
 use Rattle.run_values.specs.declared.post.Body.{Body}
 use Rattle.run_values.specs.declared.post.Post.{Post}
 use Rattle.runs_core.specs.Closing.{lists_of, refuses_in, terms_shown}
-use Rattle.runs_core.specs.Hearing.{IsAnsweredBy, answers_to}
+use Rattle.runs_core.specs.Hearing.{IsAnsweredBy}
+use Rattle.runs_core.specs.Runs.{IsRun}
 use Rattle.runs_core.specs.Shares.{Item, item_at, item_of, numbered}
 use Rattle.runs_core.specs.Teams.{terms_with}
 use Rattle.shared_account.specs.Closed.{Closed}
 use Rattle.shared_account.specs.Seen.{StoodIn}
 use Rattle.shared_account.specs.Terms.{Terms}
-use Rattle.workers_core.specs.Chains.{at_first, seat_numbers}
-use Rattle.workers_core.specs.Handled.{AnswerView, answer_view}
+use Rattle.workers_core.specs.Chains.{AreAnswered, at_first, seat_numbers}
+use Rattle.workers_core.specs.Handled.{AnswerView, Holding, answer_view}
 
 module _ (setup : Setup) (choice : Choice) where
   -- ---- the posts of both
@@ -68,13 +69,6 @@ module _ (setup : Setup) (choice : Choice) where
           ≡ map (item_at 0) (if b then item ∷ chosen choice given else chosen choice given)
       by_own true rest = ap (λ l. item_at 0 item ∷ l) rest
       by_own false rest = rest
-
-  -- the posts of these accounts are those of the part, but for their numbers
-  posts_same : (given : List (ℕ × Body)) (posts own_posts : List Post) → map item_of posts ≡ numbered 0 given → map item_of own_posts ≡ numbered 0 (chosen choice given)
-      → map item_of (map plain_post own_posts) ≡ map item_of (map plain_post (chosen_posts setup choice posts))
-  posts_same given posts own_posts share own_share =
-      items_plain own_posts ∙ ap (map plain_item) own_share ∙ all_plain 0 (chosen choice given) ∙ sym (chosen_plain 0 given)
-      ∙ ap (λ l. map plain_item (own_items l)) (sym share) ∙ ap (map plain_item) (sym (items_chosen posts)) ∙ sym (items_plain (chosen_posts setup choice posts))
 
   go_by : (first : ℕ) (given : List (ℕ × Body)) (posts : List Post) → map item_of posts ≡ numbered first given → AreByAccount setup choice given → GoByAccount setup choice posts
   go_by first given [] is by = tt
@@ -198,14 +192,33 @@ module _ (setup : Setup) (choice : Choice) where
       ap (λ (b : Closed). b ∷ map unnumbered_book own_books) (book_same own book (choice.accounts book.account) (own_first ∙ sym first) history)
       ∙ ap (λ l. chosen_book choice book ∷ l) (books_same limit accounts books own_books (cc opened) (cc own_opened) later)
 
--- ---- the law
+-- ---- both, without the numbers of items
 
-pub accounts_apart : AccountsDontInterfere
-accounts_apart setup choice given answers own_answers books own_books proper by run own_run none own_none =
+-- what a run of all items answers to those of the part, and what a run of other items answers, as chains of posts without numbers
+pub record ArePlainChains (setup : Setup) (choice : Choice) (given its : List (ℕ × Body)) (answers own_answers : List Answer) (books own_books : List Closed) : Type 0 where
+  pub posts : List Post
+  pub own_posts : List Post
+  pub items_are : map item_of posts ≡ map (item_at 0) (chosen choice given)
+  pub own_items_are : map item_of own_posts ≡ map (item_at 0) its
+  pub last : Holding
+  pub own_last : Holding
+  pub chain : AreAnswered AllShown setup (seat_numbers 0 setup) posts (map unnumbered_answer (answers_for choice given answers)) (plain (at_first setup)) last
+  pub own_chain : AreAnswered AllShown setup (seat_numbers 0 setup) own_posts (map unnumbered_answer own_answers) (plain (at_first setup)) own_last
+  pub none : NoFault (map unnumbered_answer (answers_for choice given answers))
+  pub own_none : NoFault (map unnumbered_answer own_answers)
+  pub legal : AreLegal (opening_at setup.accounts) (until_at setup.accounts) (length setup.accounts) last.lists
+  pub own_legal : AreLegal (opening_at setup.accounts) (until_at setup.accounts) (length setup.accounts) own_last.lists
+  pub lists_are : last.lists ≡ plain_lists (masked (picks setup choice) (histories_of books))
+  pub own_lists_are : own_last.lists ≡ plain_lists (histories_of own_books)
+
+pub plain_chains : (setup : Setup) (choice : Choice) (given its : List (ℕ × Body)) (answers own_answers : List Answer) (books own_books : List Closed) → AreByAccount setup choice given
+    → IsRun StoodIn setup 1 given answers books → IsRun StoodIn setup 1 its own_answers own_books → NoneIsRefused answers → NoneIsRefused own_answers
+    → ArePlainChains setup choice given its answers own_answers books own_books
+plain_chains setup choice given its answers own_answers books own_books by run own_run none own_none =
     let a : IsAnsweredBy StoodIn setup 1 given answers books 0 = run.answered 0 (omega arith) in
-    let b : IsAnsweredBy StoodIn setup 1 (chosen choice given) own_answers own_books 0 = own_run.answered 0 (omega arith) in
+    let b : IsAnsweredBy StoodIn setup 1 its own_answers own_books 0 = own_run.answered 0 (omega arith) in
     let views = ap views_of (answers_all given answers (as_many given answers run.each_heard)) in
-    let own_views = ap views_of (answers_all (chosen choice given) own_answers (as_many (chosen choice given) own_answers own_run.each_heard)) in
+    let own_views = ap views_of (answers_all its own_answers (as_many its own_answers own_run.each_heard)) in
     let lists = own_lists books run.owned in
     let its_lists = own_lists own_books own_run.owned in
     let o = opening_at setup.accounts in
@@ -216,31 +229,55 @@ accounts_apart setup choice given answers own_answers books own_books proper by 
     let own_legal = subst L (sym its_lists) (λ place within. are_legal setup.limit setup.accounts own_books place own_run.opened own_run.legal within) in
     let N : List AnswerView → Type 0 = NoFault in
     let share = a.share ∙ shares_all given in
-    let own_share = b.share ∙ shares_all (chosen choice given) in
+    let own_share = b.share ∙ shares_all its in
     let numbers = seat_numbers 0 setup in
+    let start = plain (at_first setup) in
     let part = chain_part setup choice (refuses_in StoodIn books 0) numbers a.posts _ (at_first setup) _ (at_first setup) (λ call standing is. absurd (cc)) (go_by setup choice 0 given a.posts share by)
     (first_holds setup choice) a.answered.chain in
-    let one = chain_plain AllShown setup numbers _ _ (at_first setup) part.last part.chain in
-    let two = chain_plain (refuses_in StoodIn own_books 0) setup numbers b.posts _ (at_first setup) _ b.answered.chain in
-    let same_posts = posts_same setup choice given a.posts b.posts share own_share in
     let ours = map plain_post (chosen_posts setup choice a.posts) in
-    let G : List Item → Type 0 = λ items. GoAlike (map item_of ours) items [] in
-    let alike_posts : GoAlike (map item_of ours) (map item_of (map plain_post b.posts)) [] =
-    subst G (append-nil (map item_of ours) ∙ sym same_posts) (goes_itself (map item_of ours) []) in
-    let no_fault = no_fault_plain setup choice _ (no_fault_chosen setup choice a.posts _ (subst N (sym views) (none_is_fault answers none))) in
-    let own_no_fault = no_fault_plain setup choice _ (subst N (sym own_views) (none_is_fault own_answers own_none)) in
-    let many = length-map (at_first setup).lists without_numbers ∙ length-map setup.accounts _ in
-    let masked_legal = legal_masked setup choice o u count (picks setup choice) (lists_of 0 books) legal in
-    let chains = chains_alike o u AllShown AllShown setup numbers proper ours (map plain_post b.posts) [] _ _ (plain (at_first setup)) _ (plain (at_first setup)) _
-    alike_posts many (λ call. tt) (record { lists = refl; talks = λ call. refl }) no_fault own_no_fault
-    (legal_plain setup choice o u count part.last.lists (subst L (sym part.holds.lists) masked_legal))
-    (legal_plain setup choice o u count (lists_of 0 own_books) own_legal) one two in
-    let same = chains.same refl in
     let said_so = chosen_said_so setup choice a.posts in
+    let said = ap (λ l. map plain_said_so (said_so l)) views ∙ ap (map plain_said_so) (said_so_same setup choice 0 given a.posts answers share) ∙ said_same setup choice (answers_for choice given answers) in
+    let own_said = ap (map plain_said_so) own_views ∙ said_same setup choice own_answers in
+    let own_new : Holding = record { lists = lists_of 0 own_books; talks = b.answered.talks } in
+    let C : List AnswerView → Type 0 = λ l. AreAnswered AllShown setup numbers ours l start (plain part.last) in
+    let D : List AnswerView → Type 0 = λ l. AreAnswered AllShown setup numbers (map plain_post b.posts) l start (plain own_new) in
+    let masked_legal = legal_masked setup choice o u count (picks setup choice) (lists_of 0 books) legal in
     record {
-      answers_are = sym (said_same setup choice own_answers) ∙ ap (map plain_said_so) (sym own_views) ∙ chains.answers_are ∙ ap (λ l. map plain_said_so (said_so (map answer_view (answers_to 1 0 given answers))) ++ l) same.0
-          ∙ append-nil (map plain_said_so (said_so (map answer_view (answers_to 1 0 given answers)))) ∙ ap (λ l. map plain_said_so (said_so l)) views
-          ∙ ap (map plain_said_so) (said_so_same setup choice 0 given a.posts answers share) ∙ said_same setup choice (answers_for choice given answers);
-      books_are = books_same setup choice setup.limit setup.accounts books own_books run.opened own_run.opened
-          (ap (λ l. plain_lists (masked (picks setup choice) l)) (sym lists) ∙ ap plain_lists (sym part.holds.lists) ∙ same.1 ∙ ap plain_lists its_lists);
+      posts = ours;
+      own_posts = map plain_post b.posts;
+      items_are = items_plain setup choice (chosen_posts setup choice a.posts) ∙ ap (map (plain_item setup choice)) (items_chosen setup choice a.posts)
+          ∙ ap (λ l. map (plain_item setup choice) (own_items setup choice l)) share ∙ chosen_plain setup choice 0 given;
+      own_items_are = items_plain setup choice b.posts ∙ ap (map (plain_item setup choice)) own_share ∙ all_plain setup choice 0 its;
+      last = plain part.last;
+      own_last = plain own_new;
+      chain = subst C said (chain_plain AllShown setup numbers _ _ (at_first setup) part.last part.chain);
+      own_chain = subst D own_said (chain_plain (refuses_in StoodIn own_books 0) setup numbers b.posts _ (at_first setup) own_new b.answered.chain);
+      none = subst N said (no_fault_plain setup choice _ (no_fault_chosen setup choice a.posts _ (subst N (sym views) (none_is_fault answers none))));
+      own_none = subst N own_said (no_fault_plain setup choice _ (subst N (sym own_views) (none_is_fault own_answers own_none)));
+      legal = legal_plain setup choice o u count part.last.lists (subst L (sym part.holds.lists) masked_legal);
+      own_legal = legal_plain setup choice o u count (lists_of 0 own_books) own_legal;
+      lists_are = ap plain_lists part.holds.lists ∙ ap (λ l. plain_lists (masked (picks setup choice) l)) lists;
+      own_lists_are = ap plain_lists its_lists;
+    }
+
+-- a worker has as many lists at first as the setup has accounts
+pub plain_many : (setup : Setup) → length (plain (at_first setup)).lists ≡ length setup.accounts
+plain_many setup = length-map (at_first setup).lists without_numbers ∙ length-map setup.accounts _
+
+-- ---- the law
+
+pub accounts_apart : AccountsDontInterfere
+accounts_apart setup choice given answers own_answers books own_books proper by run own_run none own_none =
+    let p = plain_chains setup choice given (chosen choice given) answers own_answers books own_books by run own_run none own_none in
+    let G : List Item → Type 0 = λ items. GoAlike (map item_of p.posts) items [] in
+    let alike_posts : GoAlike (map item_of p.posts) (map item_of p.own_posts) [] =
+    subst G (append-nil (map item_of p.posts) ∙ p.items_are ∙ sym p.own_items_are) (goes_itself (map item_of p.posts) []) in
+    let start = plain (at_first setup) in
+    let chains = chains_alike (opening_at setup.accounts) (until_at setup.accounts) AllShown AllShown setup (seat_numbers 0 setup) proper p.posts p.own_posts [] _ _ start p.last start p.own_last
+    alike_posts (plain_many setup) (λ call. tt) (record { lists = refl; talks = λ call. refl }) p.none p.own_none p.legal p.own_legal p.chain p.own_chain in
+    let same = chains.same refl in
+    let theirs = map unnumbered_answer (answers_for choice given answers) in
+    record {
+      answers_are = chains.answers_are ∙ ap (λ l. theirs ++ l) same.0 ∙ append-nil theirs;
+      books_are = books_same setup choice setup.limit setup.accounts books own_books run.opened own_run.opened (sym p.lists_are ∙ same.1 ∙ p.own_lists_are);
     }

@@ -30,7 +30,7 @@ same_items one other same = record {
 }
 
 module _ (o : ℕ → ℕ) (u : ℕ → Option ℕ) (Shows Others : ℕ → Showing) (setup : Setup) (numbers : List ℕ) (proper : IsProper setup.tariff) where
-  fronts_alike : (front more rest : List Item) (posts others : List Post) (answers replies : List AnswerView) (old new again last : Holding)
+  pub fronts_alike : (front more rest : List Item) (posts others : List Post) (answers replies : List AnswerView) (old new again last : Holding)
       → map item_of posts ≡ front ++ more → map item_of others ≡ front ++ rest → length old.lists ≡ length setup.accounts → ArePlaced (length setup.accounts) old.talks → HoldAlike old again
       → NoFault answers → NoFault replies → AreLegal o u (length setup.accounts) new.lists → AreLegal o u (length setup.accounts) last.lists
       → AreAnswered Shows setup numbers posts answers old new → AreAnswered Others setup numbers others replies again last

@@ -5,12 +5,15 @@ pub mod Choosing
 pub mod ChosenFronts
 pub mod ChosenSteps
 pub mod Fronts
+pub mod FrontsApart
 pub mod Joined
 pub mod LeastMoments
 pub mod Lines
 pub mod MergedTables
 pub mod OneRecord
 pub mod OneRun
+pub mod OwnDeliveries
+pub mod OwnRows
 pub mod Payers
 pub mod Plain
 pub mod Records

@@ -35,7 +35,7 @@ use Rattle.workers_core.specs.Handled.{AnswerView, answer_view}
 
 -- ---- what was given stays and grows
 
-abbrev Grown : List (ℕ × Body) → List (ℕ × Body) → Type 0
+abbrev pub Grown : List (ℕ × Body) → List (ℕ × Body) → Type 0
 Grown given more = (added : List (ℕ × Body)) × (more ≡ given ++ added)
 
 grown_none : (before after : Shown) → after ≡ before → Grown before.given after.given
@@ -77,10 +77,10 @@ turn_grows true before after answers round =
     grown_both before.network.given round.played.given after.network.given (grown_both before.network.given round.delivered.given round.played.given delivered played) waited
 turn_grows false before after answers end = grown_none before.network after.network end.same_network
 
-abbrev Rounds : List Answer → Play → List (List Answer) → Play → Type 0
+abbrev pub Rounds : List Answer → Play → List (List Answer) → Play → Type 0
 Rounds before_this old heard new = HearsRounds (λ (p : Play). p.network.given) (λ (p : Play). p.ended) Hears before_this old heard new
 
-rounds_grow : (before_this : List Answer) (old : Play) (heard : List (List Answer)) (new : Play) → Rounds before_this old heard new → Grown old.network.given new.network.given
+pub rounds_grow : (before_this : List Answer) (old : Play) (heard : List (List Answer)) (new : Play) → Rounds before_this old heard new → Grown old.network.given new.network.given
 rounds_grow before_this old [] new rounds = absurd rounds
 rounds_grow before_this old (answers ∷ []) new rounds = turn_grows rounds.0.hears_them.more old new answers rounds.0.hears_them.turn
 rounds_grow before_this old (answers ∷ next ∷ heard) new rounds =
@@ -91,7 +91,7 @@ rounds_grow before_this old (answers ∷ next ∷ heard) new rounds =
 
 -- ---- what is heard
 
-take_front : {X : Type 0} (xs ys : List X) → take (length xs) (xs ++ ys) ≡ xs
+pub take_front : {X : Type 0} (xs ys : List X) → take (length xs) (xs ++ ys) ≡ xs
 take_front [] ys = refl
 take_front (x ∷ xs) ys = ap (λ l. x ∷ l) (take_front xs ys)
 

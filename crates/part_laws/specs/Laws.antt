@@ -29,3 +29,12 @@ FrontsAreAnsweredAlike =
     (setup : Setup) (given more rest : List (ℕ × Body)) (answers others : List Answer) (books other : List Closed) → IsProper setup.tariff
     → IsRun StoodIn setup 1 (given ++ more) answers books → IsRun StoodIn setup 1 (given ++ rest) others other → NoneIsRefused answers → NoneIsRefused others
     → take (length given) (views_of answers) ≡ take (length given) (views_of others)
+
+-- where of two runs of one worker over one setup one is given some items at first, and the other at first just those of them that are of some accounts, the other's answers to these say what the
+-- one's say to them, but for their numbers, whatever comes behind them in either, where each call goes with the account of the subscriber who begins it, and no ask was refused in either
+abbrev pub FrontsDontInterfere : Type 0
+FrontsDontInterfere =
+    (setup : Setup) (choice : Choice) (given more own_more : List (ℕ × Body)) (answers own_answers : List Answer) (books own_books : List Closed) → IsProper setup.tariff
+    → AreByAccount setup choice (given ++ more) → IsRun StoodIn setup 1 (given ++ more) answers books → IsRun StoodIn setup 1 (chosen choice given ++ own_more) own_answers own_books
+    → NoneIsRefused answers → NoneIsRefused own_answers
+    → take (length (chosen choice given)) (map unnumbered_answer own_answers) ≡ map unnumbered_answer (answers_for choice given answers)

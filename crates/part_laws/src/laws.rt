@@ -1,6 +1,10 @@
 //! The laws of a run in parts, each the contract of a function that does nothing else.
 
-ghost use Rattle.part_laws.specs.Laws.{AccountsDontInterfere, FrontsAreAnsweredAlike};
+ghost use Rattle.part_laws.specs.Laws.{
+  AccountsDontInterfere,
+  FrontsAreAnsweredAlike,
+  FrontsDontInterfere,
+};
 ghost use Rattle.part_laws.specs.Parts.{PartsAreAsOneRun};
 ghost use Rattle.part_laws.specs.Printed.{LinesHaveNoNumbers, RecordsAreThoseOfAll};
 ghost use Rattle.part_laws.specs.Scripts.{ScriptsHaveOneRun};
@@ -27,6 +31,15 @@ pub fn accounts_dont_interfere()
 /// what a driver hears in a round is known by what it has given before.
 pub fn fronts_are_answered_alike()
     ensures { FrontsAreAnsweredAlike }
+{}
+
+/// Of two runs of one worker over the same setup one is given some items at first, and the other
+/// at first just those of them that are of some accounts: the recharges of these, and the messages
+/// of the calls that their subscribers begin. The other answers these as the one does, but for
+/// their numbers, whatever comes behind them in either, where no account refuses an ask. So what a
+/// driver of some accounts hears in a round is what one of all hears of them.
+pub fn fronts_dont_interfere()
+    ensures { FrontsDontInterfere }
 {}
 
 /// Books that are the same but for the numbers of settles have the same lines, byte for byte.

@@ -4,6 +4,6 @@
 mod laws;
 
 pub use laws::{
-    accounts_dont_interfere, fronts_are_answered_alike, lines_have_no_numbers,
-    parts_are_as_one_run, records_are_those_of_all, scripts_have_one_run,
+    accounts_dont_interfere, fronts_are_answered_alike, fronts_dont_interfere,
+    lines_have_no_numbers, parts_are_as_one_run, records_are_those_of_all, scripts_have_one_run,
 };
