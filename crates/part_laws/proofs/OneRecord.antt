@@ -3,7 +3,6 @@ use Rattle.std.proofs.Common.{◌≡◌, ◌==◌, ◌∙◌, ℕ, Bool, Option,
 use Rattle.std.specs.BTreeMap.{is_at}
 use Rattle.std.specs.BTreeSet.{BTreeSet}
 use Rattle.std.specs.List.{list_any}
-use Rattle.std.specs.List.Sorted.{IsStrictlySortedBy}
 use Rattle.std.specs.Option.{option_map}
 use Rattle.std.specs.Ordering.{nat_cmp}
 use Rattle.std.specs.Prelude.{◌||◌, is_some}
@@ -16,12 +15,10 @@ use Rattle.call_records.specs.Records.{AreRecords, IsPrefixOf, IsRecord, Run, ou
 use Rattle.call_records.specs.Standings.{past_of, standing_of}
 use Rattle.call_records.specs.Tables.{record_row}
 use Rattle.call_records.specs.declared.call_record.CallRecord.{CallRecord}
-use Rattle.call_records.specs.declared.outcome.Outcome.{Outcome}
 use Rattle.cap_values.specs.NumberDigits.{digits_of_number}
 use Rattle.cap_values.specs.declared.number.Number.{Number}
 use Rattle.moment_texts.specs.declared.clock.Clock.{Clock}
 use Rattle.part_laws.proofs.MergedTables.{row_of}
-use Rattle.run_values.specs.Setups.{account_of}
 use Rattle.tariff_core.specs.Bands.{Band}
 use Rattle.tariff_core.specs.Laws.{OnePrefixCounts}
 use Rattle.tariff_core.specs.Routes.{BeginsWith, IsPrefixFor}

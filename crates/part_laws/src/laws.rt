@@ -7,10 +7,13 @@ ghost use Rattle.part_laws.specs.Laws.{
 };
 ghost use Rattle.part_laws.specs.Parts.{PartsAreAsOneRun};
 ghost use Rattle.part_laws.specs.Printed.{LinesHaveNoNumbers, RecordsAreThoseOfAll};
+ghost use Rattle.part_laws.specs.Rows.{SomeRowsGiveTheirItems};
+ghost use Rattle.part_laws.specs.ScriptParts.{ScriptsInPartsHaveOneRun, ScriptsInPartsHaveOneTable};
 ghost use Rattle.part_laws.specs.Scripts.{ScriptsHaveOneRun};
 
 use book_texts::books_have_one_text;
-use ssf_core::timers_run_one_way;
+use ssf_core::{initial_dp_is_first, timers_run_one_way};
+use tariff_core::routes_are_single;
 
 /// Accounts don't interfere. One run of one worker is given items, and another over the same setup
 /// just those of some accounts: the recharges of these, and the messages of the calls that their
@@ -59,8 +62,6 @@ pub fn records_are_those_of_all()
 /// numbers of settles, and have its lines, byte for byte. The parts are those of `run_parts`: each
 /// has its accounts, and of the calls those that subscribers of these begin. Each part was given
 /// just its own items of the one run, in their order, and no account refused an ask in any run.
-///
-/// That a part which is played by its own rows is given just these items no law says yet.
 pub fn parts_are_as_one_run()
     ensures { PartsAreAsOneRun }
 {
@@ -74,4 +75,32 @@ pub fn scripts_have_one_run()
     ensures { ScriptsHaveOneRun }
 {
     timers_run_one_way();
+}
+
+/// One worker plays the rows of a script, and another over the same setup those of some accounts:
+/// their recharges, and the rows of the calls that their subscribers begin, and perhaps of calls
+/// that no subscriber begins. The other's rows give just their own items of all that the script
+/// gives, in the same order, with gsmSSFs of the same configuration and the same delay, where the
+/// rows are in order and no account refuses an ask in either.
+pub fn some_rows_give_their_items()
+    ensures { SomeRowsGiveTheirItems }
+{
+    timers_run_one_way();
+}
+
+/// A script that is played in parts comes to what one run of it comes to. The parts are those of
+/// `run_parts`, each is played by its own rows and by one worker, over the same setup, with gsmSSFs
+/// of the same configuration and the same delay, and no account refuses an ask in any run:
+///
+/// * the books of the parts' own accounts, one part's after another's, are the books of one worker
+///   that plays all rows, but for the numbers of settles, and have its lines, byte for byte;
+/// * the table of the calls of all parts is its table of calls, byte for byte.
+pub fn scripts_in_parts_have_one_run()
+    ensures books { ScriptsInPartsHaveOneRun }
+    ensures calls { ScriptsInPartsHaveOneTable }
+{
+    some_rows_give_their_items();
+    books_have_one_text();
+    initial_dp_is_first();
+    routes_are_single();
 }
