@@ -1,5 +1,5 @@
 -- Two gsmSSFs that stand for one trace go on alike.
-use Rattle.std.proofs.Common.{◌≡◌, ◌++◌, ◌<◌, ◌≤◌, ℕ, Bool, true, false, Option, Some, None, Result, Ok, Err, List, [], ◌∷◌, inl, inr, refl, sym, ap, ◌∙◌, arith, subst}
+use Rattle.std.proofs.Common.{◌≡◌, ◌++◌, ◌<◌, ◌≤◌, ℕ, Bool, true, false, Option, Some, None, List, [], ◌∷◌, inl, inr, refl, sym, ap, ◌∙◌, arith, subst}
 use Rattle.std.proofs.lemmas.Bool.{cases_lt, eqb-true}
 use Rattle.std.proofs.lemmas.List.{append_cancel_left}
 use Rattle.std.specs.Option.{ForSome}
@@ -9,15 +9,11 @@ use Rattle.run_texts.specs.declared.script.Happening.{Happening as RowHappening}
 use Rattle.run_texts.specs.declared.script.Happening.TheVariants as row
 use Rattle.run_values.specs.declared.post.Body.TheVariants as body
 use Rattle.ssf_core.proofs.ExpiryLemmas.{due-stage}
-use Rattle.ssf_core.specs.Calls.{IsNextDue, RunsUntil, Stands, View, with_input}
+use Rattle.ssf_core.specs.Calls.{IsNextDue, RunsUntil, Stands, View}
 use Rattle.ssf_core.specs.Happenings.{Happening, sent_in}
-use Rattle.ssf_core.specs.Inputs.{meets, operates}
 use Rattle.ssf_core.specs.OneWay.{TimersRunOneWay}
-use Rattle.ssf_core.specs.Quantities.{last_happening_moment}
-use Rattle.ssf_core.specs.Table.{Effect, on_input}
-use Rattle.ssf_core.specs.Traces.{due, phase_after}
+use Rattle.ssf_core.specs.Traces.{due}
 use Rattle.ssf_core.specs.declared.config.SsfConfig.{SsfConfig}
-use Rattle.ssf_core.specs.declared.fault.SsfFault.{SsfFault}
 use Rattle.ssf_core.specs.declared.item.Out.{Out}
 use Rattle.script_player.proofs.LifeLemmas.{Timed, timed_by}
 use Rattle.script_player.specs.Beginnings.{begun_trace}
@@ -40,16 +36,6 @@ pub record StandAlike (one other : View) : Type 0 where
 
 -- ---- an input
 
--- whatever a gsmSSF stands for, its timers have run up to its moment at most
-reached_by : (view : View) (now : ℕ) (input : _) (timed : List Happening) (result : Result Effect SsfFault) → view.last ≡ now → Stands view (with_input now input timed result) → last_happening_moment timed ≤ now
-reached_by view now input timed (Ok effect) at stands = stands.is_trace.1.in_order
-reached_by view now input timed (Err fault) at stands = subst (λ (n : ℕ). last_happening_moment timed ≤ n) at stands.behind
-
-reached : (config : SsfConfig) (view : View) (now : ℕ) (input : Input) (timed : List Happening) → view.last ≡ now → Stands view (taken_or_refused config now input timed) → last_happening_moment timed ≤ now
-reached config view now (what.Operate op) timed at stands = reached_by view now (operates op) timed (on_input timed (phase_after config timed) now (operates op)) at stands
-reached config view now (what.Meet event) timed at stands = reached_by view now (meets event) timed (on_input timed (phase_after config timed) now (meets event)) at stands
-reached config view now what.Wait timed at stands = subst (λ (n : ℕ). last_happening_moment timed ≤ n) at stands.behind
-
 -- two gsmSSFs have sent the same, and stand for one trace again
 pub record GoAlike (new also : View) (sent outs : List Out) : Type 0 where
   pub sends : sent ≡ outs
@@ -62,8 +48,7 @@ late_alike one_way one other new also now input sent outs late alike is too =
     let a : Timed one new now input alike.trace sent = timed_by one new now input alike.trace sent (is.goes_on late alike.trace alike.stands) in
     let b : Timed other also now input alike.trace outs = timed_by other also now input alike.trace outs (too.goes_on late_too alike.trace alike.stands_too) in
     let runs : RunsUntil one.config now alike.trace b.0 = subst (λ (c : SsfConfig). RunsUntil c now alike.trace b.0) (sym alike.config) b.1.0 in
-    let same : a.0 ≡ b.0 = one_way one.config now alike.trace a.0 b.0 a.1.0 runs
-    (reached one.config new now input a.0 (is.moment late) a.1.1.0) (reached other.config also now input b.0 (too.moment late_too) b.1.1.0) in
+    let same : a.0 ≡ b.0 = one_way one.config now alike.trace a.0 b.0 a.1.0 runs in
     let last : taken_or_refused one.config now input a.0 ≡ taken_or_refused other.config now input b.0 = ap (λ (c : SsfConfig). taken_or_refused c now input a.0) alike.config ∙ ap (taken_or_refused other.config now input) same in
     record {
       sends = append_cancel_left (sent_in alike.trace) sent outs (sym a.1.1.1 ∙ ap sent_in last ∙ b.1.1.1);

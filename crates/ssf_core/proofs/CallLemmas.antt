@@ -26,6 +26,7 @@ runs_until config now s t sent run quiet = record {
   expiries = run.expiries;
   follows = refl;
   is_trace = run.stands.is_trace;
+  by_now = run.stands.behind;
   quiet = λ timer d is_due. quiet timer d (sym (due-stage config now s (run.fired ++ t) timer run.stands) ∙ is_due);
 }
 

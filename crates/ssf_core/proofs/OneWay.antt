@@ -144,7 +144,7 @@ module _ (config : SsfConfig) where
           absurd (no_further now trace front others last (subst (HasGone trace) split gone) (subst (λ (l : List Happening). last_happening_moment (l ++ trace) ≤ now) split reached) quiet)
 
 pub one_way : TimersRunOneWay
-one_way config now trace timed other run too reached reached_too =
+one_way config now trace timed other run too =
     let T : List Happening → Type 0 = IsTrace config in
     let M : List Happening → Type 0 = λ l. last_happening_moment l ≤ now in
     let gone : HasGone config trace run.fired = record { expiries = run.expiries; is_trace = subst T run.follows run.is_trace } in
@@ -155,7 +155,7 @@ one_way config now trace timed other run too reached reached_too =
     λ timer d is. too.quiet timer d (ap (λ (l : List Happening). due config l timer) too.follows ∙ is) in
     let same : run.fired ≡ too.fired =
     elim (compared config trace run.fired too.fired gone its) [
-      | inl longest ↦ not_longer config now trace longest.0 run.fired too.fired gone longest.1 (subst M run.follows reached) quiet_too
-      | inr shorter ↦ sym (not_longer config now trace shorter.0 too.fired run.fired its shorter.1 (subst M too.follows reached_too) quiet)
+      | inl longest ↦ not_longer config now trace longest.0 run.fired too.fired gone longest.1 (subst M run.follows run.by_now) quiet_too
+      | inr shorter ↦ sym (not_longer config now trace shorter.0 too.fired run.fired its shorter.1 (subst M too.follows too.by_now) quiet)
     ] in
     run.follows ∙ ap (λ l. l ++ trace) same ∙ sym too.follows

@@ -1,6 +1,7 @@
 -- What a call of the gsmSSF does to the traces that it stands for.
 use Rattle.std.specs.Prelude.{◌≡◌, ◌++◌, ◌<◌, ◌≤◌, ℕ, Option, Some, None, Result, Ok, Err, List, [], ◌∷◌}
 use Rattle.ssf_core.specs.Happenings.{Happening, What, Took, Expired, sent_in}
+use Rattle.ssf_core.specs.Quantities.{last_happening_moment}
 use Rattle.ssf_core.specs.Stands.{StageStands}
 use Rattle.ssf_core.specs.Table.{Effect, on_input}
 use Rattle.ssf_core.specs.Traces.{IsTrace, due, phase_after}
@@ -31,12 +32,13 @@ abbrev pub AreExpiries : List Happening → Type 0
 AreExpiries [] = Unit {0}
 AreExpiries (e ∷ trace) = AreExpiries trace × IsExpiry e.what
 
--- the timers have run up to now: the trace goes on by expiries alone, and none is due by now
+-- the timers have run up to now: the trace goes on by expiries alone, none of them is later, and none is due by now any more
 pub record RunsUntil (config : SsfConfig) (now : ℕ) (trace timed : List Happening) : Type 0 where
   pub fired : List Happening
   pub expiries : AreExpiries fired
   pub follows : timed ≡ fired ++ trace
   pub is_trace : IsTrace config timed
+  pub by_now : last_happening_moment timed ≤ now
   pub quiet : (timer : Timer) (d : ℕ) → due config timed timer ≡ Some d → now < d
 
 -- an input is taken, where it isn't refused
