@@ -10,6 +10,8 @@ pub mod Joined
 pub mod LeastMoments
 pub mod Lines
 pub mod MergedTables
+pub mod NoRefusals
+pub mod OneInput
 pub mod OneRecord
 pub mod OneRun
 pub mod OwnDeliveries

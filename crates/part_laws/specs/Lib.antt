@@ -1,6 +1,7 @@
 pub mod Chosen
 pub mod Laws
 pub mod Numbers
+pub mod OneInput
 pub mod Parts
 pub mod Printed
 pub mod Rows

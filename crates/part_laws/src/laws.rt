@@ -5,6 +5,7 @@ ghost use Rattle.part_laws.specs.Laws.{
   FrontsAreAnsweredAlike,
   FrontsDontInterfere,
 };
+ghost use Rattle.part_laws.specs.OneInput.{PartsPrintAsOneRun};
 ghost use Rattle.part_laws.specs.Parts.{PartsAreAsOneRun};
 ghost use Rattle.part_laws.specs.Printed.{LinesHaveNoNumbers, RecordsAreThoseOfAll};
 ghost use Rattle.part_laws.specs.Rows.{SomeRowsGiveTheirItems};
@@ -98,6 +99,23 @@ pub fn some_rows_give_their_items()
 pub fn scripts_in_parts_have_one_run()
     ensures books { ScriptsInPartsHaveOneRun }
     ensures calls { ScriptsInPartsHaveOneTable }
+{
+    some_rows_give_their_items();
+    books_have_one_text();
+    initial_dp_is_first();
+    routes_are_single();
+}
+
+/// So a run in parts prints what one run prints, as `run` of `run_command` answers both. Where an
+/// input is played in parts of one worker each, and by one run of one worker with the same options,
+/// and no account refuses an ask in either, the lines are the same, byte for byte, and so is the
+/// table of calls.
+///
+/// The parts have the values of the one run: its setup, its configuration and its rows. What an
+/// answer says of these names a number by its digits alone, so it is a premise that they are the
+/// same.
+pub fn parts_print_as_one_run()
+    ensures { PartsPrintAsOneRun }
 {
     some_rows_give_their_items();
     books_have_one_text();

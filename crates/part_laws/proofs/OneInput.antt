@@ -1,0 +1,119 @@
+-- What a run in parts prints, beside what one run prints.
+use Rattle.std.proofs.Common.{◌≡◌, ◌<◌, ◌∙◌, ◌++◌, ℕ, List, [], ◌∷◌, length, map, refl, sym, ap, subst, arith}
+use Rattle.std.specs.Prelude.{slice_index_or}
+use Rattle.std.specs.List.{flat_map}
+use Rattle.std.proofs.lemmas.List.{get_or-map, length-map}
+use Rattle.book_texts.specs.Laws.{BooksHaveOneText}
+use Rattle.book_texts.specs.RunTexts.{IsRunText}
+use Rattle.call_records.specs.Records.{AreRecords}
+use Rattle.call_records.specs.declared.call_record.CallRecord.{CallRecord}
+use Rattle.live_recovery.specs.Laws.{NoneIsRefused}
+use Rattle.part_laws.proofs.NoRefusals.{unrefused, unrefused_in}
+use Rattle.part_laws.proofs.ScriptParts.{scripts_joined, tables_joined}
+use Rattle.part_laws.specs.OneInput.{HasValuesOf, PartsPrintAsOneRun, PrintsAlike}
+use Rattle.part_laws.specs.Parts.{AreAsOfOneRun}
+use Rattle.part_laws.specs.Printed.{run_given}
+use Rattle.part_laws.specs.Rows.{SomeRowsGiveTheirItems}
+use Rattle.part_laws.specs.ScriptParts.{PlaysItsRows, RecordsItsRows, payer_in_rows}
+use Rattle.run_command.specs.Answers.{IsRunOf, IsTextOf, RunSaid}
+use Rattle.run_command.specs.InParts.{IsMergedText, IsPartOf, IsPartsText, KeepsCalls, PartSaid}
+use Rattle.run_command.specs.Plays.{IsPlayOf}
+use Rattle.run_command.specs.Refused.{none_refused}
+use Rattle.run_options.specs.declared.options.RunAsk.{RunAsk}
+use Rattle.run_options.specs.declared.options.RunOutput.{RunOutput}
+use Rattle.run_options.specs.declared.options.RunOutput.TheVariants as output
+use Rattle.run_parts.specs.Parts.{part_rows}
+use Rattle.run_texts.specs.declared.script.ScriptRow.{ScriptRow}
+use Rattle.run_values.specs.Setups.{Setup}
+use Rattle.runs_core.specs.Hearing.{all_heard}
+use Rattle.runs_core.specs.Runs.{IsRun}
+use Rattle.shared_account.specs.Closed.{Closed}
+use Rattle.shared_account.specs.Seen.{StoodIn}
+use Rattle.ssf_core.specs.Laws.{InitialDpIsFirst}
+use Rattle.ssf_core.specs.declared.config.SsfConfig.{SsfConfig}
+use Rattle.tariff_core.specs.Laws.{OnePrefixCounts}
+
+joined_lists : {X Y : Type 0} (f : X → List Y) (xs : List X) → flat_map (λ own. own) (map f xs) ≡ flat_map f xs
+joined_lists f [] = refl
+joined_lists f (x ∷ xs) = ap (λ l. f x ++ l) (joined_lists f xs)
+
+module _ (ask : RunAsk) (input : List ℕ) (ran : RunSaid) (whole : IsRunOf ask input ran) (one : ask.workers ≡ 1) where
+  abbrev setup : Setup
+  setup = whole.are_books.setup
+
+  abbrev rows : List ScriptRow
+  rows = whole.given_by.rows
+
+  one_run : IsRun StoodIn setup 1 whole.given (all_heard whole.heard) whole.books
+  one_run = subst (λ (n : ℕ). IsRun StoodIn setup n whole.given (all_heard whole.heard) whole.books) one whole.are_books.run
+
+  module _ {said : _} {firsts : List ℕ} {part : ℕ} {kept : PartSaid} (is : IsPartOf ask said firsts part kept) (values : HasValuesOf is whole) where
+    own_run : IsRun StoodIn setup 1 is.given (all_heard is.heard) is.books
+    own_run =
+        subst (λ (s : Setup). IsRun StoodIn s 1 is.given (all_heard is.heard) is.books) values.setup
+        (subst (λ (n : ℕ). IsRun StoodIn is.are_books.setup n is.given (all_heard is.heard) is.books) one is.are_books.run)
+
+    own_play : IsPlayOf whole.given_by.config ask.delay (part_rows firsts (payer_in_rows setup rows) rows part) is.heard is.given
+    own_play =
+        subst (λ (r : List ScriptRow). IsPlayOf whole.given_by.config ask.delay r is.heard is.given) values.rows
+        (subst (λ (c : SsfConfig). IsPlayOf c ask.delay is.given_by.rows is.heard is.given) values.config is.given_by.play)
+
+    its_rows : NoneIsRefused (all_heard is.heard) → PlaysItsRows setup whole.given_by.config ask.delay firsts rows part kept.books
+    its_rows none = record { heard = is.heard; given = is.given; play = own_play; books = is.books; run = own_run; none = none; own = is.own }
+
+    its_records : NoneIsRefused (all_heard is.heard) → AreRecords (run_given is.are_books.setup is.given is.books) kept.calls
+        → RecordsItsRows setup whole.given_by.config ask.delay firsts rows part kept.calls
+    its_records none are = record {
+      heard = is.heard;
+      given = is.given;
+      play = own_play;
+      books = is.books;
+      run = own_run;
+      none = none;
+      records = subst (λ (s : Setup). AreRecords (run_given s is.given is.books) kept.calls) values.setup are;
+    }
+
+pub parts_print : SomeRowsGiveTheirItems → BooksHaveOneText → InitialDpIsFirst → OnePrefixCounts → PartsPrintAsOneRun
+parts_print own_items one_text first single asked ask input text refusals ran parts whole proper sorted ordered one values none none_too =
+    by_output ask.output parts.printed whole.printed (λ part d within. (parts.each part d within).calls)
+  where
+    none_of : NoneIsRefused (all_heard whole.heard)
+    none_of = unrefused (all_heard whole.heard) ran.refusals whole.refused none_too
+
+    none_in : (part : ℕ) (d : PartSaid) (within : part < length parts.parts) → NoneIsRefused (all_heard (parts.each part d within).heard)
+    none_in part d within =
+        unrefused_in (map (λ (p : PartSaid). p.refusals) parts.parts) part d.refusals (all_heard (parts.each part d within).heard) (sym parts.refused ∙ none)
+        (rw (length-map parts.parts (λ (p : PartSaid). p.refusals)) within) (get_or-map (λ (p : PartSaid). p.refusals) parts.parts part d d.refusals within ∙ (parts.each part d within).refused)
+
+    by_output : (o : RunOutput) → IsPartsText o parts.said.tariff (flat_map (λ part. part.books) parts.parts) (flat_map (λ part. part.calls) parts.parts) text
+        → IsTextOf o (record { setup = whole.are_books.setup; given = whole.given; books = whole.books }) (all_heard whole.heard) ran.text
+        → ((part : ℕ) (d : PartSaid) (within : part < length parts.parts)
+        → KeepsCalls o (record { setup = (parts.each part d within).are_books.setup; given = (parts.each part d within).given; books = (parts.each part d within).books }) (slice_index_or parts.parts part d).calls)
+        → PrintsAlike o text ran.text
+    by_output output.Lines printed whole_printed calls =
+        let lines_of : PartSaid → List Closed = λ p. p.books in
+        let each : (part : ℕ) (d : List Closed) → part < length (map lines_of parts.parts)
+        → PlaysItsRows whole.are_books.setup whole.given_by.config ask.delay parts.firsts whole.given_by.rows part (slice_index_or (map lines_of parts.parts) part d) =
+        λ part d within.
+        let e : PartSaid = record { books = d; calls = []; refusals = none_refused } in
+        let inside : part < length parts.parts = omega (arith, within, length-map parts.parts lines_of) in
+        subst (λ (b : List Closed). PlaysItsRows whole.are_books.setup whole.given_by.config ask.delay parts.firsts whole.given_by.rows part b) (sym (get_or-map lines_of parts.parts part e d inside))
+        (its_rows ask input ran whole one (parts.each part e inside) (values part e inside) (none_in part e inside)) in
+        let same : AreAsOfOneRun whole.books (flat_map (λ own. own) (map lines_of parts.parts)) =
+        scripts_joined own_items one_text first whole.are_books.setup whole.given_by.config ask.delay parts.firsts whole.given_by.rows whole.heard whole.given whole.books (map lines_of parts.parts)
+        proper sorted ordered whole.given_by.play (one_run ask input ran whole one) none_of (record { count = length-map parts.parts lines_of ∙ parts.all; each = each }) in
+        same.lines text ran.text (subst (λ (b : List Closed). IsRunText b text) (sym (joined_lists lines_of parts.parts)) printed) whole_printed
+    by_output (output.Calls clock) printed whole_printed calls =
+        let calls_of : PartSaid → List CallRecord = λ p. p.calls in
+        let each : (part : ℕ) (d : List CallRecord) → part < length (map calls_of parts.parts)
+        → RecordsItsRows whole.are_books.setup whole.given_by.config ask.delay parts.firsts whole.given_by.rows part (slice_index_or (map calls_of parts.parts) part d) =
+        λ part d within.
+        let e : PartSaid = record { books = []; calls = d; refusals = none_refused } in
+        let inside : part < length parts.parts = omega (arith, within, length-map parts.parts calls_of) in
+        subst (λ (c : List CallRecord). RecordsItsRows whole.are_books.setup whole.given_by.config ask.delay parts.firsts whole.given_by.rows part c) (sym (get_or-map calls_of parts.parts part e d inside))
+        (its_records ask input ran whole one (parts.each part e inside) (values part e inside) (none_in part e inside) (calls part e inside)) in
+        let merged = subst (λ (c : List CallRecord). IsMergedText clock c text) (sym (joined_lists calls_of parts.parts)) printed in
+        tables_joined own_items first single whole.are_books.setup whole.given_by.config ask.delay parts.firsts whole.given_by.rows whole.heard whole.given whole.books (map calls_of parts.parts)
+        proper ordered whole.given_by.play (one_run ask input ran whole one) none_of (record { count = length-map parts.parts calls_of ∙ parts.all; each = each }) clock text ran.text merged whole_printed
+    by_output output.Book printed whole_printed calls = tt
+    by_output (output.Trace clock) printed whole_printed calls = tt
