@@ -4,7 +4,8 @@
 Each slip of a table is told by its line alone, and with `--explain` in front of the command by this line and the lines of
 the table behind it; the output stays empty. The same holds with CR LF at the end of each line, without an LF at the end of
 the input, and where the row is at the end of an input of 16 MB. Behind the answer of a run a line says which calls no
-subscriber makes, with the word alone, and the output stays as it is. Of an output that fails, nothing is said without the word,
+subscriber makes, and a further one which events had no place, in parts or not, with the word alone, and the output stays as
+it is. Of an output that fails, nothing is said without the word,
 and with it why it failed, at each command. On a pseudo-terminal a fault is explained without the word,
 but not behind `--plain`, and a command says that it waits for its input; and a run of more than two seconds shows there how far it
 is, and takes that away at its end.
@@ -155,20 +156,57 @@ STRANGERS = [
     (calls([44, 20]) + calls([3], "491700001") + calls([31]), "3 calls of numbers that no subscriber has: 44, 20, 31\n"),
     (calls(range(2, 12)), f"10 calls of numbers that no subscriber has: {', '.join(map(str, range(2, 12)))}\n"),
     (calls(range(2, 15)), f"13 calls of numbers that no subscriber has: {', '.join(map(str, range(2, 12)))}, ..\n"),
-    (calls([2]) + "60,2,answer,,\n70,2,disconnect,1,\n", "1 call of a number that no subscriber has: 2\n"),
+    (calls([2]) + "21,2,abandon,,\n", "1 call of a number that no subscriber has: 2\n"),
+    (calls([2]) + "60,2,answer,,\n70,2,disconnect,1,\n",
+     "1 call of a number that no subscriber has: 2\n2 events that had no place: call 2 answer at 60, call 2 disconnect at 70\n"),
     (calls([2], "49170000") + calls([18446744073709551615], "4917000010"),
      "2 calls of numbers that no subscriber has: 2, 18446744073709551615\n"),
     (calls([2]) + "60,,recharge,7,0\n", "prepaid: refused: 1 OutOfRange\n1 call of a number that no subscriber has: 2\n"),
 ]
 
 
+# The rows of events of call 1, which starts at 10. Its orders come at 12.
+ANSWERED = "20,1,answer,,\n"
+# Further accounts: 8 as rich as 7, 9 without money, and 10 with that of 300 units after the answer.
+FURTHER = "account,8,5000\naccount,9,0\naccount,10,550\nsubscriber,491700002,8\nsubscriber,491700003,9\nsubscriber,491700004,10\n"
+# Of answers of a run over these accounts the rows of its script, and which events had no place in it.
+UNPLACED = [
+    (ANSWERED + "50,1,disconnect,1,\n", []),
+    ("12,1,answer,,\n50,1,disconnect,2,\n", []),
+    ("11,1,answer,,\n", ["call 1 answer at 11"]),
+    (ANSWERED + "30,1,answer,,\n40,1,busy,,\n41,1,noanswer,,\n42,1,routefail,,\n43,1,abandon,,\n50,1,disconnect,1,\n60,1,disconnect,2,\n",
+     ["call 1 answer at 30", "call 1 busy at 40", "call 1 noanswer at 41", "call 1 routefail at 42", "call 1 abandon at 43",
+      "call 1 disconnect at 60"]),
+    ("20,1,busy,,\n20,1,answer,,\n20,1,answer,,\n", ["call 1 answer at 20", "call 1 answer at 20"]),
+    (ANSWERED + "1970-01-01T00:00:03,1,answer,,\n", ["call 1 answer at 30"]),
+    # by the calls, whichever part plays them, and of a call in the order of the script
+    (calls([9], "491700001") + calls([3], "491700002") + "30,9,answer,,\n31,3,answer,,\n40,9,answer,,\n41,3,busy,,\n50,9,noanswer,,\n51,1,disconnect,1,\n",
+     ["call 1 disconnect at 51", "call 3 busy at 41", "call 9 answer at 40", "call 9 noanswer at 50"]),
+    # a call that is denied is released at 22
+    (calls([5], "491700003") + "60,5,answer,,\n", ["call 5 answer at 60"]),
+    # one whose credit lasts 300 units is cut at 330
+    (calls([5], "491700004") + "30,5,answer,,\n329,5,disconnect,1,\n", []),
+    (calls([5], "491700004") + "30,5,answer,,\n330,5,disconnect,1,\n", ["call 5 disconnect at 330"]),
+    (calls([5], "491700004") + "30,5,answer,,\n400,5,disconnect,2,\n", ["call 5 disconnect at 400"]),
+    (ANSWERED + "".join(f"{at},1,answer,,\n" for at in range(31, 41)), [f"call 1 answer at {at}" for at in range(31, 41)]),
+    (ANSWERED + "".join(f"{at},1,answer,,\n" for at in range(31, 44)), [f"call 1 answer at {at}" for at in range(31, 44)]),
+]
+
+
+def unplaced_line(events):
+    """The line about events that had no place."""
+    many = "1 event" if len(events) == 1 else f"{len(events)} events"
+    return f"{many} that had no place: {', '.join(events[:10])}{', ..' * (len(events) > 10)}\n" if events else ""
+
+
 def answers(program):
-    """What is said behind an answer: nothing without the word, and with it which calls no subscriber makes. The answer is the
-    same with the word and without."""
-    for rows, said in STRANGERS:
-        text = parts(script=rows)
+    """What is said behind an answer: nothing without the word, and with it which calls no subscriber makes, and which events
+    had no place. The answer is the same with the word and without."""
+    inputs = [(rows, parts(script=rows), said) for rows, said in STRANGERS]
+    inputs += [(rows, parts(setup=FURTHER, script=rows), unplaced_line(events)) for rows, events in UNPLACED]
+    for rows, text, said in inputs:
         refused = said[: said.index("\n") + 1] if said.startswith("prepaid") else ""
-        for words in ("run", "run --parts 1", "run --calls", "run --trace --workers 1"):
+        for words in ("run", "run --parts 1", "run --parts 2", "run --parts 16 --threads 3", "run --calls", "run --book", "run --trace --workers 1"):
             plain, explained = run(program, words, text), run(program, f"--explain {words}", text)
             if plain[1:] != (refused, 0) or not plain[0] or explained != (plain[0], said, 0):
                 return f"{words} with {rows!r}: {plain} and {explained} in place of {said!r}"
@@ -285,6 +323,8 @@ def terminals(program):
 # What shows how far a run is, and what takes that away.
 SHOWN = re.compile(r"\r(?:moment (\d+), row (\d+) of (\d+)|part (\d+) of (\d+), moment (\d+))\x1b\[K")
 TAKEN = "\r\x1b[K"
+# What is said of a long run: the call that no subscriber makes, and the events that had no place, if any had none.
+SAID = re.compile(r"1 call of a number that no subscriber has: 1000000\n(?:\d+ events? that had no place: call [^\n]*\n)?")
 # Runs, how many parts they have, and whether their parts come one after another. All but those of two workers print the same.
 LONG_RUNS = [("run --workers 1", 1, True), ("run --parts 4", 4, True), ("run --parts 16 --threads 2", 16, False), ("run --workers 2", 1, True)]
 
@@ -309,13 +349,15 @@ def progress(program):
     it. The output is what it is without a terminal."""
     text, lines = long_input(program)
     script = text.split("%%\n")[2].splitlines()
-    said = "1 call of a number that no subscriber has: 1000000\n"
+    said = run(program, "--explain run --workers 1", text)[1]
+    if not SAID.fullmatch(said):
+        return f"a long run: {said[:300]!r}"
     for words, parts_of_all, in_order in LONG_RUNS:
         shown, output, status = on_terminal(program, words, text)
         if status or words != "run --workers 2" and output != lines or not output:
             return f"{words} on a terminal: another output, status {status}"
         *steps, end = shown.split(TAKEN)
-        if end != said or not "".join(steps):
+        if not SAID.fullmatch(end) or words != "run --workers 2" and end != said or not "".join(steps):
             return f"{words} on a terminal: {shown[-300:]!r}"
         if SHOWN.sub("", "".join(steps)):
             return f"{words} on a terminal: {SHOWN.sub('', ''.join(steps))[:300]!r}"
@@ -341,7 +383,7 @@ def main():
         if wrong := trial(program):
             print(f"explain: {name}: {wrong}")
             return 1
-    print(f"explain: {len(SLIPS)} slips in 4 forms, {len(OTHERS)} others, {len(STRANGERS)} answers, failed outputs, a terminal, and long runs on it: as the pages say")
+    print(f"explain: {len(SLIPS)} slips in 4 forms, {len(OTHERS)} others, {len(STRANGERS) + len(UNPLACED)} answers, failed outputs, a terminal, and long runs on it: as the pages say")
     return 0
 
 

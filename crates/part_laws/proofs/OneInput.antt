@@ -74,7 +74,7 @@ module _ (ask : RunAsk) (input : List ℕ) (ran : RunSaid) (whole : IsRunOf ask 
     }
 
 pub parts_print : SomeRowsGiveTheirItems → BooksHaveOneText → InitialDpIsFirst → OnePrefixCounts → PartsPrintAsOneRun
-parts_print own_items one_text first single asked ask input text refusals ran parts whole proper sorted ordered one values none none_too =
+parts_print own_items one_text first single asked ask input text refusals events ran parts whole proper sorted ordered one values none none_too =
     by_output ask.output parts.printed whole.printed (λ part d within. (parts.each part d within).calls)
   where
     none_of : NoneIsRefused (all_heard whole.heard)
@@ -95,7 +95,7 @@ parts_print own_items one_text first single asked ask input text refusals ran pa
         let each : (part : ℕ) (d : List Closed) → part < length (map lines_of parts.parts)
         → PlaysItsRows whole.are_books.setup whole.given_by.config ask.delay parts.firsts whole.given_by.rows part (slice_index_or (map lines_of parts.parts) part d) =
         λ part d within.
-        let e : PartSaid = record { books = d; calls = []; refusals = none_refused } in
+        let e : PartSaid = record { books = d; calls = []; refusals = none_refused; unplaced = [] } in
         let inside : part < length parts.parts = omega (arith, within, length-map parts.parts lines_of) in
         subst (λ (b : List Closed). PlaysItsRows whole.are_books.setup whole.given_by.config ask.delay parts.firsts whole.given_by.rows part b) (sym (get_or-map lines_of parts.parts part e d inside))
         (its_rows ask input ran whole one (parts.each part e inside) (values part e inside) (none_in part e inside)) in
@@ -108,7 +108,7 @@ parts_print own_items one_text first single asked ask input text refusals ran pa
         let each : (part : ℕ) (d : List CallRecord) → part < length (map calls_of parts.parts)
         → RecordsItsRows whole.are_books.setup whole.given_by.config ask.delay parts.firsts whole.given_by.rows part (slice_index_or (map calls_of parts.parts) part d) =
         λ part d within.
-        let e : PartSaid = record { books = []; calls = d; refusals = none_refused } in
+        let e : PartSaid = record { books = []; calls = d; refusals = none_refused; unplaced = [] } in
         let inside : part < length parts.parts = omega (arith, within, length-map parts.parts calls_of) in
         subst (λ (c : List CallRecord). RecordsItsRows whole.are_books.setup whole.given_by.config ask.delay parts.firsts whole.given_by.rows part c) (sym (get_or-map calls_of parts.parts part e d inside))
         (its_records ask input ran whole one (parts.each part e inside) (values part e inside) (none_in part e inside) (calls part e inside)) in

@@ -236,10 +236,10 @@ gives_at now call input before after gives goes timely = by_ssf (ssf_of before.s
         (given_now view gives.new now input gives.sent gives.is_given (goes view gives.new gives.sent gives.is_given) (timely call view is)) timely
 
 pub delivers_at : (now : ℕ) (delivery : Delivery) (before after : Shown) → Delivers now before delivery after → AreTimely now before → GrowsAt now before after
-delivers_at now delivery before after is timely = gives_at now delivery.call _ before after is (λ old new sent given late trace stands. inl (operates delivery.op, given.goes_on late trace stands)) timely
+delivers_at now delivery before after is timely = gives_at now delivery.call _ before after is (λ old new sent given late trace stands. inl (operates delivery.op, (given.fault, given.goes_on late trace stands))) timely
 
 pub waits_at : (now call : ℕ) (before after : Shown) → Waits now before call after → AreTimely now before → GrowsAt now before after
-waits_at now call before after is timely = gives_at now call _ before after is (λ old new sent given late trace stands. inr (given.goes_on late trace stands)) timely
+waits_at now call before after is timely = gives_at now call _ before after is (λ old new sent given late trace stands. inr (given.goes_on late trace stands).0) timely
 
 starts_at : (now call : ℕ) (calling called : Number) (before after : Shown) → StartsCall now call calling called before after → AreTimely now before → GrowsAt now before after
 starts_at now call calling called before after starts timely = by_ssf (ssf_of before.ssfs call) starts
@@ -264,7 +264,7 @@ happens_at now at happening before after same is timely = by_what happening (sub
   where
     by_what : (happening : RowHappening) → HappensAt now happening before after → GrowsAt now before after
     by_what (row.Start call calling called) is = starts_at now call calling called before after is timely
-    by_what (row.Meets call event) is = gives_at now call _ before after is (λ old new sent given late trace stands. inl (meets event, given.goes_on late trace stands)) timely
+    by_what (row.Meets call event) is = gives_at now call _ before after is (λ old new sent given late trace stands. inl (meets event, (given.fault, given.goes_on late trace stands))) timely
     by_what (row.Recharge account amount until) is = record {
       added = (now, body.Recharge account amount until) ∷ [];
       grown = ap (λ (s : Shown). s.given) is;

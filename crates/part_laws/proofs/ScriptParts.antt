@@ -100,9 +100,9 @@ tables_joined own_items first single setup config delay firsts rows heard given 
     records_one single (run_given setup (chosen choice given) its.books) clock (slice_index_or parts part d) (filter (λ (call : CallRecord). choice.calls call.call) whole.calls) kept records
     ∙ own_shown clock firsts payer part whole.calls ∙ ap (rows_at clock home all) place in
     let joined : map (row_of clock) merged.calls ≡ all = one_order (map (row_of clock) merged.calls) all
-    (rows_rise clock merged.calls (rise (λ (call : CallRecord). call.call) merged.calls merged.rising))
+    (rows_rise clock merged.calls (rise (λ (call : CallRecord). call.call) merged.calls merged.merged.rising))
     (rows_rise clock whole.calls (ascending_rise clock whole.calls whole.are.ascending))
     (λ number.
-    numbered_rows clock number merged.calls ∙ ap (map (row_of clock)) (merged.same number) ∙ sym (numbered_rows clock number (flat_map (λ (kept : List CallRecord). kept) parts))
+    numbered_rows clock number merged.calls ∙ ap (map (row_of clock)) (merged.merged.same number) ∙ sym (numbered_rows clock number (flat_map (λ (kept : List CallRecord). kept) parts))
     ∙ all_joined clock home all number 0 parts (omega arith) (omega (arith, home_within firsts (payer number) number, played.count)) each) in
     merged.is ∙ same_table clock merged.calls whole.calls joined ∙ sym whole.is

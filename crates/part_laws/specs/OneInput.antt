@@ -8,6 +8,7 @@ use Rattle.run_command.specs.Answers.{IsRunOf, RunSaid}
 use Rattle.run_command.specs.InParts.{IsPartOf, IsRunInParts, PartSaid}
 use Rattle.run_command.specs.Refused.{none_refused}
 use Rattle.run_command.specs.declared.refusals.Refusals.{Refusals}
+use Rattle.run_command.specs.declared.unplaced.UnplacedEvent.{UnplacedEvent}
 use Rattle.run_options.specs.declared.options.RunAsk.{RunAsk}
 use Rattle.run_options.specs.declared.options.RunOutput.{RunOutput}
 use Rattle.run_options.specs.declared.options.RunOutput.TheVariants as output
@@ -32,7 +33,7 @@ PrintsAlike (output.Trace clock) text other = ⊤
 -- so prints a run in parts of one worker each as one run of one worker does, where no account refuses an ask in either
 abbrev pub PartsPrintAsOneRun : Type 0
 PartsPrintAsOneRun =
-    (asked : ℕ) (ask : RunAsk) (input text : List ℕ) (refusals : Refusals) (ran : RunSaid) (parts : IsRunInParts asked ask input text refusals) (whole : IsRunOf ask input ran)
+    (asked : ℕ) (ask : RunAsk) (input text : List ℕ) (refusals : Refusals) (events : List UnplacedEvent) (ran : RunSaid) (parts : IsRunInParts asked ask input text refusals events) (whole : IsRunOf ask input ran)
     → IsProper whole.are_books.setup.tariff → IsStrictlySortedBy nat_cmp (keys_of whole.are_books.setup.accounts) → rows_are_in_order 0 whole.given_by.rows ≡ true → ask.workers ≡ 1
     → ((part : ℕ) (d : PartSaid) (within : part < length parts.parts) → HasValuesOf (parts.each part d within) whole)
     → refusals ≡ none_refused → ran.refusals ≡ none_refused → PrintsAlike ask.output text ran.text

@@ -217,7 +217,7 @@ said_over words items text_of view (Some text) (Some bytes) (Some m) (Err why) w
 
 -- nothing is said behind an answer of another command
 pub none_added : {W X : Type 0} (words : List (List ℕ)) (text_of : W → List ℕ) (view : X → Printout) (known : Option (List ℕ)) (more : Option W) (answer : Result X Fault)
-    → IfOk answer (λ x. more ≡ None) → IfSome known (λ text. IfOk (result_map_both view (λ why. why) answer) (λ printout. IfSome (option_map text_of more) (λ said. IsAdded words text said)))
+    → IfOk answer (λ x. more ≡ None) → IfSome known (λ text. IfOk (result_map_both view (λ why. why) answer) (λ printout. IfSome (option_map text_of more) (λ said. IsAdded words text printout said)))
 none_added words text_of view None more answer none = tt
 none_added words text_of view (Some text) more (Ok x) none = rw none tt
 none_added words text_of view (Some text) more (Err why) none = tt
@@ -225,14 +225,14 @@ none_added words text_of view (Some text) more (Err why) none = tt
 -- what is said behind an answer of a run, over an input that was kept, is said over the input
 pub run_added : {V W X : Type 0} (words : List (List ℕ)) (items : V → List ℕ) (text_of : W → List ℕ) (view : X → Printout) (known : Option (List ℕ)) (kept : Option V) (more : Option W)
     (answer : Result X Fault) (wish : Wish) → AsksFor words wish → has_parts wish ≡ true → IfSome known (λ text. IfSome kept (λ bytes. items bytes ≡ text))
-    → IfNone kept (IfOk answer (λ x. more ≡ None)) → IfSome kept (λ bytes. IfOk answer (λ x. IfSome more (λ m. IsSaidBehind (items bytes) (text_of m))))
-    → IfSome known (λ text. IfOk (result_map_both view (λ why. why) answer) (λ printout. IfSome (option_map text_of more) (λ said. IsAdded words text said)))
+    → IfNone kept (IfOk answer (λ x. more ≡ None)) → IfSome kept (λ bytes. IfOk answer (λ x. IfSome more (λ m. IsSaidBehind (items bytes) (view x).unplaced (text_of m))))
+    → IfSome known (λ text. IfOk (result_map_both view (λ why. why) answer) (λ printout. IfSome (option_map text_of more) (λ said. IsAdded words text printout said)))
 run_added words items text_of view None kept more answer wish asked run same none said = tt
 run_added words items text_of view (Some text) kept more (Err why) wish asked run same none said = tt
 run_added words items text_of view (Some text) None more (Ok x) wish asked run same none said = rw none tt
 run_added words items text_of view (Some text) (Some bytes) None (Ok x) wish asked run same none said = tt
 run_added words items text_of view (Some text) (Some bytes) (Some m) (Ok x) wish asked run same none said =
-    record { wish = wish; asked = asked; run = run; said = subst (λ (t : List ℕ). IsSaidBehind t (text_of m)) same said }
+    record { wish = wish; asked = asked; run = run; said = subst (λ (t : List ℕ). IsSaidBehind t (view x).unplaced (text_of m)) same said }
 
 none_said : {W : Type 0} (text_of : W → List ℕ) (more : Option W) → more ≡ None → option_map text_of more ≡ None
 none_said text_of more is = rw is refl
@@ -260,7 +260,7 @@ module _ {V W X : Type 0} (items : V → List ℕ) (text_of : W → List ℕ) (v
       → (explaining ≡ false → more ≡ None) → IfSome known (λ text. IfSome kept (λ bytes. items bytes ≡ text))
       → IfNone kept (IfErr answer (λ why. IfSome more (λ m. slip_of (has_parts wish) why ≡ None)))
       → IfSome kept (λ bytes. IfErr answer (λ why. IfSome more (λ said. IsSaidOfFault (has_parts wish) (items bytes) why (text_of said))))
-      → IfSome known (λ text. IfOk (result_map_both view (λ why. why) answer) (λ printout. IfSome (option_map text_of more) (λ said. IsAdded words text said)))
+      → IfSome known (λ text. IfOk (result_map_both view (λ why. why) answer) (λ printout. IfSome (option_map text_of more) (λ said. IsAdded words text printout said)))
       → IsSaidOrReported explaining (option_map text_of more) (result_map_both view (λ why. why) ending_answer) status old new → Answers words known status old new
   wished wish of_input asked is same_answer explains_is only same none said added ending = record {
     answer = result_map_both view (λ why. why) answer;

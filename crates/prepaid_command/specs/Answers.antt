@@ -77,7 +77,7 @@ IsFiledRunOfInput ask input answer = MatchResult (sized input) (λ text. IsFiled
 
 -- the text of an audit, which passes where each account's history is legal
 abbrev pub printout_of_audit : Audited → Printout
-printout_of_audit audit = record { text = audit.lines; passes = audit.passes; refused = [] }
+printout_of_audit audit = record { text = audit.lines; passes = audit.passes; refused = []; unplaced = [] }
 
 -- an audit of the books of a table is printed
 pub record IsAuditPrinted (ask : AuditAsk) (text : List ℕ) (books : Books) (answer : Result Printout Fault) : Type 0 where
@@ -176,7 +176,7 @@ pub record Answers (words : List (List ℕ)) (input : Option (List ℕ)) (status
   pub only : explains words ≡ false → more ≡ None
   pub said : IfSome input (λ text. IfErr answer (λ why. IfSome more (λ said. IsSaidBy words text why said)))
   -- and behind an answer: nothing but of a run
-  pub added : IfSome input (λ text. IfOk answer (λ printout. IfSome more (λ said. IsAdded words text said)))
+  pub added : IfSome input (λ text. IfOk answer (λ printout. IfSome more (λ said. IsAdded words text printout said)))
   pub printed : IsSaidOrReported (explains words) more answer status old new
 
 -- ---- records that are rated as they come

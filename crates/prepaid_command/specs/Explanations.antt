@@ -1,12 +1,13 @@
 -- What is said of a fault behind its line.
-use Rattle.std.specs.Prelude.{◌≡◌, ◌⊎◌, Bool, true, false, List, ℕ, Option, Some, None, ⊤, IfSome, if◌then◌else◌}
+use Rattle.std.specs.Prelude.{◌≡◌, ◌⊎◌, ◌++◌, Bool, true, false, List, ℕ, Option, Some, None, ⊤, IfSome, if◌then◌else◌}
 use Rattle.explanations.specs.Slips.{Explains}
 use Rattle.explanations.specs.declared.slip.Slip.{Slip}
 use Rattle.explanations.specs.declared.slip.Slip.TheVariants as slip
 use Rattle.command_words.specs.Arguments.{AsksFor}
 use Rattle.command_words.specs.Wishes.{Wish, Runs, RunsInto}
 use Rattle.run_command.specs.Strangers.{AreStrangersOf}
-use Rattle.prepaid_command.specs.Strangers.{strangers_line}
+use Rattle.prepaid_command.specs.Lists.{strangers_line}
+use Rattle.prepaid_command.specs.Printouts.{Printout}
 use Rattle.prepaid_command.specs.declared.fault.Fault.{Fault}
 use Rattle.prepaid_command.specs.declared.fault.Fault.TheVariants as fault
 use Rattle.prepaid_command.specs.declared.fault.Part.TheVariants as part
@@ -25,11 +26,11 @@ slip_of in_parts why = None
 abbrev pub IsSaidOfFault : Bool → List ℕ → Fault → List ℕ → Type 0
 IsSaidOfFault in_parts input why text = IfSome (slip_of in_parts why) (λ slip. Explains input slip text)
 
--- a text is said of a run over an input, behind its answer: which calls no subscriber makes
-pub record IsSaidBehind (input text : List ℕ) : Type 0 where
+-- a text is said of a run over an input, behind its answer: which calls no subscriber makes, and then the line about the events that had no place
+pub record IsSaidBehind (input events_line text : List ℕ) : Type 0 where
   pub calls : List ℕ
   pub strangers : AreStrangersOf input calls
-  pub line : text ≡ strangers_line calls
+  pub lines : text ≡ strangers_line calls ++ events_line
 
 -- whether what is wished has an input of three parts
 abbrev pub has_parts : Wish → Bool
@@ -44,11 +45,11 @@ pub record IsExplained (words : List (List ℕ)) (input : List ℕ) (why : Fault
   pub said : IsSaidOfFault (has_parts wish) input why text
 
 -- the words wish a run over the input, and a text is said behind its answer
-pub record IsAdded (words : List (List ℕ)) (input text : List ℕ) : Type 0 where
+pub record IsAdded (words : List (List ℕ)) (input : List ℕ) (printout : Printout) (text : List ℕ) : Type 0 where
   pub wish : Wish
   pub asked : AsksFor words wish
   pub run : has_parts wish ≡ true
-  pub said : IsSaidBehind input text
+  pub said : IsSaidBehind input printout.unplaced text
 
 -- a fault of the words, of which `clap` says what it does
 abbrev pub IsOfWords : Fault → Type 0

@@ -5,13 +5,13 @@ pub mod Explanations
 pub mod Faults
 pub mod Files
 pub mod Input
+pub mod Lists
 pub mod Outputs
 pub mod PriceLines
+pub mod Printouts
 pub mod Quotes
 pub mod Refused
 pub mod ReplayLines
 pub mod Replays
 pub mod Reports
-pub mod Strangers
 pub mod Summaries
-pub mod Printouts

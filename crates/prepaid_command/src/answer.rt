@@ -1,6 +1,7 @@
 //! What the program prints.
 
-use run_command::Refusals;
+use run_command::{Refusals, UnplacedEvent};
+use std::alloc::Global;
 
 /// A text that answers what was asked, and the exit status that goes with it.
 #[derive(Drop)]
@@ -11,6 +12,8 @@ pub(crate) struct Answer {
     pub passes: bool,
     /// How often the accounts of a run refused what they were asked.
     pub refusals: Refusals,
+    /// The events that had no place in a run.
+    pub unplaced: Vec<UnplacedEvent>,
 }
 
 impl Answer {
@@ -18,13 +21,14 @@ impl Answer {
     ghost use Rattle.prepaid_command.specs.Printouts.{plain, status_of_printout, printout_of};
 
     /// A text that finds nothing wrong, and of no run that refused anything.
-    pub fn plain(text: String) -> Answer
+    pub fn plain(alloc: Global, text: String) -> Answer
         ensures { printout_of result ≡ plain (string_bytes text) }
     {
         Answer {
             text,
             passes: true,
             refusals: Refusals::none(),
+            unplaced: Vec::new(alloc),
         }
     }
 

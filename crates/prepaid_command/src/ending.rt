@@ -3,14 +3,16 @@
 ghost use Rattle.std.specs.Prelude.{◌≡◌, false, true, Err, None, IfErr, IfNone, IfOk, IfSome, string_bytes};
 ghost use Rattle.prepaid_command.specs.Explanations.{IsOfWords, IsSaidBehind, IsSaidOfFault, slip_of};
 ghost use Rattle.prepaid_command.specs.Faults.{of_words};
+ghost use Rattle.prepaid_command.specs.Lists.{unplaced_line};
+ghost use Rattle.prepaid_command.specs.Printouts.{printout_of};
 
 use crate::answer::Answer;
 use crate::fault::{Fault, Part};
 use crate::input::MAX_INPUT;
-use crate::stranger_lines::strangers_line;
+use crate::list_lines::{strangers_line, unplaced_line};
 use command_words::{WordsFault, explain_words};
 use explanations::{Slip, explain, explain_dividers};
-use run_command::stranger_calls;
+use run_command::{UnplacedEvent, stranger_calls};
 use run_options::RunOptions;
 use std::alloc::{AllocError, Global};
 use std::convert::AsStr;
@@ -60,7 +62,8 @@ impl Ending {
     }
 
     /// What a run comes to: of its fault is said what the input shows, as `over` has it; and of an
-    /// answer which calls the run passed over, since no subscriber has their calling number.
+    /// answer which calls the run passed over, since no subscriber has their calling number, and
+    /// which events had no place in it.
     pub fn of_run(
         alloc: Global,
         explains: bool,
@@ -75,12 +78,13 @@ impl Ending {
         ensures said { IfSome input.now (λ bytes. IfErr answer (λ why. IfSome result.more
             (λ more. IsSaidOfFault true bytes.items why (string_bytes more)))) }
         ensures unread { IfNone input.now (IfOk answer (λ _. result.more ≡ None)) }
-        ensures behind { IfSome input.now (λ bytes. IfOk answer (λ _. IfSome result.more
-            (λ more. IsSaidBehind bytes.items (string_bytes more)))) }
+        ensures behind { IfSome input.now (λ bytes. IfOk answer (λ done. IfSome result.more
+            (λ more. IsSaidBehind
+            bytes.items (printout_of done).unplaced (string_bytes more)))) }
     {
         match (&answer, input) {
-            (Ok(_), Some(bytes)) if explains => {
-                let more = strangers_of(alloc, options, bytes);
+            (Ok(done), Some(bytes)) if explains => {
+                let more = said_behind(alloc, options, bytes, done.unplaced.as_slice());
                 Ending { answer, more }
             }
             (Ok(_), _) => Ending::plain(answer),
@@ -105,8 +109,9 @@ impl Ending {
         ensures said { IfSome input.now (λ bytes. IfErr answer (λ why. IfSome result.more
             (λ more. IsSaidOfFault true bytes.items why (string_bytes more)))) }
         ensures unread { IfNone input.now (IfOk answer (λ _. result.more ≡ None)) }
-        ensures behind { IfSome input.now (λ bytes. IfOk answer (λ _. IfSome result.more
-            (λ more. IsSaidBehind bytes.items (string_bytes more)))) }
+        ensures behind { IfSome input.now (λ bytes. IfOk answer (λ done. IfSome result.more
+            (λ more. IsSaidBehind
+            bytes.items (printout_of done).unplaced (string_bytes more)))) }
     {
         match (&answer, failed) {
             (Err(Fault::Into), Some(error)) if explains => {
@@ -180,12 +185,22 @@ fn said_of_files(alloc: Global, error: &Error) -> Result<String, AllocError> {
     Ok(text)
 }
 
-/// What is said of the calls of an input that no subscriber makes; nothing where memory runs out.
-fn strangers_of(alloc: Global, options: &RunOptions, input: &Vec<u8>) -> Option<String>
-    ensures { IfSome result (λ more. IsSaidBehind input.now.items (string_bytes more)) }
+/// What is said of the calls of an input that no subscriber makes, and of the events that had no
+/// place in its run; nothing where memory runs out.
+fn said_behind(
+    alloc: Global,
+    options: &RunOptions,
+    input: &Vec<u8>,
+    unplaced: &[UnplacedEvent],
+) -> Option<String>
+    ensures { IfSome result (λ more.
+        IsSaidBehind input.now.items (unplaced_line unplaced.now) (string_bytes more)) }
 {
     let calls = stranger_calls(alloc, options, input.as_slice()).ok()?;
-    strangers_line(alloc, calls.as_slice()).ok()
+    let mut more = strangers_line(alloc, calls.as_slice()).ok()?;
+    let events = unplaced_line(alloc, unplaced).ok()?;
+    more.push_str(events.as_str()).ok()?;
+    Some(more)
 }
 
 /// What is said of a fault over an input; nothing where memory runs out.

@@ -7,6 +7,7 @@ mod error_lines;
 mod fault;
 mod files;
 mod input;
+mod list_lines;
 mod noting;
 mod price_lines;
 mod program;
@@ -16,7 +17,6 @@ mod replaying;
 mod reports;
 mod running;
 mod serving;
-mod stranger_lines;
 mod terminal;
 
 pub use fault::{Fault, Part};

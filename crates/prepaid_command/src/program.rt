@@ -86,7 +86,7 @@ where
                 output,
                 faults,
                 explains,
-                Ending::plain(Ok(Answer::plain(text))),
+                Ending::plain(Ok(Answer::plain(alloc, text))),
             )
         }
         Ok(Request::Version(text)) => {
@@ -94,7 +94,7 @@ where
                 output,
                 faults,
                 explains,
-                Ending::plain(Ok(Answer::plain(text))),
+                Ending::plain(Ok(Answer::plain(alloc, text))),
             )
         }
         Ok(Request::Price(plan)) => {
@@ -204,7 +204,7 @@ fn price_reports<I: Read + Drop>(
 {
     let bytes = read_input(alloc, input)?;
     match read_reports(alloc, plan, bytes.as_slice()) {
-        Ok(reports) => Ok(Answer::plain(print_reports(alloc, plan, &reports)?)),
+        Ok(reports) => Ok(Answer::plain(alloc, print_reports(alloc, plan, &reports)?)),
         Err(fault) => {
             *kept = Some(bytes);
             Err(Fault::in_part(Part::Reports, fault))
@@ -227,7 +227,7 @@ fn replay_operations<I: Read + Drop>(
 {
     let bytes = read_input(alloc, input)?;
     match replay(alloc, account.opening, account.limit, bytes.as_slice()) {
-        Ok(text) => Ok(Answer::plain(text)),
+        Ok(text) => Ok(Answer::plain(alloc, text)),
         Err(fault) => {
             *kept = Some(bytes);
             Err(Fault::in_part(Part::Ops, fault))
@@ -269,6 +269,7 @@ fn audit_table<I: Read + Drop>(alloc: Global, ask: AuditAsk, table: I) -> Result
             text: audit.lines,
             passes: audit.passes,
             refusals: Refusals::none(),
+            unplaced: Vec::new(alloc),
         }),
         Err(fault) => Err(Fault::in_part(Part::Book, fault)),
     }
@@ -296,7 +297,7 @@ fn quote_input<I: Read + Drop>(
             return Err(Fault::of_run_input(fault));
         }
     };
-    Ok(Answer::plain(print_quote(alloc, &tariff, ask)?))
+    Ok(Answer::plain(alloc, print_quote(alloc, &tariff, ask)?))
 }
 
 /// The status of an answer: its own where the whole text went to the output, and then the line

@@ -11,7 +11,7 @@ use crate::answer::Answer;
 use crate::fault::Fault;
 use crate::files::write_tables;
 use crate::input::read_input;
-use run_command::{Ran, Watch, run, run_tables};
+use run_command::{Ran, RunTables, Watch, run, run_tables};
 use run_options::RunOptions;
 use std::alloc::Global;
 use std::fs::File;
@@ -39,11 +39,16 @@ pub(crate) fn run_script<R: Wait + Threads + Sync, I: Read + Drop, W: Watch + Sy
     let bytes = read_input(alloc, input)?;
     let ran = run(rt, alloc, options, bytes.as_slice(), watch);
     *kept = Some(bytes);
-    let Ran { text, refusals } = ran?;
+    let Ran {
+        text,
+        refusals,
+        unplaced,
+    } = ran?;
     Ok(Answer {
         text,
         passes: true,
         refusals,
+        unplaced,
     })
 }
 
@@ -84,9 +89,15 @@ where
         *folder.failed = Some(error);
         return Err(fault);
     }
+    let RunTables {
+        refusals,
+        unplaced,
+        ..
+    } = tables;
     Ok(Answer {
         text: String::new(alloc),
         passes: true,
-        refusals: tables.refusals,
+        refusals,
+        unplaced,
     })
 }

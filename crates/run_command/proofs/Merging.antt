@@ -1,25 +1,26 @@
--- Records that are sorted by their calls.
+-- What is sorted by a number.
 use Rattle.std.proofs.Common.{◌≡◌, ◌==◌, ◌&&◌, ◌∙◌, ℕ, not, List, [], ◌∷◌, length, refl, sym, arith}
 use Rattle.std.proofs.lemmas.Bool.Decides.{nat_tests}
 use Rattle.std.proofs.lemmas.List.Elements.{filter_agree}
 use Rattle.std.specs.List.{filter}
 use Rattle.std.specs.List.Sorted.{IsStableByKey, ties}
 use Rattle.std.specs.Ordering.{is_lt, nat_cmp}
-use Rattle.call_records.specs.declared.call_record.CallRecord.{CallRecord}
 
 is_tie : (number other : ℕ) → other == number ≡ not (is_lt (nat_cmp number other)) && not (is_lt (nat_cmp other number))
 is_tie number other = grind (arith, nat_tests)
 
-none : (calls : List CallRecord) → length calls ≡ 0 → calls ≡ []
-none [] is = refl
-none (call ∷ calls) is = absurd (omega (arith, is))
+module _ {X : Type 0} (number : X → ℕ) (with_number : X → ℕ → X) (has_number : (x : X) (n : ℕ) → number (with_number x n) ≡ n) where
+  none : (xs : List X) → length xs ≡ 0 → xs ≡ []
+  none [] is = refl
+  none (x ∷ xs) is = absurd (omega (arith, is))
 
--- a stable sort leaves the records of each number as they were
-pub stays_in_order : (listed calls : List CallRecord) → length calls ≡ length listed → IsStableByKey (λ call. call.call) nat_cmp listed calls
-    → (number : ℕ) → filter (λ call. call.call == number) calls ≡ filter (λ call. call.call == number) listed
-stays_in_order [] calls as_many stable number = rw (none calls as_many) refl
-stays_in_order (first ∷ listed) calls as_many stable number =
-    let one : CallRecord = record first { call = number } in
-    let as_ties : (xs : List CallRecord) → filter (λ call. call.call == number) xs ≡ filter (ties (λ x y. is_lt (nat_cmp x.call y.call)) one) xs
-    = filter_agree _ _ (λ call. is_tie number call.call) in
-    as_ties calls ∙ stable one ∙ sym (as_ties (first ∷ listed))
+  -- a stable sort leaves those of each number as they were
+  pub stays_in_order : (listed sorted : List X) → length sorted ≡ length listed → IsStableByKey number nat_cmp listed sorted
+      → (n : ℕ) → filter (λ x. number x == n) sorted ≡ filter (λ x. number x == n) listed
+  stays_in_order [] sorted as_many stable n = rw (none sorted as_many) refl
+  stays_in_order (first ∷ listed) sorted as_many stable n =
+      let one : X = with_number first n in
+      let its : number one ≡ n = has_number first n in
+      let as_ties : (xs : List X) → filter (λ x. number x == n) xs ≡ filter (ties (λ x y. is_lt (nat_cmp (number x) (number y))) one) xs
+      = filter_agree _ _ (λ x. rw its (is_tie n (number x))) in
+      as_ties sorted ∙ stable one ∙ sym (as_ties (first ∷ listed))

@@ -11,9 +11,11 @@ use Rattle.call_records.specs.declared.call_record.CallRecord.{CallRecord}
 use Rattle.run_command.specs.InParts.{AreKept, ArePlayed, IsInParts, IsKeptPart, IsPartsText, IsPlayedPart, KeepsPart, KeepsBooks, KeepsCalls, PartSaid, joined_parts, own_books, with_part}
 use Rattle.run_command.specs.Played.{IsPlayedRun, run_of}
 use Rattle.run_command.specs.Refused.{added_up, refusals_counted, with_refusals}
+use Rattle.run_command.specs.Unplaced.{AreByCall, events_in_rows}
 use Rattle.run_command.specs.declared.parts.Part.{Part}
 use Rattle.run_command.specs.declared.playing.Played.{Played}
 use Rattle.run_command.specs.declared.refusals.Refusals.{Refusals}
+use Rattle.run_command.specs.declared.unplaced.UnplacedEvent.{UnplacedEvent}
 use Rattle.run_options.specs.declared.options.RunAsk.{RunAsk}
 use Rattle.run_options.specs.declared.options.RunOutput.{RunOutput}
 use Rattle.run_options.specs.declared.options.RunOutput.TheVariants as output
@@ -55,7 +57,9 @@ added_part front last =
     flat_map-append (λ (p : PartSaid). p.calls) front (last ∷ []) ∙ ap (λ l. flat_map (λ (p : PartSaid). p.calls) front ++ l) (append-nil last.calls) in
     let refusals : with_refusals (added_up (map (λ (p : PartSaid). p.refusals) front)) last.refusals ≡ added_up (map (λ (p : PartSaid). p.refusals) (front ++ last ∷ [])) =
     added_more (map (λ (p : PartSaid). p.refusals) front) last.refusals ∙ ap added_up (sym (map-append (λ (p : PartSaid). p.refusals) front (last ∷ []))) in
-    rw (books, calls, refusals) refl
+    let unplaced : flat_map (λ (p : PartSaid). p.unplaced) (front ++ last ∷ []) ≡ flat_map (λ (p : PartSaid). p.unplaced) front ++ last.unplaced =
+    flat_map-append (λ (p : PartSaid). p.unplaced) front (last ∷ []) ∙ ap (λ l. flat_map (λ (p : PartSaid). p.unplaced) front ++ l) (append-nil last.unplaced) in
+    rw (books, calls, refusals, unplaced) refl
 
 -- what is kept of parts, of which this is the last
 record IsLast (output : RunOutput) (said : List PartSaid) (done : List Part) (part : Part) : Type 0 where
@@ -114,9 +118,14 @@ all_joined parts rest whole none are output said kept =
 -- what is kept of a part that was played
 pub kept_part : (ask : RunAsk) (setup : Setup) (firsts : List ℕ) (number : ℕ) (rows : List ScriptRow) (played : Played) (calls : List CallRecord) (kept : Part) → are_workers ask.workers ≡ true
     → IsPlayedRun ask setup rows played → KeepsCalls ask.output (run_of setup played) calls → KeepsBooks ask.output (own_books firsts number played.books.items) kept.lines kept.books.items
-    → kept.calls.items ≡ calls → kept.refusals ≡ played.listener.refusals → IsKeptPart ask setup firsts number rows kept
-kept_part ask setup firsts number rows played calls kept workers is calls_are books_are same_calls same_refusals = record {
-  said = record { books = own_books firsts number played.books.items; calls = calls; refusals = played.listener.refusals };
+    → kept.calls.items ≡ calls → kept.refusals ≡ played.listener.refusals → kept.unplaced.items ≡ events_in_rows played.listener.player.unplaced → IsKeptPart ask setup firsts number rows kept
+kept_part ask setup firsts number rows played calls kept workers is calls_are books_are same_calls same_refusals same_unplaced = record {
+  said = record {
+    books = own_books firsts number played.books.items;
+    calls = calls;
+    refusals = played.listener.refusals;
+    unplaced = events_in_rows played.listener.player.unplaced;
+  };
   is = record {
     workers = workers;
     given = (run_of setup played).given;
@@ -127,8 +136,9 @@ kept_part ask setup firsts number rows played calls kept workers is calls_are bo
     own = refl;
     calls = calls_are;
     refused = is.counted;
+    unplaced = ap events_in_rows (sym is.unplaced);
   };
-  keeps = record { books = books_are; calls = same_calls; refusals = same_refusals };
+  keeps = record { books = books_are; calls = same_calls; refusals = same_refusals; unplaced = same_unplaced };
 }
 
 -- what is kept where nothing is
@@ -183,12 +193,13 @@ module _ (ask : RunAsk) (setup : Setup) (firsts : List ℕ) (rows : ℕ → List
       record { said = first.said ∷ rest.said; count = ap suc rest.count; kept = (first.keeps, rest.kept); each = each_said from first.said rest.said first.is rest.each }
 
 pub in_parts : (asked : ℕ) (ask : RunAsk) (setup : Setup) (rows : List ScriptRow) (firsts : List ℕ) (scripts : List (List ScriptRow)) (parts : List Part) (whole : Part) (text : List ℕ)
+    (events : List UnplacedEvent)
     → 1 + length firsts ≡ part_count asked (length setup.accounts)
     → AreParts firsts (payer_of (with_digits setup.subscribers) (map script_event rows)) rows scripts → ArePlayed ask setup firsts scripts parts
     → ((output : RunOutput) (said : List PartSaid) → AreKept output said parts → KeepsPart output (joined_parts said) whole)
     → ((said : PartSaid) → KeepsPart ask.output said whole → IsPartsText ask.output setup.tariff said.books said.calls text) → (ask.output ≡ output.Book → All IsTyped whole.books.items)
-    → IsInParts asked ask setup rows text whole.refusals
-in_parts asked ask setup rows firsts scripts parts whole text count divided played joins printed typed =
+    → AreByCall whole.unplaced.items events → IsInParts asked ask setup rows text whole.refusals events
+in_parts asked ask setup rows firsts scripts parts whole text events count divided played joins printed typed merged =
     let payer = payer_of (with_digits setup.subscribers) (map script_event rows) in
     let own : (part : ℕ) → part < length parts → get_or scripts part [] ≡ part_rows firsts payer rows part =
     λ part within. divided.each part (let all = played.count in let many = divided.count in omega (arith, all, many, within)) in
@@ -205,4 +216,5 @@ in_parts asked ask setup rows firsts scripts parts whole text count divided play
       printed = printed (joined_parts said.said) keeps;
       typed = λ is. typed_kept ask.output (joined_parts said.said) whole is keeps (typed is);
       refused = keeps.refusals;
+      unplaced = subst (λ (all : List UnplacedEvent). AreByCall all events) keeps.unplaced merged;
     }

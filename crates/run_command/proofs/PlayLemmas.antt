@@ -1,7 +1,7 @@
 -- A player that has ended has taken all of its rows.
 use Rattle.std.proofs.Common.{◌≡◌, ℕ, true, false, List, [], ◌∷◌, ◌++◌, map, refl, sym, ◌∙◌, ap, subst}
 use Rattle.std.proofs.lemmas.List.{append-nil}
-use Rattle.run_command.specs.Plays.{HearsItsRounds, IsAskedFor, IsGivenBy, IsPlayOf}
+use Rattle.run_command.specs.Plays.{HearsItsRounds, IsAskedFor, IsGivenWithout, IsPlayWithout}
 use Rattle.run_options.specs.declared.options.RunAsk.{RunAsk}
 use Rattle.run_texts.specs.Views.{script_event}
 use Rattle.run_texts.specs.declared.script.ScriptRow.{ScriptRow}
@@ -34,34 +34,39 @@ each_hears before_this old (answers ∷ next ∷ heard) new running rounds =
 pub play_of : (config : SsfConfig) (delay : ℕ) (taken left rows : List ScriptRow) (heard : List (List Answer)) (given : List (ℕ × Body)) (play : Play) → left ≡ [] → taken ++ left ≡ rows
     → HearsItsRounds config delay rows heard play → LivesByItsDeeds config delay (taken ++ left) play → play.ended ≡ true → play.network.given ≡ given
     → ((call : ℕ) → IsPlayed config call given) → ((call : ℕ) → Begins (opening_item_of call taken) (items_of call given))
-    → recharges_in given ≡ recharge_items_of taken → IsPlayOf config delay rows heard given
+    → recharges_in given ≡ recharge_items_of taken → IsPlayWithout config delay rows heard given play.unplaced
 play_of config delay taken left rows heard given play none all rounds lives ended gives calls begins recharges =
     let same : taken ≡ rows = sym (append-nil taken) ∙ ap (λ (l : List ScriptRow). taken ++ l) (sym none) ∙ all in
-    let Is : List ScriptRow → Type 0 = λ r. IsPlayOf config delay r heard given in
+    let Is : List ScriptRow → Type 0 = λ r. IsPlayWithout config delay r heard given play.unplaced in
     let Heard : List ScriptRow → Type 0 = λ r. HearsItsRounds config delay r heard play in
     let Lives : List ScriptRow → Type 0 = λ r. LivesByItsDeeds config delay r play in
     let own = subst Heard (sym same) rounds in
     subst Is same
     (record {
-      play = play;
-      reached = record { heard = heard; has_heard = chained [] (fresh_play config delay taken) heard play own };
-      heard_are = refl;
-      rounds = own;
-      lives = subst Lives (all ∙ sym same) lives;
-      ended = ended;
-      gives = gives;
-      calls = calls;
-      begins = begins;
-      recharges = recharges;
+      plays = record {
+        play = play;
+        reached = record { heard = heard; has_heard = chained [] (fresh_play config delay taken) heard play own };
+        heard_are = refl;
+        rounds = own;
+        lives = subst Lives (all ∙ sym same) lives;
+        ended = ended;
+        gives = gives;
+        calls = calls;
+        begins = begins;
+        recharges = recharges;
+      };
+      unplaced = refl;
     })
 
 -- the plan of a player is the same after a run as before it: the configuration and the delay that were asked for, and the rows of the script
-pub given_by : (ask : RunAsk) (config other : SsfConfig) (delay : ℕ) (rows taken left : List ScriptRow) (heard : List (List Answer)) (given : List (ℕ × Body)) → IsAskedFor ask config
-    → other ≡ config → delay ≡ ask.delay → taken ++ left ≡ rows → IsPlayOf other delay rows heard given → IsGivenBy ask (map script_event rows) heard given
-given_by ask config other delay rows taken left heard given asked_for same after all plays =
+pub given_by : (ask : RunAsk) (config other : SsfConfig) (delay : ℕ) (rows taken left : List ScriptRow) (heard : List (List Answer)) (given : List (ℕ × Body)) (without : List ScriptRow)
+    → IsAskedFor ask config → other ≡ config → delay ≡ ask.delay → taken ++ left ≡ rows → IsPlayWithout other delay rows heard given without
+    → IsGivenWithout ask (map script_event rows) heard given without
+given_by ask config other delay rows taken left heard given without asked_for same after all plays =
     let Asked : SsfConfig → Type 0 = λ c. IsAskedFor ask c in
-    let Plays : ℕ → Type 0 = λ d. IsPlayOf other d rows heard given in
-    record { config = other; asked_for = subst Asked (sym same) asked_for; rows = rows; says = refl; play = subst Plays after plays }
+    let Plays : ℕ → Type 0 = λ d. IsPlayWithout other d rows heard given without in
+    let own = subst Plays after plays in
+    record { given_by = record { config = other; asked_for = subst Asked (sym same) asked_for; rows = rows; says = refl; play = own.plays }; unplaced = own.unplaced }
 
 -- the rounds of a player, by its plan as it is after them
 pub rounds_of : (config other : SsfConfig) (delay now : ℕ) (rows : List ScriptRow) (old : Play) (heard : List (List Answer)) (new : Play) → old ≡ fresh_play config delay rows → other ≡ config → now ≡ delay

@@ -1,5 +1,5 @@
 -- What a run of an input says, from what its rows came to over its setup.
-use Rattle.std.proofs.Common.{◌≡◌, ◌<◌, ◌∙◌, ℕ, List, [], map, length, ap, subst, arith}
+use Rattle.std.proofs.Common.{◌≡◌, ◌<◌, ◌∙◌, ℕ, List, [], map, length, refl, sym, ap, subst, arith}
 use Rattle.std.specs.List.{flat_map}
 use Rattle.std.specs.Prelude.{slice_index_or}
 use Rattle.run_laws.specs.Runs.{HasAccounts}
@@ -10,11 +10,13 @@ use Rattle.run_command.specs.InParts.{IsInParts, IsPartOf, IsPartsText, IsPlayed
 use Rattle.run_command.specs.Joined.{AreAllParts, JoinedBooksHaveAllAccounts, JoinedBooksPass}
 use Rattle.run_command.specs.Laws.{PlayedBooksPass, PlayedCallsHavePaid}
 use Rattle.run_command.specs.Played.{AreWhole, IsWhole}
-use Rattle.run_command.specs.Plays.{IsGivenBy}
+use Rattle.run_command.specs.Plays.{IsGivenBy, IsGivenWithout}
 use Rattle.run_command.specs.Refused.{none_refused}
 use Rattle.run_command.specs.Starts.{IsStartOf}
 use Rattle.run_command.specs.Tables.{AreTablesOf, TablesSaid}
+use Rattle.run_command.specs.Unplaced.{AreByCall, events_in_rows}
 use Rattle.run_command.specs.declared.refusals.Refusals.{Refusals}
+use Rattle.run_command.specs.declared.unplaced.UnplacedEvent.{UnplacedEvent}
 use Rattle.run_options.specs.declared.options.RunAsk.{RunAsk}
 use Rattle.run_parts.specs.Parts.{part_count, part_rows, part_script, payer_of}
 use Rattle.run_texts.specs.Happenings.{ScriptEvent}
@@ -22,13 +24,26 @@ use Rattle.run_texts.specs.Inputs.{RunInput}
 use Rattle.run_texts.specs.Views.{script_event, with_digits}
 use Rattle.run_texts.specs.declared.script.ScriptRow.{ScriptRow}
 use Rattle.run_values.specs.Setups.{Setup}
+use Rattle.run_values.specs.declared.post.Answer.{Answer}
+use Rattle.run_values.specs.declared.post.Body.{Body}
 use Rattle.tariff_core.specs.Bands.{Band}
+
+-- a script that says the same is given alike, and the same rows have no place in it
+said_alike : (ask : RunAsk) (script other : List ScriptEvent) (heard : List (List Answer)) (given : List (ℕ × Body)) → script ≡ other → (given_by : IsGivenBy ask script heard given)
+    → IsGivenWithout ask other heard given given_by.play.play.unplaced
+said_alike ask script other heard given same given_by =
+    let P : List ScriptEvent → Type 0 = λ s. IsGivenWithout ask s heard given given_by.play.play.unplaced in
+    subst P same (record { given_by = given_by; unplaced = refl })
+
+pub events_moved : (without now : List ScriptRow) (events : List UnplacedEvent) → now ≡ without → AreByCall (events_in_rows without) events → AreByCall (events_in_rows now) events
+events_moved without now events same are = subst (λ (rows : List ScriptRow). AreByCall (events_in_rows rows) events) (sym same) are
 
 pub whole_said : PlayedBooksPass → PlayedCallsHavePaid → (ask : RunAsk) (input : List ℕ) (setup : Setup) (rows : List ScriptRow) (ran : RunSaid) → IsStartOf ask input setup rows
     → IsWhole ask setup rows ran → IsRunOf ask input ran
 whole_said pass paid ask input setup rows ran start is =
     let said = start.said in
-    let given_by : IsGivenBy ask said.script is.heard is.given = subst (λ (s : List ScriptEvent). IsGivenBy ask s is.heard is.given) start.says is.given_by in
+    let moved = said_alike ask (map script_event rows) said.script is.heard is.given start.says is.given_by in
+    let given_by : IsGivenBy ask said.script is.heard is.given = moved.given_by in
     let are : AreBooksOf ask said is.given is.heard is.books = record { setup = setup; of_input = start.of_input; run = is.run } in
     record {
       said = said;
@@ -41,6 +56,7 @@ whole_said pass paid ask input setup rows ran start is =
       are_books = are;
       printed = is.printed;
       refused = is.refused;
+      unplaced = events_moved is.given_by.play.play.unplaced given_by.play.play.unplaced ran.unplaced moved.unplaced is.unplaced;
       passes = λ asked. pass ask said is.given is.heard is.books is.workers start.range given_by are (is.typed asked);
       paid = paid ask said is.given is.heard is.books is.workers start.range.accounts given_by are;
     }
@@ -50,7 +66,8 @@ pub tables_are_said : PlayedBooksPass → PlayedCallsHavePaid → (ask : RunAsk)
     → AreWhole ask setup rows tables → AreTablesOf ask input tables
 tables_are_said pass paid ask input setup rows tables start is =
     let said = start.said in
-    let given_by : IsGivenBy ask said.script is.heard is.given = subst (λ (s : List ScriptEvent). IsGivenBy ask s is.heard is.given) start.says is.given_by in
+    let moved = said_alike ask (map script_event rows) said.script is.heard is.given start.says is.given_by in
+    let given_by : IsGivenBy ask said.script is.heard is.given = moved.given_by in
     let are : AreBooksOf ask said is.given is.heard is.books = record { setup = setup; of_input = start.of_input; run = is.run } in
     record {
       said = said;
@@ -63,6 +80,7 @@ tables_are_said pass paid ask input setup rows tables start is =
       are_books = are;
       printed = is.printed;
       refused = is.refused;
+      unplaced = events_moved is.given_by.play.play.unplaced given_by.play.play.unplaced tables.unplaced moved.unplaced is.unplaced;
       passes = pass ask said is.given is.heard is.books is.workers start.range given_by are is.typed;
       paid = paid ask said is.given is.heard is.books is.workers start.range.accounts given_by are;
     }
@@ -80,7 +98,8 @@ module _ (paid : PlayedCallsHavePaid) (ask : RunAsk) (said : RunInput) (setup : 
       → IsPartOf ask said firsts part kept
   part_of_input part kept is =
       let script : List ScriptEvent = part_script firsts (payer_of said.setup.subscribers said.script) said.script part in
-      let given_by : IsGivenBy ask script is.heard is.given = subst (λ (s : List ScriptEvent). IsGivenBy ask s is.heard is.given) (its_script part) is.given_by in
+      let moved = said_alike ask (map script_event (part_rows firsts (payer_of (with_digits setup.subscribers) (map script_event rows)) rows part)) script is.heard is.given (its_script part) is.given_by in
+      let given_by : IsGivenBy ask script is.heard is.given = moved.given_by in
       let own : RunInput = record said { script = script } in
       let own_are : AreBooksOf ask own is.given is.heard is.books = record {
         setup = setup;
@@ -103,15 +122,16 @@ module _ (paid : PlayedCallsHavePaid) (ask : RunAsk) (said : RunInput) (setup : 
         own = is.own;
         calls = is.calls;
         refused = is.refused;
+        unplaced = is.unplaced ∙ ap events_in_rows (sym moved.unplaced);
         paid = paid ask own is.given is.heard is.books is.workers accounts given_by own_are;
       }
 
 some_said : PartSaid
-some_said = record { books = []; calls = []; refusals = none_refused }
+some_said = record { books = []; calls = []; refusals = none_refused; unplaced = [] }
 
 pub parts_said : PlayedCallsHavePaid → JoinedBooksHaveAllAccounts → JoinedBooksPass → (asked : ℕ) (ask : RunAsk) (input : List ℕ) (setup : Setup) (rows : List ScriptRow) (text : List ℕ) (refusals : Refusals)
-    → IsStartOf ask input setup rows → IsInParts asked ask setup rows text refusals → IsRunInParts asked ask input text refusals
-parts_said paid have pass asked ask input setup rows text refusals start is =
+    (events : List UnplacedEvent) → IsStartOf ask input setup rows → IsInParts asked ask setup rows text refusals events → IsRunInParts asked ask input text refusals events
+parts_said paid have pass asked ask input setup rows text refusals events start is =
     let workers = (is.each 0 some_said (let all = is.all in omega (arith, all))).workers in
     let each : (part : ℕ) (d : PartSaid) → part < length is.parts → IsPartOf ask start.said is.firsts part (slice_index_or is.parts part d) =
     λ part d within. part_of_input paid ask start.said setup rows start.of_input start.range.accounts start.says is.firsts part _ (is.each part d within) in
@@ -127,6 +147,7 @@ parts_said paid have pass asked ask input setup rows text refusals start is =
       each = each;
       printed = subst (λ (t : List Band). IsPartsText ask.output t (flat_map (λ part. part.books) is.parts) (flat_map (λ part. part.calls) is.parts) text) start.of_input.tariff is.printed;
       refused = is.refused;
+      unplaced = is.unplaced;
       accounts = have ask start.said is.firsts is.parts are;
       passes = λ asked_for. pass ask start.said is.firsts is.parts are (is.typed asked_for);
     }

@@ -1,10 +1,11 @@
 -- All texts of a play whose answers were kept.
-use Rattle.std.proofs.Common.{◌≡◌, ◌∙◌, true, List, None, refl, subst}
+use Rattle.std.proofs.Common.{◌≡◌, ◌∙◌, true, List, None, refl, sym, subst}
 use Rattle.std.specs.List.{All}
 use Rattle.book_texts.specs.Typed.{IsTyped}
 use Rattle.moment_texts.specs.declared.clock.Clock.{Clock}
 use Rattle.run_command.specs.Played.{AreWhole, IsPlayedRun, run_of}
 use Rattle.run_command.specs.Tables.{AreTextsOf, TablesSaid, clock_of}
+use Rattle.run_command.specs.Unplaced.{AreByCall, events_in_rows}
 use Rattle.run_command.specs.declared.playing.Played.{Played}
 use Rattle.run_options.specs.declared.options.RunAsk.{RunAsk}
 use Rattle.run_options.specs.declared.options.RunOutput.TheVariants as output
@@ -20,8 +21,8 @@ traced ask clock = record ask { output = output.Trace clock; parts = None }
 
 whole_of : (ask : RunAsk) (clock : Clock) (setup : Setup) (rows : List ScriptRow) (played : Played) (tables : TablesSaid) → clock ≡ clock_of ask.output → are_workers ask.workers ≡ true
     → IsPlayedRun (traced ask clock) setup rows played → AreTextsOf clock (run_of setup played) played.listener.heard.items tables → tables.refusals ≡ played.listener.refusals
-    → All IsTyped played.books.items → AreWhole ask setup rows tables
-whole_of ask clock setup rows played tables clock_is workers is texts refusals typed =
+    → AreByCall (events_in_rows played.listener.player.unplaced) tables.unplaced → All IsTyped played.books.items → AreWhole ask setup rows tables
+whole_of ask clock setup rows played tables clock_is workers is texts refusals events typed =
     let heard : AreTextsOf clock (run_of setup played) (all_heard is.heard) tables = subst (λ (h : List Answer). AreTextsOf clock (run_of setup played) h tables) (is.kept refl) texts in
     record {
       workers = workers;
@@ -38,12 +39,13 @@ whole_of ask clock setup rows played tables clock_is workers is texts refusals t
       run = is.run;
       printed = subst (λ (c : Clock). AreTextsOf c (run_of setup played) (all_heard is.heard) tables) clock_is heard;
       refused = refusals ∙ is.counted;
+      unplaced = subst (λ (rows_without : List ScriptRow). AreByCall (events_in_rows rows_without) tables.unplaced) (sym is.unplaced) events;
       typed = typed;
     }
 
 pub tables_of_play : (ask asked : RunAsk) (clock : Clock) (setup : Setup) (rows : List ScriptRow) (played : Played) (tables : TablesSaid) → asked ≡ traced ask clock → clock ≡ clock_of ask.output
     → are_workers asked.workers ≡ true → IsPlayedRun asked setup rows played → AreTextsOf clock (run_of setup played) played.listener.heard.items tables
-    → tables.refusals ≡ played.listener.refusals → All IsTyped played.books.items → AreWhole ask setup rows tables
-tables_of_play ask asked clock setup rows played tables same clock_is workers is texts refusals typed =
+    → tables.refusals ≡ played.listener.refusals → AreByCall (events_in_rows played.listener.player.unplaced) tables.unplaced → All IsTyped played.books.items → AreWhole ask setup rows tables
+tables_of_play ask asked clock setup rows played tables same clock_is workers is texts refusals events typed =
     whole_of ask clock setup rows played tables clock_is (subst (λ (a : RunAsk). are_workers a.workers ≡ true) same workers)
-    (subst (λ (a : RunAsk). IsPlayedRun a setup rows played) same is) texts refusals typed
+    (subst (λ (a : RunAsk). IsPlayedRun a setup rows played) same is) texts refusals events typed

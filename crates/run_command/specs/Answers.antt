@@ -9,6 +9,7 @@ use Rattle.run_command.specs.InParts.{IsRunInParts}
 use Rattle.run_command.specs.Laws.{CallsHavePaid, PassTheirAudits}
 use Rattle.run_command.specs.Plays.{IsGivenBy}
 use Rattle.run_command.specs.Refused.{refusals_counted_in}
+use Rattle.run_command.specs.Unplaced.{AreByCall, events_in_rows}
 use Rattle.run_options.specs.Options.{played_parts}
 use Rattle.run_options.specs.declared.options.PartsAsk.{PartsAsk}
 use Rattle.run_options.specs.declared.options.RunAsk.{RunAsk}
@@ -18,6 +19,7 @@ use Rattle.run_texts.specs.InputFaults.{RefusesInput}
 use Rattle.run_texts.specs.Inputs.{RunInput, input_of}
 use Rattle.run_command.specs.declared.error.RunError.{RunError}
 use Rattle.run_command.specs.declared.refusals.Refusals.{Refusals}
+use Rattle.run_command.specs.declared.unplaced.UnplacedEvent.{UnplacedEvent}
 use Rattle.run_command.specs.declared.error.RunError.TheVariants as error
 use Rattle.run_trace.specs.Tables.{trace_text}
 use Rattle.runs_core.specs.Hearing.{all_heard}
@@ -37,12 +39,14 @@ IsTextOf output.Book run heard text = text ≡ book_text (version_of (have_steps
 IsTextOf (output.Calls clock) run heard text = IsCallText clock run text
 IsTextOf (output.Trace clock) run heard text = text ≡ trace_text clock run.given heard
 
--- what a run says: its text, and how often its accounts refused what they were asked
+-- what a run says: its text, how often its accounts refused what they were asked, and the events that had no place
 pub record RunSaid : Type 0 where
   pub text : List ℕ
   pub refusals : Refusals
+  pub unplaced : List UnplacedEvent
 
--- the text is that of the books of a run over the input, as it was asked for, to which the script of the input was played, and the refusals are those of the answers that were heard
+-- the text is that of the books of a run over the input, as it was asked for, to which the script of the input was played, the refusals are those of the answers that were heard, and the events that
+-- had no place are those of the play
 pub record IsRunOf (ask : RunAsk) (input : List ℕ) (ran : RunSaid) : Type 0 where
   pub said : RunInput
   pub read : input_of input ≡ Ok said
@@ -54,6 +58,7 @@ pub record IsRunOf (ask : RunAsk) (input : List ℕ) (ran : RunSaid) : Type 0 wh
   pub are_books : AreBooksOf ask said given heard books
   pub printed : IsTextOf ask.output (record { setup = are_books.setup; given = given; books = books }) (all_heard heard) ran.text
   pub refused : ran.refusals ≡ refusals_counted_in (all_heard heard)
+  pub unplaced : AreByCall (events_in_rows given_by.play.play.unplaced) ran.unplaced
   -- a long audit of the table of the books says yes for each account, and so does a short one where that takes as many rows
   pub passes : ask.output ≡ output.Book → PassTheirAudits books
   -- the records of its calls have paid what the calls of its books have, a call without a route nothing, and a call without a forfeit the price of its times by its route
@@ -62,7 +67,7 @@ pub record IsRunOf (ask : RunAsk) (input : List ℕ) (ran : RunSaid) : Type 0 wh
 -- what a run says, in parts or not; it is the same however many threads play the parts
 abbrev pub IsRunSaid : Option PartsAsk → RunAsk → List ℕ → RunSaid → Type 0
 IsRunSaid None ask input ran = IsRunOf ask input ran
-IsRunSaid (Some parts) ask input ran = IsRunInParts parts.count ask input ran.text ran.refusals
+IsRunSaid (Some parts) ask input ran = IsRunInParts parts.count ask input ran.text ran.refusals ran.unplaced
 
 -- what can end a run of so many workers: `Workers` where there can't be so many, and only then; no gate closes
 abbrev pub MayEndRun : ℕ → RunFault → Type 0

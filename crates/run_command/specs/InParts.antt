@@ -1,7 +1,6 @@
 -- A run that is played in parts.
 use Rattle.std.specs.Prelude.{◌≡◌, ◌<◌, ◌==◌, ◌+◌, ◌++◌, ℕ, true, List, [], ◌∷◌, Ok, length, map, slice_index_or}
 use Rattle.std.specs.List.{All, filter, flat_map}
-use Rattle.std.specs.List.Sorted.{IsNonDecreasingBy}
 use Rattle.std.specs.Map.{keys_of}
 use Rattle.book_texts.specs.BookTexts.{book_text, version_of}
 use Rattle.book_texts.specs.RunTexts.{AreLinesOf, IsRunText, LinesSaid}
@@ -14,8 +13,10 @@ use Rattle.run_command.specs.Books.{AreBooksOf}
 use Rattle.run_command.specs.Laws.{CallsHavePaid, PassTheirAudits}
 use Rattle.run_command.specs.Plays.{IsGivenBy}
 use Rattle.run_command.specs.Refused.{added_up, refusals_counted_in, with_refusals}
+use Rattle.run_command.specs.Unplaced.{AreByCall, IsMergedBy, events_in_rows}
 use Rattle.run_command.specs.declared.parts.Part.{Part}
 use Rattle.run_command.specs.declared.refusals.Refusals.{Refusals}
+use Rattle.run_command.specs.declared.unplaced.UnplacedEvent.{UnplacedEvent}
 use Rattle.run_options.specs.declared.options.RunAsk.{RunAsk}
 use Rattle.run_options.specs.declared.options.RunOutput.{RunOutput}
 use Rattle.run_options.specs.declared.options.RunOutput.TheVariants as output
@@ -33,15 +34,21 @@ use Rattle.shared_account.specs.Closed.{Closed}
 use Rattle.shared_account.specs.Seen.{StoodIn}
 use Rattle.tariff_core.specs.Bands.{Band, have_steps}
 
--- what a part comes to: the books of its own accounts, the records of its calls where these are printed, and its refusals
+-- what a part comes to: the books of its own accounts, the records of its calls where these are printed, its refusals, and its events that had no place
 pub record PartSaid : Type 0 where
   pub books : List Closed
   pub calls : List CallRecord
   pub refusals : Refusals
+  pub unplaced : List UnplacedEvent
 
 -- what two parts come to, one after the other
 abbrev pub with_part : PartSaid → PartSaid → PartSaid
-with_part said later = record { books = said.books ++ later.books; calls = said.calls ++ later.calls; refusals = with_refusals said.refusals later.refusals }
+with_part said later = record {
+  books = said.books ++ later.books;
+  calls = said.calls ++ later.calls;
+  refusals = with_refusals said.refusals later.refusals;
+  unplaced = said.unplaced ++ later.unplaced;
+}
 
 -- what all parts come to together, in order
 abbrev pub joined_parts : List PartSaid → PartSaid
@@ -49,6 +56,7 @@ joined_parts parts = record {
   books = flat_map (λ part. part.books) parts;
   calls = flat_map (λ part. part.calls) parts;
   refusals = added_up (map (λ part. part.refusals) parts);
+  unplaced = flat_map (λ part. part.unplaced) parts;
 }
 
 -- the books of the accounts of a part
@@ -60,7 +68,8 @@ abbrev pub KeepsCalls : RunOutput → Run → List CallRecord → Type 0
 KeepsCalls (output.Calls clock) run calls = AreRecords run calls
 KeepsCalls _ run calls = calls ≡ []
 
--- a part of the input was played as it was asked for: over all accounts, by what the script says of this part. Its own books are kept, with the records of its calls and its refusals
+-- a part of the input was played as it was asked for: over all accounts, by what the script says of this part. Its own books are kept, with the records of its calls, its refusals and its events that had
+-- no place
 pub record IsPartOf (ask : RunAsk) (said : RunInput) (firsts : List ℕ) (part : ℕ) (kept : PartSaid) : Type 0 where
   pub given : List (ℕ × Body)
   pub heard : List (List Answer)
@@ -70,14 +79,14 @@ pub record IsPartOf (ask : RunAsk) (said : RunInput) (firsts : List ℕ) (part :
   pub own : kept.books ≡ own_books firsts part books
   pub calls : KeepsCalls ask.output (record { setup = are_books.setup; given = given; books = books }) kept.calls
   pub refused : kept.refusals ≡ refusals_counted_in (all_heard heard)
+  pub unplaced : kept.unplaced ≡ events_in_rows given_by.play.play.unplaced
   -- the records of its calls have paid what the calls of its books have, a call without a route nothing, and a call without a forfeit the price of its times by its route
   pub paid : CallsHavePaid (record { setup = are_books.setup; given = given; books = books })
 
 -- the table of the calls of all parts: they rise by their numbers
 pub record IsMergedText (clock : Clock) (kept : List CallRecord) (text : List ℕ) : Type 0 where
   pub calls : List CallRecord
-  pub rising : IsNonDecreasingBy (λ call. call.call) calls
-  pub same : (number : ℕ) → filter (λ call. call.call == number) calls ≡ filter (λ call. call.call == number) kept
+  pub merged : IsMergedBy (λ call. call.call) kept calls
   pub is : text ≡ call_text clock calls
 
 -- the text of these books or these calls: the lines of accounts and calls, the table of books, of version 4 where the tariff has billing steps, or that of calls
@@ -86,8 +95,8 @@ IsPartsText output.Book tariff books calls text = text ≡ book_text (version_of
 IsPartsText (output.Calls clock) tariff books calls text = IsMergedText clock calls text
 IsPartsText _ tariff books calls text = IsRunText books text
 
--- the text is that of the books or the calls of all parts of the input, one part after another, and the refusals are those of all parts, added up
-pub record IsRunInParts (asked : ℕ) (ask : RunAsk) (input text : List ℕ) (refusals : Refusals) : Type 0 where
+-- the text is that of the books or the calls of all parts of the input, one part after another, the refusals are those of all parts, added up, and the events that had no place are theirs, by their calls
+pub record IsRunInParts (asked : ℕ) (ask : RunAsk) (input text : List ℕ) (refusals : Refusals) (events : List UnplacedEvent) : Type 0 where
   pub said : RunInput
   pub read : input_of input ≡ Ok said
   pub workers : are_workers ask.workers ≡ true
@@ -99,6 +108,7 @@ pub record IsRunInParts (asked : ℕ) (ask : RunAsk) (input text : List ℕ) (re
   pub each : (part : ℕ) (d : PartSaid) → part < length parts → IsPartOf ask said firsts part (slice_index_or parts part d)
   pub printed : IsPartsText ask.output said.tariff (flat_map (λ part. part.books) parts) (flat_map (λ part. part.calls) parts) text
   pub refused : refusals ≡ added_up (map (λ part. part.refusals) parts)
+  pub unplaced : AreByCall (flat_map (λ part. part.unplaced) parts) events
   -- the books are those of all accounts of the input, in order
   pub accounts : map (λ book. book.account) (flat_map (λ part. part.books) parts) ≡ keys_of said.setup.accounts
   -- a long audit of their table says yes for each account, and so does a short one where that takes as many rows
@@ -117,6 +127,7 @@ pub record IsPlayedPart (ask : RunAsk) (setup : Setup) (firsts : List ℕ) (part
   pub own : kept.books ≡ own_books firsts part books
   pub calls : KeepsCalls ask.output (record { setup = setup; given = given; books = books }) kept.calls
   pub refused : kept.refusals ≡ refusals_counted_in (all_heard heard)
+  pub unplaced : kept.unplaced ≡ events_in_rows given_by.play.play.unplaced
 
 -- what the code keeps of books: themselves, or their lines, where they are printed
 abbrev pub KeepsBooks : RunOutput → List Closed → LinesSaid → List Closed → Type 0
@@ -129,6 +140,7 @@ pub record KeepsPart (output : RunOutput) (said : PartSaid) (part : Part) : Type
   pub books : KeepsBooks output said.books part.lines part.books.items
   pub calls : part.calls.items ≡ said.calls
   pub refusals : part.refusals ≡ said.refusals
+  pub unplaced : part.unplaced.items ≡ said.unplaced
 
 -- the same of each part
 abbrev pub AreKept : RunOutput → List PartSaid → List Part → Type 0
@@ -148,7 +160,7 @@ pub record ArePlayed (ask : RunAsk) (setup : Setup) (firsts : List ℕ) (scripts
   pub each : (part : ℕ) (d : Part) → part < length parts → IsKeptPart ask setup firsts part (slice_index_or scripts part []) (slice_index_or parts part d)
 
 -- rows were played in parts
-pub record IsInParts (asked : ℕ) (ask : RunAsk) (setup : Setup) (rows : List ScriptRow) (text : List ℕ) (refusals : Refusals) : Type 0 where
+pub record IsInParts (asked : ℕ) (ask : RunAsk) (setup : Setup) (rows : List ScriptRow) (text : List ℕ) (refusals : Refusals) (events : List UnplacedEvent) : Type 0 where
   pub firsts : List ℕ
   pub count : 1 + length firsts ≡ part_count asked (length setup.accounts)
   pub parts : List PartSaid
@@ -158,3 +170,4 @@ pub record IsInParts (asked : ℕ) (ask : RunAsk) (setup : Setup) (rows : List S
   pub printed : IsPartsText ask.output setup.tariff (flat_map (λ part. part.books) parts) (flat_map (λ part. part.calls) parts) text
   pub typed : ask.output ≡ output.Book → All IsTyped (flat_map (λ part. part.books) parts)
   pub refused : refusals ≡ added_up (map (λ part. part.refusals) parts)
+  pub unplaced : AreByCall (flat_map (λ part. part.unplaced) parts) events

@@ -13,3 +13,4 @@ pub mod Starts
 pub mod Strangers
 pub mod Tables
 pub mod Turns
+pub mod Unplaced

@@ -6,6 +6,7 @@ use Rattle.run_command.specs.Answers.{IsTextOf, RunSaid}
 use Rattle.run_command.specs.Plays.{IsGivenBy}
 use Rattle.run_command.specs.Refused.{refusals_counted_in}
 use Rattle.run_command.specs.Tables.{AreTextsOf, TablesSaid, clock_of}
+use Rattle.run_command.specs.Unplaced.{AreByCall, events_in_rows}
 use Rattle.run_command.specs.declared.playing.Played.{Played}
 use Rattle.run_options.specs.Options.{is_trace}
 use Rattle.run_options.specs.declared.options.RunAsk.{RunAsk}
@@ -26,10 +27,11 @@ use Rattle.std.specs.List.{All}
 abbrev pub run_of : Setup → Played → Run
 run_of setup played = record { setup = setup; given = played.listener.player.network.given; books = played.books.items }
 
--- what was given is the play of these rows, and the books are those of a run in this setup; the answers are kept for a trace, and their refusals are counted
+-- what was given is the play of these rows, of which the player says which had no place, and the books are those of a run in this setup; the answers are kept for a trace, and their refusals are counted
 pub record IsPlayedRun (ask : RunAsk) (setup : Setup) (rows : List ScriptRow) (played : Played) : Type 0 where
   pub heard : List (List Answer)
   pub given_by : IsGivenBy ask (map script_event rows) heard (run_of setup played).given
+  pub unplaced : given_by.play.play.unplaced ≡ played.listener.player.unplaced
   pub run : IsRun StoodIn setup ask.workers (run_of setup played).given (all_heard heard) (run_of setup played).books
   pub kept : is_trace ask.output ≡ true → played.listener.heard.items ≡ all_heard heard
   pub counted : played.listener.refusals ≡ refusals_counted_in (all_heard heard)
@@ -44,6 +46,7 @@ pub record IsWhole (ask : RunAsk) (setup : Setup) (rows : List ScriptRow) (ran :
   pub run : IsRun StoodIn setup ask.workers given (all_heard heard) books
   pub printed : IsTextOf ask.output (record { setup = setup; given = given; books = books }) (all_heard heard) ran.text
   pub refused : ran.refusals ≡ refusals_counted_in (all_heard heard)
+  pub unplaced : AreByCall (events_in_rows given_by.play.play.unplaced) ran.unplaced
   pub typed : ask.output ≡ output.Book → All IsTyped books
 
 -- the same of all texts of one play
@@ -56,4 +59,5 @@ pub record AreWhole (ask : RunAsk) (setup : Setup) (rows : List ScriptRow) (tabl
   pub run : IsRun StoodIn setup ask.workers given (all_heard heard) books
   pub printed : AreTextsOf (clock_of ask.output) (record { setup = setup; given = given; books = books }) (all_heard heard) tables
   pub refused : tables.refusals ≡ refusals_counted_in (all_heard heard)
+  pub unplaced : AreByCall (events_in_rows given_by.play.play.unplaced) tables.unplaced
   pub typed : All IsTyped books

@@ -34,6 +34,11 @@ pub record IsPlayOf (config : SsfConfig) (delay : ℕ) (rows : List ScriptRow) (
   -- and the recharges of the rows, in order
   pub recharges : recharges_in given ≡ recharge_items_of rows
 
+-- the same, in which these rows had no place
+pub record IsPlayWithout (config : SsfConfig) (delay : ℕ) (rows : List ScriptRow) (heard : List (List Answer)) (given : List (ℕ × Body)) (without : List ScriptRow) : Type 0 where
+  pub plays : IsPlayOf config delay rows heard given
+  pub unplaced : plays.play.unplaced ≡ without
+
 -- the configuration that was asked for
 pub record IsAskedFor (ask : RunAsk) (config : SsfConfig) : Type 0 where
   pub tssf : config.tssf ≡ ask.tssf
@@ -47,3 +52,8 @@ pub record IsGivenBy (ask : RunAsk) (script : List ScriptEvent) (heard : List (L
   pub rows : List ScriptRow
   pub says : map script_event rows ≡ script
   pub play : IsPlayOf config ask.delay rows heard given
+
+-- the same, in which these rows had no place
+pub record IsGivenWithout (ask : RunAsk) (script : List ScriptEvent) (heard : List (List Answer)) (given : List (ℕ × Body)) (without : List ScriptRow) : Type 0 where
+  pub given_by : IsGivenBy ask script heard given
+  pub unplaced : given_by.play.play.unplaced ≡ without

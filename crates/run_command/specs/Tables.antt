@@ -8,9 +8,11 @@ use Rattle.run_command.specs.Books.{AreBooksOf}
 use Rattle.run_command.specs.Laws.{CallsHavePaid, PassTheirAudits}
 use Rattle.run_command.specs.Plays.{IsGivenBy}
 use Rattle.run_command.specs.Refused.{refusals_counted_in}
+use Rattle.run_command.specs.Unplaced.{AreByCall, events_in_rows}
 use Rattle.run_command.specs.declared.error.RunError.{RunError}
 use Rattle.run_command.specs.declared.refusals.Refusals.{Refusals}
 use Rattle.run_command.specs.declared.tables.RunTables.{RunTables}
+use Rattle.run_command.specs.declared.unplaced.UnplacedEvent.{UnplacedEvent}
 use Rattle.run_options.specs.declared.options.RunAsk.{RunAsk}
 use Rattle.run_options.specs.declared.options.RunOutput.{RunOutput}
 use Rattle.run_options.specs.declared.options.RunOutput.TheVariants as output
@@ -28,15 +30,16 @@ clock_of output.Book = clock.Digits
 clock_of (output.Calls clock) = clock
 clock_of (output.Trace clock) = clock
 
--- the lines of a run, the table of its books, that of its calls and its trace, and how often its accounts refused what they were asked
+-- the lines of a run, the table of its books, that of its calls and its trace, how often its accounts refused what they were asked, and the events that had no place
 pub record TablesSaid : Type 0 where
   pub lines : List ℕ
   pub book : List ℕ
   pub calls : List ℕ
   pub trace : List ℕ
   pub refusals : Refusals
+  pub unplaced : List UnplacedEvent
 
--- what the texts and the refusals of the code say
+-- what the texts, the refusals and the events of the code say
 abbrev pub tables_said : RunTables → TablesSaid
 tables_said tables = record {
   lines = string_bytes tables.lines;
@@ -44,6 +47,7 @@ tables_said tables = record {
   calls = string_bytes tables.calls;
   trace = string_bytes tables.trace;
   refusals = tables.refusals;
+  unplaced = tables.unplaced.items;
 }
 
 -- each is the text of one and the same run, where these answers were heard
@@ -53,7 +57,8 @@ pub record AreTextsOf (clock : Clock) (run : Run) (heard : List Answer) (tables 
   pub calls : IsTextOf (output.Calls clock) run heard tables.calls
   pub trace : IsTextOf (output.Trace clock) run heard tables.trace
 
--- the texts are those of a run over the input, as it was asked for, to which the script of the input was played, and the refusals are those of the answers that were heard
+-- the texts are those of a run over the input, as it was asked for, to which the script of the input was played, the refusals are those of the answers that were heard, and the events that had no place
+-- are those of the play
 pub record AreTablesOf (ask : RunAsk) (input : List ℕ) (tables : TablesSaid) : Type 0 where
   pub said : RunInput
   pub read : input_of input ≡ Ok said
@@ -65,6 +70,7 @@ pub record AreTablesOf (ask : RunAsk) (input : List ℕ) (tables : TablesSaid) :
   pub are_books : AreBooksOf ask said given heard books
   pub printed : AreTextsOf (clock_of ask.output) (record { setup = are_books.setup; given = given; books = books }) (all_heard heard) tables
   pub refused : tables.refusals ≡ refusals_counted_in (all_heard heard)
+  pub unplaced : AreByCall (events_in_rows given_by.play.play.unplaced) tables.unplaced
   -- a long audit of the table of the books says yes for each account, and so does a short one where that takes as many rows
   pub passes : PassTheirAudits books
   -- the records of its calls have paid what the calls of its books have, a call without a route nothing, and a call without a forfeit the price of its times by its route

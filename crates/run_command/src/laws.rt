@@ -3,7 +3,7 @@
 ghost use Rattle.std.specs.Prelude.{◌≡◌, ◌++◌, true, List};
 ghost use Rattle.run_command.specs.Joined.{JoinedBooksHaveAllAccounts, JoinedBooksPass};
 ghost use Rattle.run_command.specs.Laws.{PlayedBooksPass, PlayedCallsHavePaid};
-ghost use Rattle.run_command.specs.Plays.{HearsItsRounds, IsPlayOf};
+ghost use Rattle.run_command.specs.Plays.{HearsItsRounds, IsPlayWithout};
 ghost use Rattle.run_texts.specs.declared.script.ScriptRow.{ScriptRow};
 ghost use Rattle.run_values.specs.declared.post.Answer.{Answer};
 
@@ -15,14 +15,15 @@ use script_player::ScriptPlayer;
 use shared_account::TurnAccount;
 use ssf_core::{initial_dp_is_first, reports_are_in_range};
 
-/// What a player that has ended has given is the play of its rows by the answers that it has heard.
+/// What a player that has ended has given is the play of its rows by the answers that it has heard,
+/// in which the rows had no place that it says.
 pub(crate) fn is_played(player: &ScriptPlayer)
     requires { player.now.ended ≡ true }
     ensures { (rows : List ScriptRow) (heard : List (List Answer))
         → player.now.taken ++ player.now.left ≡ rows
         → HearsItsRounds player.now.network.config player.now.delay rows heard player.now
-        → IsPlayOf player.now.network.config player.now.delay rows heard
-        player.now.network.given }
+        → IsPlayWithout player.now.network.config player.now.delay rows heard
+        player.now.network.given player.now.unplaced }
 {
     let _ = player.ended();
     let _ = player.given();

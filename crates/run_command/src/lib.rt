@@ -13,6 +13,7 @@ mod setting_up;
 mod strangers;
 mod tables;
 mod turns;
+mod unplaced;
 mod watched;
 mod watching;
 
@@ -21,4 +22,5 @@ pub use refusals::Refusals;
 pub use running::{Ran, run};
 pub use strangers::stranger_calls;
 pub use tables::{RunTables, run_tables};
+pub use unplaced::UnplacedEvent;
 pub use watching::{Progress, Unwatched, Watch};

@@ -12,8 +12,9 @@ ghost use Rattle.run_texts.specs.Views.{rows_are_in_order};
 
 use crate::playing::{Played, play};
 use crate::turns::play_all;
+use crate::unplaced::{by_call, events_of};
 use crate::watching::{Watch, Watching};
-use crate::{Ran, Refusals, RunError};
+use crate::{Ran, Refusals, RunError, UnplacedEvent};
 use book_texts::{RunLines, book_table};
 use call_records::{CallRecord, call_table, records};
 use moment_texts::Clock;
@@ -39,6 +40,8 @@ pub(crate) struct Part {
     pub calls: Vec<CallRecord>,
     /// How often its accounts refused what they were asked.
     pub refusals: Refusals,
+    /// Its events that had no place.
+    pub unplaced: Vec<UnplacedEvent>,
 }
 
 /// Plays a script in parts, by as many threads as are asked for, and prints what all of them come
@@ -56,7 +59,7 @@ pub(crate) fn run_in_parts<R: Wait + Threads + Sync, W: Watch + Sync>(
     requires in_order { rows_are_in_order 0 script.items ≡ true }
     ensures ran { IfOk result (λ ran.
         IsInParts asked.count (ask_of options.now) setup.now script.items
-        (string_bytes ran.text) ran.refusals) }
+        (string_bytes ran.text) ran.refusals ran.unplaced.items) }
     ensures fault { IfErr result (MayFail options.now.workers) }
 {
     let Division { firsts, scripts } = divide(alloc, setup, script, asked.count)?;
@@ -72,9 +75,11 @@ pub(crate) fn run_in_parts<R: Wait + Threads + Sync, W: Watch + Sync>(
     )?;
     let whole = join(alloc, parts)?;
     let refusals = whole.refusals;
+    let unplaced = by_call(alloc, whole.unplaced.as_slice())?;
     Ok(Ran {
         text: print_joined(alloc, options.output, setup, whole)?,
         refusals,
+        unplaced,
     })
 }
 
@@ -101,6 +106,7 @@ pub(crate) fn play_part<R: Wait + Threads + Sync, W: Watch>(
     } = play(rt, alloc, options, setup, script, watching)?;
     let given = listener.player.given();
     let calls = kept_calls(alloc, options.output, setup, given, books.as_slice())?;
+    let unplaced = events_of(alloc, listener.player.unplaced())?;
     keep_own(&mut books, firsts, number);
     let (lines, books) = kept_books(alloc, options.output, books)?;
     Ok(Part {
@@ -108,6 +114,7 @@ pub(crate) fn play_part<R: Wait + Threads + Sync, W: Watch>(
         books,
         calls,
         refusals: listener.refusals,
+        unplaced,
     })
 }
 
@@ -172,6 +179,7 @@ fn join(alloc: Global, parts: Vec<Part>) -> Result<Part, AllocError>
         books: Vec::new(alloc),
         calls: Vec::new(alloc),
         refusals: Refusals::none(),
+        unplaced: Vec::new(alloc),
     };
     for part in parts {
         whole.add(part)?;
@@ -191,11 +199,13 @@ impl Part {
             mut books,
             mut calls,
             refusals,
+            mut unplaced,
         } = more;
         self.lines.append(lines)?;
         self.books.append(&mut books)?;
         self.calls.append(&mut calls)?;
         self.refusals.add(&refusals);
+        self.unplaced.append(&mut unplaced)?;
         Ok(())
     }
 }

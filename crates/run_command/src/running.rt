@@ -12,8 +12,9 @@ ghost use Rattle.run_texts.specs.Views.{rows_are_in_order};
 use crate::parts::run_in_parts;
 use crate::playing::{Played, play};
 use crate::setting_up::{Start, set_up};
+use crate::unplaced::{by_call, events_of};
 use crate::watching::{Watch, Watching};
-use crate::{Refusals, RunError, laws};
+use crate::{Refusals, RunError, UnplacedEvent, laws};
 use book_texts::{book_table, run_lines};
 use call_records::{call_table, records};
 use run_options::{RunOptions, RunOutput};
@@ -33,13 +34,15 @@ pub struct Ran {
     pub text: String,
     /// How often its accounts refused what they were asked.
     pub refusals: Refusals,
+    /// The events of the script that had no place, by rising call, those of one call in order.
+    pub unplaced: Vec<UnplacedEvent>,
 }
 
 /// The text of a run of the input's script: a line for each account and for each of its calls, the
 /// table of their books, the table of the calls, or the trace of what was said; and the refusals
-/// that the answers of its workers speak of. A run may be played in parts, each of neighbouring
-/// accounts and of all that the script says of them; its text is that of the books and the calls of
-/// all parts together.
+/// that the answers of its workers speak of; and the events that had no place, since the gsmSSF of
+/// the call refused them. A run may be played in parts, each of neighbouring accounts and of all
+/// that the script says of them; its text is that of the books and the calls of all parts together.
 ///
 /// The input is judged first, its parts in order, and its first fault is the result. `Workers`
 /// where there can't be so many workers; any other fault of a run comes as `runs_core::serve` has
@@ -83,9 +86,11 @@ fn run_whole<R: Wait + Threads + Sync, W: Watch>(
     ensures fault { IfErr result (MayFail options.now.workers) }
 {
     let played = play(rt, alloc, options, setup, script, watching)?;
+    let events = events_of(alloc, played.listener.player.unplaced())?;
     Ok(Ran {
         text: print(alloc, options.output, setup, &played)?,
         refusals: played.listener.refusals,
+        unplaced: by_call(alloc, events.as_slice())?,
     })
 }
 

@@ -6,6 +6,7 @@ ghost use Rattle.book_texts.specs.Typed.{IsTyped};
 ghost use Rattle.run_command.specs.Answers.{MayFail};
 ghost use Rattle.run_command.specs.Played.{AreWhole, run_of};
 ghost use Rattle.run_command.specs.Tables.{AreTextsOf, IsTablesAnswer, clock_of, tables_said};
+ghost use Rattle.run_command.specs.Unplaced.{AreByCall, events_in_rows};
 ghost use Rattle.run_options.specs.Options.{ask_of};
 ghost use Rattle.run_options.specs.declared.options.RunOutput.TheVariants as output;
 ghost use Rattle.run_texts.specs.Views.{rows_are_in_order};
@@ -13,8 +14,9 @@ ghost use Rattle.run_texts.specs.Views.{rows_are_in_order};
 use crate::playing::{Played, play};
 use crate::running::print;
 use crate::setting_up::{Start, set_up};
+use crate::unplaced::{by_call, events_of};
 use crate::watching::{Watch, Watching};
-use crate::{Refusals, RunError, laws};
+use crate::{Refusals, RunError, UnplacedEvent, laws};
 use moment_texts::Clock;
 use run_options::{RunOptions, RunOutput};
 use run_texts::ScriptRow;
@@ -37,6 +39,8 @@ pub struct RunTables {
     pub trace: String,
     /// How often its accounts refused what they were asked.
     pub refusals: Refusals,
+    /// The events of the script that had no place, by rising call, those of one call in order.
+    pub unplaced: Vec<UnplacedEvent>,
 }
 
 /// The texts of one run of the input's script, which isn't in parts: those that `run` gives for
@@ -118,13 +122,17 @@ fn print_all(
         played.now.listener.heard.items (tables_said tables)) }
     ensures refusals { IfOk result (λ tables.
         tables.refusals ≡ played.now.listener.refusals) }
+    ensures unplaced { IfOk result (λ tables. AreByCall
+        (events_in_rows played.now.listener.player.unplaced) tables.unplaced.items) }
     ensures typed { IfOk result (λ tables. All IsTyped played.now.books.items) }
 {
+    let events = events_of(alloc, played.listener.player.unplaced())?;
     Ok(RunTables {
         lines: print(alloc, RunOutput::Lines, setup, played)?,
         book: print(alloc, RunOutput::Book, setup, played)?,
         calls: print(alloc, RunOutput::Calls(clock), setup, played)?,
         trace: print(alloc, RunOutput::Trace(clock), setup, played)?,
         refusals: played.listener.refusals,
+        unplaced: by_call(alloc, events.as_slice())?,
     })
 }

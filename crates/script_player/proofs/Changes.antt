@@ -1,5 +1,5 @@
 -- What an input does to the gsmSSFs of a run.
-use Rattle.std.proofs.Common.{◌≡◌, ◌<◌, ◌++◌, ℕ, Bool, true, false, Option, Some, None, List, refl, sym, subst}
+use Rattle.std.proofs.Common.{◌≡◌, ◌<◌, ◌++◌, ℕ, Bool, true, false, Option, Some, None, List, refl, sym, ap, ◌∙◌, subst}
 use Rattle.std.specs.BTreeMap.{BTreeMap, Updates, get}
 use Rattle.std.specs.BTreeSet.{BTreeSet}
 use Rattle.std.specs.Ordering.{nat_cmp}
@@ -7,6 +7,7 @@ use Rattle.std.specs.Prelude.{MatchOption, is_some}
 use Rattle.cap_values.specs.declared.number.Number.{Number}
 use Rattle.ssf_core.specs.Calls.{View}
 use Rattle.ssf_core.specs.declared.config.SsfConfig.{SsfConfig}
+use Rattle.ssf_core.specs.declared.fault.SsfFault.{SsfFault}
 use Rattle.ssf_core.specs.declared.item.Out.{Out}
 use Rattle.run_values.specs.declared.post.Body.{Body}
 use Rattle.script_player.specs.Beginnings.{IsTriggered}
@@ -14,7 +15,8 @@ use Rattle.script_player.specs.Dues.{AreDues, HasTimer, IsPutDown, Replaces, ssf
 use Rattle.script_player.specs.Inputs.{IsGiven, IsNextTimer}
 use Rattle.script_player.specs.Networks.{HaveGiven, Feeds, HasGiven, Shown}
 use Rattle.script_player.specs.Posts.{posts_of}
-use Rattle.script_player.specs.Steps.{GetsSsf, GivesTo, StartsCall}
+use Rattle.script_player.specs.Steps.{FeedsSsf, GetsSsf, StartsCall}
+use Rattle.script_player.specs.Unplaced.{GivesWithFault, fault_of_feed}
 use Rattle.script_player.specs.declared.network.Sent.{Sent}
 use Rattle.script_player.specs.declared.network.Input.{Input}
 use Rattle.script_player.specs.declared.network.Input.TheVariants as what
@@ -40,21 +42,31 @@ dues_fed config before after dues kept now call given input fed gave are feeds r
     (replaces (put_down before.entries dues call feeds.moves.old fed.before are feeds.moves.was feeds.was_next)) (sets_by before after call feeds.moves.new feeds.moves.updates) feeds.is_next further.stands
     (λ at timer. same_next feeds.moves.old own.trace fed.before (Some at) own.stands feeds.was_next (timer_of before.entries call at feeds.moves.old feeds.moves.was timer))
 
+-- the fault is that of the gsmSSF that is found
+with_fault : (found : Option View) (now call : ℕ) (input : Input) (before after : Shown) → ssf_of before.ssfs call ≡ found
+    → (gives : MatchOption found (after ≡ before) (FeedsSsf before after now call input)) → GivesWithFault now call input before after (fault_of_feed found now call input before after gives)
+with_fault found now call input before after is =
+    let P : Option View → Type 0 = λ f. (gives : MatchOption f (after ≡ before) (FeedsSsf before after now call input)) → GivesWithFault now call input before after (fault_of_feed f now call input before after gives) in
+    subst P is (λ gives. record { gives = gives; refused = refl })
+
 -- it is given the input, and its messages are posted
 pub gives_fed : (before after : Shown) (calls now_calls : BTreeMap ℕ View) (now call : ℕ) (input : Input) (fed : Sent) → before.ssfs ≡ calls.entries → after.ssfs ≡ now_calls.entries
     → Feeds calls now_calls now call input fed → after.given ≡ before.given ++ posts_of call fed.sent.items → after.config ≡ before.config → after.whole ≡ before.whole
-    → GivesTo now call input before after
+    → GivesWithFault now call input before after fed.fault
 gives_fed before after calls now_calls now call input fed was is feeds posts config whole =
-    rw (was, feeds.moves.was) (record {
+    let P : Option SsfFault → Type 0 = λ fault. GivesWithFault now call input before after fault in
+    let own : FeedsSsf before after now call input feeds.moves.old = record {
       new = feeds.moves.new;
       sent = fed.sent.items;
       is_given = feeds.is_given;
-      sends = record { sets = rw is (sets_by calls now_calls call feeds.moves.new feeds.moves.updates); posts = posts; same_config = config; same_whole = whole };
-    })
+      sends = record { sets = rw (was, is) (sets_by calls now_calls call feeds.moves.new feeds.moves.updates); posts = posts; same_config = config; same_whole = whole };
+    } in
+    subst P (sym feeds.refused) (with_fault (Some feeds.moves.old) now call input before after (ap (λ (ssfs : List (ℕ × View)). ssf_of ssfs call) was ∙ feeds.moves.was) own)
 
 -- a call without a gsmSSF is given nothing
-pub gives_none : (before : Shown) (calls : BTreeMap ℕ View) (now call : ℕ) (input : Input) → before.ssfs ≡ calls.entries → get nat_cmp calls call ≡ None → GivesTo now call input before before
-gives_none before calls now call input was absent = rw (was, absent) refl
+pub gives_none : (before : Shown) (calls : BTreeMap ℕ View) (now call : ℕ) (input : Input) → before.ssfs ≡ calls.entries → get nat_cmp calls call ≡ None
+    → GivesWithFault now call input before before None
+gives_none before calls now call input was absent = with_fault None now call input before before (ap (λ (ssfs : List (ℕ × View)). ssf_of ssfs call) was ∙ absent) refl
 
 -- where time has passed for a call, no timer of it is left due
 pub waited : (config : SsfConfig) (before after : BTreeMap ℕ View) (now call at : ℕ) (given : List (ℕ × Body)) (input : Input) (fed : Sent) → HaveGiven config before given

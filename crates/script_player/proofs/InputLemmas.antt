@@ -22,13 +22,18 @@ config_stays before after now sent why backwards moment =
 -- the answer of a gsmSSF's call to its input
 pub given_by : (before after : View) (now : ℕ) (input : Input) (sent : List Out) (why : Option SsfFault) → Backwards before after now why sent
     → (before.last ≤ now → (after.last ≡ now) × (after.config ≡ before.config))
-    → (before.last ≤ now → (trace : List Happening) → Stands before trace → GoesOnBy before after now input trace sent) → IsGiven before after now input sent
-given_by before after now input sent why backwards moment goes_on = record {
-  same_config = config_stays before after now sent why backwards moment;
-  backwards = λ early. ((backwards early).0, (backwards early).2);
-  moment = λ late. (moment late).0;
-  goes_on = goes_on;
-}
+    → (before.last ≤ now → (trace : List Happening) → Stands before trace → GoesOnBy before after now input trace sent why)
+    → (given : IsGiven before after now input sent) × (why ≡ given.fault)
+given_by before after now input sent why backwards moment goes_on = (
+  record {
+    fault = why;
+    same_config = config_stays before after now sent why backwards moment;
+    backwards = λ early. ((backwards early).0, (backwards early).2, (backwards early).1);
+    moment = λ late. (moment late).0;
+    goes_on = goes_on;
+  },
+  refl,
+)
 
 -- two least due moments of a trace are one
 pub one_next : (config : SsfConfig) (trace : List Happening) (one other : Option ℕ) → IsNextDue config trace one → IsNextDue config trace other → one ≡ other
@@ -60,5 +65,5 @@ waited_next before after now at trace sent stands given next =
           let same : after.last ≡ before.last = ap (λ (view : View). view.last) (given.backwards early).0 in
           let ahead : after.last ≤ at = next.ahead at refl in
           omega arith
-      | inr late ↦ quiet_next before after now at trace sent given.same_config (given.goes_on late trace stands) next
+      | inr late ↦ quiet_next before after now at trace sent given.same_config (given.goes_on late trace stands).0 next
     ]

@@ -3,9 +3,13 @@ use Rattle.std.proofs.Common.{◌≡◌, ◌==◌, ◌++◌, ◌<◌, ◌≤◌,
 use Rattle.std.proofs.lemmas.Bool.{cases_lt, eqb-true}
 use Rattle.std.specs.Prelude.{MatchOption}
 use Rattle.cap_values.specs.declared.number.Number.{Number}
-use Rattle.ssf_core.specs.Calls.{RunsUntil, Stands, View}
+use Rattle.ssf_core.specs.Calls.{RunsUntil, Stands, View, fault_in}
 use Rattle.ssf_core.specs.Happenings.{Happening, sent_in}
+use Rattle.ssf_core.specs.Inputs.{meets, operates}
+use Rattle.ssf_core.specs.Table.{on_input}
+use Rattle.ssf_core.specs.Traces.{phase_after}
 use Rattle.ssf_core.specs.declared.config.SsfConfig.{SsfConfig}
+use Rattle.ssf_core.specs.declared.fault.SsfFault.{SsfFault}
 use Rattle.ssf_core.specs.declared.item.Out.{Out}
 use Rattle.run_values.specs.declared.post.Body.{Body}
 use Rattle.script_player.specs.Beginnings.{begun_trace}
@@ -48,15 +52,23 @@ grown : (call : ℕ) (given : List (ℕ × Body)) (before after : List Happening
     → items_of call (given ++ posts_of call sent) ≡ posts_of call (sent_in after)
 grown call given before after sent same sends = items_of-own call given sent ∙ rw (same, sends) (sym (posts_of-append call (sent_in before) sent))
 
--- a trace whose timers have run, which a gsmSSF stands for once it was given an input
-abbrev pub Timed : View → View → ℕ → Input → List Happening → List Out → Type 0
-Timed before after now input trace sent = (timed : List Happening) × (RunsUntil before.config now trace timed
-    × (Stands after (taken_or_refused before.config now input timed) × (sent_in (taken_or_refused before.config now input timed) ≡ sent_in trace ++ sent)))
+-- the fault by which the table refuses an input
+abbrev pub table_fault : SsfConfig → ℕ → Input → List Happening → Option SsfFault
+table_fault config now (what.Operate op) timed = fault_in (on_input timed (phase_after config timed) now (operates op))
+table_fault config now (what.Meet event) timed = fault_in (on_input timed (phase_after config timed) now (meets event))
+table_fault config now what.Wait timed = None
 
-pub timed_by : (before after : View) (now : ℕ) (input : Input) (trace : List Happening) (sent : List Out) → GoesOnBy before after now input trace sent → Timed before after now input trace sent
-timed_by before after now (what.Operate op) trace sent goes = (goes.1.timed, (goes.1.runs, (goes.1.stands, goes.1.sends)))
-timed_by before after now (what.Meet event) trace sent goes = (goes.1.timed, (goes.1.runs, (goes.1.stands, goes.1.sends)))
-timed_by before after now what.Wait trace sent goes = (goes.timed, (goes.runs, (goes.stands, goes.sends)))
+-- a trace whose timers have run, which a gsmSSF stands for once it was given an input
+abbrev pub Timed : View → View → ℕ → Input → List Happening → List Out → Option SsfFault → Type 0
+Timed before after now input trace sent fault = (timed : List Happening) × (RunsUntil before.config now trace timed
+    × (Stands after (taken_or_refused before.config now input timed) × (sent_in (taken_or_refused before.config now input timed) ≡ sent_in trace ++ sent)
+    × (fault ≡ table_fault before.config now input timed)))
+
+pub timed_by : (before after : View) (now : ℕ) (input : Input) (trace : List Happening) (sent : List Out) (fault : Option SsfFault) → GoesOnBy before after now input trace sent fault
+    → Timed before after now input trace sent fault
+timed_by before after now (what.Operate op) trace sent fault goes = (goes.timed, (goes.runs, (goes.stands, goes.sends, goes.refused)))
+timed_by before after now (what.Meet event) trace sent fault goes = (goes.timed, (goes.runs, (goes.stands, goes.sends, goes.refused)))
+timed_by before after now what.Wait trace sent fault goes = (goes.0.timed, (goes.0.runs, (goes.0.stands, goes.0.sends, goes.1)))
 
 -- a life goes on
 abbrev GoesOnIn : SsfConfig → ℕ → ℕ → Input → List (ℕ × Body) → View → Life → Type 0
@@ -79,7 +91,7 @@ lives_early old new now call input given sent life early same none alive =
 lives_late : (old new : View) (now call : ℕ) (input : Input) (given : List (ℕ × Body)) (sent : List Out) (life : Life) → old.last ≤ now → IsGiven old new now input sent
     → IsAlive old.config call given old life → GoesOnIn old.config now call input (given ++ posts_of call sent) new life
 lives_late old new now call input given sent life late is_given alive =
-    let timed : Timed old new now input life.trace sent = timed_by old new now input life.trace sent (is_given.goes_on late life.trace alive.stands) in
+    let timed : Timed old new now input life.trace sent is_given.fault = timed_by old new now input life.trace sent is_given.fault (is_given.goes_on late life.trace alive.stands) in
     let is : old.last ≡ life.last = alive.same_last in
     let trace : List Happening = taken_or_refused old.config now input timed.0 in (
       record { last = now; trace = trace },

@@ -21,8 +21,9 @@ use Rattle.ssf_core.specs.Moments.{in_reach, sooner}
 use Rattle.ssf_core.specs.OneWay.{TimersRunOneWay}
 use Rattle.ssf_core.specs.declared.config.SsfConfig.{SsfConfig}
 use Rattle.ssf_core.specs.declared.deliveries.Delivery.{Delivery}
+use Rattle.ssf_core.specs.declared.fault.SsfFault.{SsfFault}
 use Rattle.script_player.proofs.Orders.{same_operations}
-use Rattle.script_player.proofs.OneSsf.{HaveSsfsAlike, ShownAlike, due_too, first_same, gives_alike, happens_alike, ssfs_turned, stay_alike, timer_too}
+use Rattle.script_player.proofs.OneSsf.{HaveSsfsAlike, ShownAlike, due_too, first_same, gives_alike, happens_alike, row_fault_alike, ssfs_turned, stay_alike, timer_too}
 use Rattle.script_player.specs.Chains.{Chain}
 use Rattle.script_player.specs.Deliveries.{deliveries_for, deliveries_of}
 use Rattle.script_player.specs.Dues.{AreDueBy, HasTimer, IsFirstDue, is_among}
@@ -33,6 +34,7 @@ use Rattle.script_player.specs.Rounds.{IsEnd, IsRound, IsTurn, next_moment_of, w
 use Rattle.script_player.specs.Rows.{next_row}
 use Rattle.script_player.specs.Runs.{Hears, fresh_play}
 use Rattle.script_player.specs.Steps.{Delivers, DeliversDue, PlaysDue, PlaysRow, RunsTimers, Waits}
+use Rattle.script_player.specs.Unplaced.{fault_of_row, unplaced_in, where_refused}
 use Rattle.script_player.specs.declared.network.Input.TheVariants as what
 use Rattle.tariff_core.specs.declared.times.TheConstants.{HORIZON}
 
@@ -44,6 +46,16 @@ chain_alike : {X : Type 0} (Step : Shown → X → Shown → Type 0)
 chain_alike Step each [] before after again last is too alike = stay_alike before after again last is too alike
 chain_alike Step each (x ∷ xs) before after again last is too alike =
     chain_alike Step each xs is.0 after too.0 last is.1.1 too.1.1 (each x before is.0 again too.0 is.1.0 too.1.0 alike)
+
+-- the same rows have no place
+rows_alike : TimersRunOneWay → (rows : List ScriptRow) (before after again last : Shown) (is : Chain PlaysRow before rows after) (too : Chain PlaysRow again rows last) → ShownAlike before again
+    → unplaced_in before after rows is ≡ unplaced_in again last rows too
+rows_alike one_way [] before after again last is too alike = refl
+rows_alike one_way (row ∷ rows) before after again last is too alike =
+    let rest = unplaced_in is.0 after rows is.1.1 in
+    ap (λ (f : Option SsfFault). where_refused row f ++ rest) (row_fault_alike one_way row.at row.what before is.0 again too.0 is.1.0 too.1.0 alike)
+    ∙ ap (λ (l : List ScriptRow). where_refused row (fault_of_row row.at row.what again too.0 too.1.0) ++ l)
+    (rows_alike one_way rows is.0 after too.0 last is.1.1 too.1.1 (happens_alike one_way row.at row.what before is.0 again too.0 is.1.0 too.1.0 alike))
 
 -- ---- what is due by now, in front of what isn't
 
@@ -102,6 +114,7 @@ pub record PlayAlike (one other : Play) : Type 0 where
   pub delay : one.delay ≡ other.delay
   pub left : one.left ≡ other.left
   pub ended : one.ended ≡ other.ended
+  pub unplaced : one.unplaced ≡ other.unplaced
 
 deliveries_same : (delay : ℕ) (given : List (ℕ × Body)) (answers others : List Answer) → map order_heard answers ≡ map order_heard others → deliveries_of delay given answers ≡ deliveries_of delay given others
 deliveries_same delay given [] [] same = refl
@@ -135,7 +148,13 @@ round_alike one_way one after other last answers others is too alike same =
     let some : Some is.now ≡ Some too.now = sym is.next ∙ next ∙ too.next in
     let now : too.now ≡ is.now = sym (cc some) in
     let delivers : DeliversDue is.now other.network too.delivered (waiting other others) last.queue = subst (λ (n : ℕ). DeliversDue n other.network too.delivered (waiting other others) last.queue) now too.delivers in
-    let plays : PlaysDue is.now too.delivered too.played other.left last.left = subst (λ (n : ℕ). PlaysDue n too.delivered too.played other.left last.left) now too.plays in
+    let plays : PlaysDue is.now too.delivered too.played other.left last.left = record {
+      played = too.plays.played;
+      split = too.plays.split;
+      due = subst (λ (n : ℕ). All (λ (row : ScriptRow). row.at ≤ n) too.plays.played) now too.plays.due;
+      later = subst (λ (n : ℕ). ForSome (next_row last.left) (λ at. n < at)) now too.plays.later;
+      plays = too.plays.plays;
+    } in
     let runs : RunsTimers is.now too.played last.network = subst (λ (n : ℕ). RunsTimers n too.played last.network) now too.runs in
     let queues = same_split (λ (d : Delivery). d.at) is.now is.delivers.delivered delivers.delivered after.queue last.queue (sym is.delivers.split ∙ waits ∙ delivers.split) is.delivers.due delivers.due
     (later_delivery is.now after.queue is.delivers.later) (later_delivery is.now last.queue delivers.later) in
@@ -148,12 +167,18 @@ round_alike one_way one after other last answers others is too alike same =
     let calls = calls_same is.played.ssfs too.played.ssfs is.now is.runs.calls runs.calls played.ssfs is.runs.ascending runs.ascending is.runs.due runs.due in
     let network = chain_alike (Waits is.now) (λ call a b c e. gives_alike one_way is.now call what.Wait a b c e) is.runs.calls is.played after.network too.played last.network
     is.runs.waits (subst (λ (l : List ℕ). Chain (Waits is.now) too.played l last.network) (sym calls) runs.waits) played in
+    let same_unplaced : unplaced_in is.delivered is.played is.plays.played is.plays.plays ≡ unplaced_in too.delivered too.played too.plays.played too.plays.plays =
+    subst (λ (l : List ScriptRow). (chain : Chain PlaysRow too.delivered l too.played) → unplaced_in is.delivered is.played is.plays.played is.plays.plays ≡ unplaced_in too.delivered too.played l chain) rows.0
+    (λ chain. rows_alike one_way is.plays.played is.delivered is.played too.delivered too.played is.plays.plays chain delivered) too.plays.plays in
     record {
       network = network;
       queue = queues.1;
       delay = is.same_delay ∙ alike.delay ∙ sym too.same_delay;
       left = rows.1;
       ended = is.running ∙ sym too.running;
+      unplaced =
+          is.unplaced ∙ ap (λ (l : List ScriptRow). l ++ unplaced_in is.delivered is.played is.plays.played is.plays.plays) alike.unplaced
+          ∙ ap (λ (l : List ScriptRow). other.unplaced ++ l) same_unplaced ∙ sym too.unplaced;
     }
 
 end_alike : (one after other last : Play) (answers others : List Answer) → IsEnd one after answers → IsEnd other last others → PlayAlike one other → map order_heard answers ≡ map order_heard others
@@ -164,6 +189,7 @@ end_alike one after other last answers others is too alike same = record {
   delay = is.same_delay ∙ alike.delay ∙ sym too.same_delay;
   left = is.same_left ∙ alike.left ∙ sym too.same_left;
   ended = is.ended ∙ sym too.ended;
+  unplaced = is.same_unplaced ∙ alike.unplaced ∙ sym too.same_unplaced;
 }
 
 -- ---- no round comes where the other play ends
@@ -198,6 +224,7 @@ turned one other alike = record {
   delay = sym alike.delay;
   left = sym alike.left;
   ended = sym alike.ended;
+  unplaced = sym alike.unplaced;
 }
 
 pub turn_alike : TimersRunOneWay → (more its : Bool) (one after other last : Play) (answers others : List Answer) → IsTurn more one after answers → IsTurn its other last others → PlayAlike one other
@@ -223,9 +250,9 @@ heard_alike one_way (answers ∷ heard) (replies ∷ others) before one again ot
 
 pub fresh_alike : (config : SsfConfig) (delay : ℕ) (rows : List ScriptRow) → PlayAlike (fresh_play config delay rows) (fresh_play config delay rows)
 fresh_alike config delay rows =
-    record { network = record { config = refl; given = refl; ssfs = λ call. tt }; queue = refl; delay = refl; left = refl; ended = refl }
+    record { network = record { config = refl; given = refl; ssfs = λ call. tt }; queue = refl; delay = refl; left = refl; ended = refl; unplaced = refl }
 
 pub plays_one_way : TimersRunOneWay → PlaysGoOneWay
 plays_one_way one_way config delay rows heard others one other same is too =
     let alike = heard_alike one_way heard others (fresh_play config delay rows) one (fresh_play config delay rows) other same is too (fresh_alike config delay rows) in
-    record { given = alike.network.given; queue = alike.queue; left = alike.left; ended = alike.ended }
+    record { given = alike.network.given; queue = alike.queue; left = alike.left; ended = alike.ended; unplaced = alike.unplaced }

@@ -14,8 +14,9 @@ use Rattle.ssf_core.specs.Happenings.{Happening, sent_in}
 use Rattle.ssf_core.specs.OneWay.{TimersRunOneWay}
 use Rattle.ssf_core.specs.Traces.{due}
 use Rattle.ssf_core.specs.declared.config.SsfConfig.{SsfConfig}
+use Rattle.ssf_core.specs.declared.fault.SsfFault.{SsfFault}
 use Rattle.ssf_core.specs.declared.item.Out.{Out}
-use Rattle.script_player.proofs.LifeLemmas.{Timed, timed_by}
+use Rattle.script_player.proofs.LifeLemmas.{Timed, table_fault, timed_by}
 use Rattle.script_player.specs.Beginnings.{begun_trace}
 use Rattle.script_player.specs.Dues.{HasTimer, IsDueBy, IsFirstDue, ssf_of}
 use Rattle.script_player.specs.Inputs.{IsGiven, IsNextTimer}
@@ -23,6 +24,7 @@ use Rattle.script_player.specs.Lives.{taken_or_refused}
 use Rattle.script_player.specs.Networks.{Shown}
 use Rattle.script_player.specs.Posts.{posts_of}
 use Rattle.script_player.specs.Steps.{GetsSsf, FeedsSsf, GivesTo, HappensAt, Recharges, SendsItems, Sets, StartsCall}
+use Rattle.script_player.specs.Unplaced.{fault_given, fault_of_feed, fault_of_row}
 use Rattle.script_player.specs.declared.network.Input.{Input}
 use Rattle.script_player.specs.declared.network.Input.TheVariants as what
 
@@ -36,22 +38,24 @@ pub record StandAlike (one other : View) : Type 0 where
 
 -- ---- an input
 
--- two gsmSSFs have sent the same, and stand for one trace again
-pub record GoAlike (new also : View) (sent outs : List Out) : Type 0 where
+-- two gsmSSFs have sent the same, have refused alike, and stand for one trace again
+pub record GoAlike (new also : View) (sent outs : List Out) (fault its : Option SsfFault) : Type 0 where
   pub sends : sent ≡ outs
+  pub refuses : fault ≡ its
   pub stand : StandAlike new also
 
-late_alike : TimersRunOneWay → (one other new also : View) (now : ℕ) (input : Input) (sent outs : List Out) → one.last ≤ now → StandAlike one other → IsGiven one new now input sent → IsGiven other also now input outs
-    → GoAlike new also sent outs
+late_alike : TimersRunOneWay → (one other new also : View) (now : ℕ) (input : Input) (sent outs : List Out) → one.last ≤ now → StandAlike one other → (is : IsGiven one new now input sent)
+    → (too : IsGiven other also now input outs) → GoAlike new also sent outs is.fault too.fault
 late_alike one_way one other new also now input sent outs late alike is too =
     let late_too : other.last ≤ now = subst (λ (n : ℕ). n ≤ now) alike.last late in
-    let a : Timed one new now input alike.trace sent = timed_by one new now input alike.trace sent (is.goes_on late alike.trace alike.stands) in
-    let b : Timed other also now input alike.trace outs = timed_by other also now input alike.trace outs (too.goes_on late_too alike.trace alike.stands_too) in
+    let a : Timed one new now input alike.trace sent is.fault = timed_by one new now input alike.trace sent is.fault (is.goes_on late alike.trace alike.stands) in
+    let b : Timed other also now input alike.trace outs too.fault = timed_by other also now input alike.trace outs too.fault (too.goes_on late_too alike.trace alike.stands_too) in
     let runs : RunsUntil one.config now alike.trace b.0 = subst (λ (c : SsfConfig). RunsUntil c now alike.trace b.0) (sym alike.config) b.1.0 in
     let same : a.0 ≡ b.0 = one_way one.config now alike.trace a.0 b.0 a.1.0 runs in
     let last : taken_or_refused one.config now input a.0 ≡ taken_or_refused other.config now input b.0 = ap (λ (c : SsfConfig). taken_or_refused c now input a.0) alike.config ∙ ap (taken_or_refused other.config now input) same in
     record {
       sends = append_cancel_left (sent_in alike.trace) sent outs (sym a.1.1.1 ∙ ap sent_in last ∙ b.1.1.1);
+      refuses = a.1.1.2 ∙ ap (λ (c : SsfConfig). table_fault c now input a.0) alike.config ∙ ap (table_fault other.config now input) same ∙ sym b.1.1.2;
       stand = record {
         config = is.same_config ∙ alike.config ∙ sym too.same_config;
         last = is.moment late ∙ sym (too.moment late_too);
@@ -61,8 +65,8 @@ late_alike one_way one other new also now input sent outs late alike is too =
       };
     }
 
-given_alike : TimersRunOneWay → (one other new also : View) (now : ℕ) (input : Input) (sent outs : List Out) → StandAlike one other → IsGiven one new now input sent → IsGiven other also now input outs
-    → GoAlike new also sent outs
+given_alike : TimersRunOneWay → (one other new also : View) (now : ℕ) (input : Input) (sent outs : List Out) → StandAlike one other → (is : IsGiven one new now input sent) → (too : IsGiven other also now input outs)
+    → GoAlike new also sent outs is.fault too.fault
 given_alike one_way one other new also now input sent outs alike is too = elim (cases_lt now one.last) [
   | inl early ↦
       (let early_too : now < other.last = subst (λ (n : ℕ). now < n) alike.last early in
@@ -70,6 +74,7 @@ given_alike one_way one other new also now input sent outs alike is too = elim (
       let stays_too = too.backwards early_too in
       record {
         sends = stays.1 ∙ sym stays_too.1;
+        refuses = stays.2 ∙ sym stays_too.2;
         stand = subst (λ (v : View). StandAlike v also) (sym stays.0) (subst (λ (v : View). StandAlike one v) (sym stays_too.0) alike);
       })
   | inr late ↦ late_alike one_way one other new also now input sent outs late alike is too
@@ -128,6 +133,18 @@ gives_alike one_way now call input before after again last gives too alike = by_
         let go = given_alike one_way one other gives.new too.new now input gives.sent too.sent ssfs gives.is_given too.is_given in
         sends_alike before after again last call gives.new too.new gives.sent too.sent gives.sends too.sends go.sends go.stand alike
 
+-- and by the same fault, where there is one
+gives_fault_alike : TimersRunOneWay → (now call : ℕ) (input : Input) (before after again last : Shown) (gives : GivesTo now call input before after) (too : GivesTo now call input again last) → ShownAlike before again
+    → fault_given now call input before after gives ≡ fault_given now call input again last too
+gives_fault_alike one_way now call input before after again last gives too alike = by_ssf (ssf_of before.ssfs call) (ssf_of again.ssfs call) gives too (alike.ssfs call)
+  where
+    by_ssf : (found its : Option View) (gives : MatchOption found (after ≡ before) (FeedsSsf before after now call input)) (too : MatchOption its (last ≡ again) (FeedsSsf again last now call input)) → AreSsfsAlike found its
+        → fault_of_feed found now call input before after gives ≡ fault_of_feed its now call input again last too
+    by_ssf None None gives too ssfs = refl
+    by_ssf None (Some other) gives too ssfs = absurd ssfs
+    by_ssf (Some one) None gives too ssfs = absurd ssfs
+    by_ssf (Some one) (Some other) gives too ssfs = (given_alike one_way one other gives.new too.new now input gives.sent too.sent ssfs gives.is_given too.is_given).refuses
+
 starts_alike : (now call : ℕ) (calling called : Number) (before after again last : Shown) → StartsCall now call calling called before after → StartsCall now call calling called again last
     → ShownAlike before again → ShownAlike after last
 starts_alike now call calling called before after again last starts too alike = by_ssf (ssf_of before.ssfs call) (ssf_of again.ssfs call) starts too (alike.ssfs call)
@@ -162,6 +179,12 @@ pub happens_alike : TimersRunOneWay → (at : ℕ) (happening : RowHappening) (b
 happens_alike one_way at (row.Start call calling called) before after again last is too alike = starts_alike at call calling called before after again last is too alike
 happens_alike one_way at (row.Meets call event) before after again last is too alike = gives_alike one_way at call (what.Meet event) before after again last is too alike
 happens_alike one_way at (row.Recharge account amount until) before after again last is too alike = recharges_alike at account amount until before after again last is too alike
+
+pub row_fault_alike : TimersRunOneWay → (at : ℕ) (happening : RowHappening) (before after again last : Shown) (is : HappensAt at happening before after) (too : HappensAt at happening again last) → ShownAlike before again
+    → fault_of_row at happening before after is ≡ fault_of_row at happening again last too
+row_fault_alike one_way at (row.Start call calling called) before after again last is too alike = refl
+row_fault_alike one_way at (row.Meets call event) before after again last is too alike = gives_fault_alike one_way at call (what.Meet event) before after again last is too alike
+row_fault_alike one_way at (row.Recharge account amount until) before after again last is too alike = refl
 
 -- ---- what is due
 

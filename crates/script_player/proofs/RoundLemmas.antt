@@ -18,7 +18,8 @@ use Rattle.script_player.specs.Plays.{Play, play_at}
 use Rattle.script_player.specs.Rounds.{IsEnd, IsRound, IsTurn, next_moment_of}
 use Rattle.script_player.specs.Rows.{next_row}
 use Rattle.script_player.specs.Runs.{HasHeard, Hears, IsReached, fresh_play}
-use Rattle.script_player.specs.Steps.{Delivers, DeliversDue, GetsSsf, FeedsSsf, HappensAt, PlaysDue, PlaysRow, RunsTimers, Waits}
+use Rattle.script_player.specs.Steps.{Delivers, DeliversDue, GetsSsf, FeedsSsf, HappensAt, PlaysRow, RunsTimers, Waits}
+use Rattle.script_player.specs.Unplaced.{PlaysDueWithout}
 use Rattle.ssf_core.specs.declared.deliveries.Delivery.{Delivery}
 use Rattle.script_player.specs.declared.network.Input.{Input}
 use Rattle.script_player.specs.declared.network.Input.TheVariants as what
@@ -72,11 +73,13 @@ reached_whole config delay rows play reached = heard_whole (fresh_play config de
 -- ---- a round
 
 -- a round of a player, of what its parts did
-pub round_is : (network delivered played after : Shown) (queue left : List Delivery) (delay : ℕ) (rows : List ScriptRow) (taken next : ℕ) (ended : Bool) (answers : List Answer) (due : Option ℕ) (now : ℕ)
-    → ended ≡ false → network.whole ≡ true → (network.whole ≡ true → IsFirstDue network.ssfs due) → next_moment_of (play_at network queue delay rows taken ended) answers due ≡ Some now
-    → DeliversDue now network delivered (queue ++ deliveries_of delay network.given answers) left → PlaysDue now delivered played (drop taken rows) (drop next rows)
-    → (played.whole ≡ true → RunsTimers now played after) → IsRound (play_at network queue delay rows taken ended) (play_at after left delay rows next ended) answers
-round_is network delivered played after queue left delay rows taken next ended answers due now running whole first at delivers plays runs = record {
+pub round_is : (network delivered played after : Shown) (queue left : List Delivery) (delay : ℕ) (rows : List ScriptRow) (taken next : ℕ) (ended : Bool) (earlier all : List ScriptRow) (answers : List Answer) (due : Option ℕ)
+    (now : ℕ)
+    → ended ≡ false → network.whole ≡ true → (network.whole ≡ true → IsFirstDue network.ssfs due) → next_moment_of (play_at network queue delay rows taken ended earlier) answers due ≡ Some now
+    → DeliversDue now network delivered (queue ++ deliveries_of delay network.given answers) left
+    → PlaysDueWithout now delivered played (drop taken rows) (drop next rows) earlier all
+    → (played.whole ≡ true → RunsTimers now played after) → IsRound (play_at network queue delay rows taken ended earlier) (play_at after left delay rows next ended all) answers
+round_is network delivered played after queue left delay rows taken next ended earlier all answers due now running whole first at delivers plays runs = record {
   due = due;
   first_due = first whole;
   now = now;
@@ -84,18 +87,19 @@ round_is network delivered played after queue left delay rows taken next ended a
   delivered = delivered;
   played = played;
   delivers = delivers;
-  plays = plays;
-  runs = runs (plays_whole delivered played plays.played plays.plays ∙ delivers_whole now network delivered delivers.delivered delivers.delivers ∙ whole);
+  plays = plays.plays;
+  runs = runs (plays_whole delivered played plays.plays.played plays.plays.plays ∙ delivers_whole now network delivered delivers.delivered delivers.delivers ∙ whole);
   same_delay = refl;
   running = running;
+  unplaced = plays.unplaced;
 }
 
 -- the end of a player
-pub end_is : (network : Shown) (queue left : List Delivery) (delay : ℕ) (rows : List ScriptRow) (taken : ℕ) (ended : Bool) (answers : List Answer) (due : Option ℕ)
+pub end_is : (network : Shown) (queue left : List Delivery) (delay : ℕ) (rows : List ScriptRow) (taken : ℕ) (ended : Bool) (unplaced : List ScriptRow) (answers : List Answer) (due : Option ℕ)
     → All (λ (row : ScriptRow). row.at ≤ 1000000000000) rows → network.whole ≡ true
-    → (network.whole ≡ true → IsFirstDue network.ssfs due) → next_moment_of (play_at network queue delay rows taken ended) answers due ≡ None → left ≡ queue ++ deliveries_of delay network.given answers
-    → IsEnd (play_at network queue delay rows taken ended) (play_at network left delay rows taken true) answers
-end_is network queue left delay rows taken ended answers due in_range whole first none waits =
+    → (network.whole ≡ true → IsFirstDue network.ssfs due) → next_moment_of (play_at network queue delay rows taken ended unplaced) answers due ≡ None → left ≡ queue ++ deliveries_of delay network.given answers
+    → IsEnd (play_at network queue delay rows taken ended unplaced) (play_at network left delay rows taken true unplaced) answers
+end_is network queue left delay rows taken ended unplaced answers due in_range whole first none waits =
     let row = next_row (drop taken rows) in
     let delivery = next_delivery (queue ++ deliveries_of delay network.given answers) in
     record {
@@ -107,13 +111,15 @@ end_is network queue left delay rows taken ended answers due in_range whole firs
       same_left = refl;
       same_delay = refl;
       ended = refl;
+      same_unplaced = refl;
     }
 
 -- the next moment of a player, of what its parts give
-pub next_is : (network : Shown) (queue waiting : List Delivery) (delay : ℕ) (rows : List ScriptRow) (taken : ℕ) (ended : Bool) (answers : List Answer) (row delivery due moment : Option ℕ)
+pub next_is : (network : Shown) (queue waiting : List Delivery) (delay : ℕ) (rows : List ScriptRow) (taken : ℕ) (ended : Bool) (unplaced : List ScriptRow) (answers : List Answer)
+    (row delivery due moment : Option ℕ)
     → moment ≡ in_reach (sooner (sooner row delivery) due) → row ≡ next_row (drop taken rows) → delivery ≡ next_delivery waiting → waiting ≡ queue ++ deliveries_of delay network.given answers
-    → moment ≡ next_moment_of (play_at network queue delay rows taken ended) answers due
-next_is network queue waiting delay rows taken ended answers row delivery due moment is of_row of_delivery waits = is ∙ rw (of_row, of_delivery, waits) refl
+    → moment ≡ next_moment_of (play_at network queue delay rows taken ended unplaced) answers due
+next_is network queue waiting delay rows taken ended unplaced answers row delivery due moment is of_row of_delivery waits = is ∙ rw (of_row, of_delivery, waits) refl
 
 -- ---- the run
 

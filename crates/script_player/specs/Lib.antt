@@ -13,3 +13,4 @@ pub mod Rounds
 pub mod Rows
 pub mod Runs
 pub mod Steps
+pub mod Unplaced

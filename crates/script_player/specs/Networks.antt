@@ -53,10 +53,11 @@ pub record MovesSsf (before after : BTreeMap ℕ View) (call : ℕ) (sent : List
   pub updates : Updates nat_cmp before after call (Some new)
   pub goes_on : SsfGoesOn old new sent
 
--- the gsmSSF of a call is given an input, and its next timer was due then, and is due then
+-- the gsmSSF of a call is given an input, which it refuses by this fault or takes, and its next timer was due then, and is due then
 pub record Feeds (before after : BTreeMap ℕ View) (now call : ℕ) (input : Input) (fed : Sent) : Type 0 where
   pub moves : MovesSsf before after call fed.sent.items
   pub is_given : IsGiven moves.old moves.new now input fed.sent.items
+  pub refused : fed.fault ≡ is_given.fault
   pub was_next : IsNextTimer moves.old fed.before
   pub is_next : IsNextTimer moves.new fed.after
 

@@ -15,12 +15,13 @@ order_heard answer = (answer.number, orders_of answer.ops.items)
 abbrev pub orders_heard : List (List Answer) → List (List (ℕ × List Order))
 orders_heard heard = map (λ answers. map order_heard answers) heard
 
--- two plays have given the same, in the same order, wait for the same and have ended or not
+-- two plays have given the same, in the same order, wait for the same, have ended or not, and the same rows had no place in them
 pub record HaveDoneAlike (one other : Play) : Type 0 where
   pub given : one.network.given ≡ other.network.given
   pub queue : one.queue ≡ other.queue
   pub left : one.left ≡ other.left
   pub ended : one.ended ≡ other.ended
+  pub unplaced : one.unplaced ≡ other.unplaced
 
 -- so it is of two plays of the same rows that hear the same, round by round
 abbrev pub PlaysGoOneWay : Type 0

@@ -9,7 +9,7 @@ use Rattle.script_player.specs.Networks.{Shown}
 use Rattle.script_player.specs.Posts.{items_of, posts_of}
 use Rattle.ssf_core.specs.declared.deliveries.Delivery.{Delivery}
 
--- its gsmSSFs and all that it has given, the deliveries that wait, the delay, the rows that it has taken and those that are left, and whether it has ended
+-- its gsmSSFs and all that it has given, the deliveries that wait, the delay, the rows that it has taken and those that are left, whether it has ended, and the rows so far whose event had no place
 pub record Play : Type 0 where
   pub network : Shown
   pub queue : List Delivery
@@ -17,11 +17,12 @@ pub record Play : Type 0 where
   pub taken : List ScriptRow
   pub left : List ScriptRow
   pub ended : Bool
+  pub unplaced : List ScriptRow
 
 -- what a player shows that has taken so many of its rows
-abbrev pub play_at : Shown → List Delivery → ℕ → List ScriptRow → ℕ → Bool → Play
-play_at network queue delay rows taken ended =
-    record { network = network; queue = queue; delay = delay; taken = take taken rows; left = drop taken rows; ended = ended }
+abbrev pub play_at : Shown → List Delivery → ℕ → List ScriptRow → ℕ → Bool → List ScriptRow → Play
+play_at network queue delay rows taken ended unplaced =
+    record { network = network; queue = queue; delay = delay; taken = take taken rows; left = drop taken rows; ended = ended; unplaced = unplaced }
 
 -- what was given of a call is what a gsmSSF sends along a trace: each of its messages, in order, with its moment
 pub record IsPlayed (config : SsfConfig) (call : ℕ) (given : List (ℕ × Body)) : Type 0 where

@@ -10,6 +10,7 @@ use Rattle.script_player.specs.Networks.{Shown}
 use Rattle.script_player.specs.Plays.{Play}
 use Rattle.script_player.specs.Rows.{next_row}
 use Rattle.script_player.specs.Steps.{DeliversDue, PlaysDue, RunsTimers}
+use Rattle.script_player.specs.Unplaced.{unplaced_in}
 use Rattle.ssf_core.specs.declared.deliveries.Delivery.{Delivery}
 use Rattle.tariff_core.specs.declared.times.TheConstants.{HORIZON}
 
@@ -21,7 +22,7 @@ waiting play answers = play.queue ++ deliveries_of play.delay play.network.given
 abbrev pub next_moment_of : Play → List Answer → Option ℕ → Option ℕ
 next_moment_of play answers due = in_reach (sooner (sooner (next_row play.left) (next_delivery (waiting play answers))) due)
 
--- a round of one moment: the deliveries that are due, then the rows of the moment, then the timers
+-- a round of one moment: the deliveries that are due, then the rows of the moment, of which those are put down whose event had no place, then the timers
 pub record IsRound (before after : Play) (answers : List Answer) : Type 0 where
   pub due : Option ℕ
   pub first_due : IsFirstDue before.network.ssfs due
@@ -34,6 +35,7 @@ pub record IsRound (before after : Play) (answers : List Answer) : Type 0 where
   pub runs : RunsTimers now played after.network
   pub same_delay : after.delay ≡ before.delay
   pub running : after.ended ≡ false
+  pub unplaced : after.unplaced ≡ before.unplaced ++ unplaced_in delivered played plays.played plays.plays
 
 -- the run ends: no row is left, and of the deliveries the first, and each timer that runs, lies past the last moment that a gsmSSF takes
 pub record IsEnd (before after : Play) (answers : List Answer) : Type 0 where
@@ -45,6 +47,7 @@ pub record IsEnd (before after : Play) (answers : List Answer) : Type 0 where
   pub same_left : after.left ≡ before.left
   pub same_delay : after.delay ≡ before.delay
   pub ended : after.ended ≡ true
+  pub same_unplaced : after.unplaced ≡ before.unplaced
 
 -- a round, or the end
 abbrev pub IsTurn : Bool → Play → Play → List Answer → Type 0

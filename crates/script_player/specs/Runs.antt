@@ -11,7 +11,7 @@ use Rattle.script_player.specs.Rounds.{IsTurn}
 -- a play before its first round: all rows are left, and nothing has happened
 abbrev pub fresh_play : SsfConfig → ℕ → List ScriptRow → Play
 fresh_play config delay rows =
-    record { network = record { config = config; ssfs = []; given = []; whole = true }; queue = []; delay = delay; taken = []; left = rows; ended = false }
+    record { network = record { config = config; ssfs = []; given = []; whole = true }; queue = []; delay = delay; taken = []; left = rows; ended = false; unplaced = [] }
 
 -- answers are heard: a play that hasn't ended has a round, or ends
 pub record Hears (before : Play) (answers : List Answer) (after : Play) : Type 0 where

@@ -6,9 +6,10 @@ use ssf_core::timers_run_one_way;
 
 /// A play goes one way. Two plays of the same rows, with gsmSSFs of the same configuration and the
 /// same delay, that hear the same operations in answer to the same items, round by round, have
-/// given the same items in the same order; the same deliveries wait, the same rows are left, and
-/// both have ended or neither has. So the order of what happens at one moment is known: deliveries
-/// as they were sent, then rows in their order, then the timers of the calls in ascending order.
+/// given the same items in the same order; the same deliveries wait, the same rows are left, the
+/// same rows had no place, and both have ended or neither has. So the order of what happens at one
+/// moment is known: deliveries as they were sent, then rows in their order, then the timers of the
+/// calls in ascending order.
 pub fn plays_go_one_way()
     ensures { PlaysGoOneWay }
 {

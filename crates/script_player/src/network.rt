@@ -13,7 +13,7 @@ ghost use Rattle.script_player.specs.Posts.{post_of, posts_of};
 use arrayvec::ArrayVec;
 use cap_values::{Number, ScfOp};
 use run_values::Body;
-use ssf_core::{BcsmEvent, Item, Moment, Out, Ssf, SsfConfig, Step};
+use ssf_core::{BcsmEvent, Item, Moment, Out, Ssf, SsfConfig, SsfFault, Step};
 use std::alloc::{AllocError, Global};
 use std::collections::{BTreeMap, BTreeSet};
 use std::marker::Model;
@@ -71,7 +71,8 @@ impl Network {
     ghost use Rattle.script_player.specs.Plays.{IsPlayed};
     ghost use Rattle.script_player.specs.Posts.{initial};
     ghost use Rattle.script_player.specs.Rows.{Starts};
-    ghost use Rattle.script_player.specs.Steps.{GivesTo, Recharges, RunsTimers, StartsCall};
+    ghost use Rattle.script_player.specs.Steps.{Recharges, RunsTimers, StartsCall};
+    ghost use Rattle.script_player.specs.Unplaced.{GivesWithFault};
     ghost use Rattle.script_player.specs.declared.network.Input.TheVariants as what;
     ghost use Rattle.run_values.specs.declared.post.Body.TheVariants as body;
 
@@ -137,17 +138,23 @@ impl Network {
         Ok(())
     }
 
-    /// Gives the gsmSSF of a call an input at a moment. Nothing happens where it has none.
-    pub fn give(&mut self, now: Moment, call: u64, input: Input) -> Result<(), AllocError>
+    /// Gives the gsmSSF of a call an input at a moment. The fault by which it refuses it is the
+    /// result. Nothing happens where the call has none.
+    pub fn give(
+        &mut self,
+        now: Moment,
+        call: u64,
+        input: Input,
+    ) -> Result<Option<SsfFault>, AllocError>
         requires { now ≤ HORIZON }
         ensures grows { Grows self.old self.new }
-        ensures gives { OnOk result (GivesTo now call input self.old self.new) }
+        ensures gives { IfOk result (GivesWithFault now call input self.old self.new) }
         ensures waited { OnOk result (input ≡ what.Wait
             → (at : ℕ) → HasTimer self.new.ssfs call at → now < at) }
     {
         self.given.reserve(MAX_SENT)?;
         let Some(fed) = feed(&mut self.calls, now, call, input) else {
-            return Ok(());
+            return Ok(None);
         };
         // Until the moment of its timer is put down, the network isn't whole.
         let whole = self.whole;
@@ -155,7 +162,7 @@ impl Network {
         post(&mut self.given, call, fed.sent.as_slice());
         replace_due(&mut self.dues, call, fed.before, fed.after)?;
         self.whole = whole;
-        Ok(())
+        Ok(fed.fault)
     }
 
     /// Adds a recharge: the money for an account, and its last moment from then on.
@@ -251,10 +258,12 @@ fn begin(config: SsfConfig, now: Moment, call: u64, calling: Number, called: Num
     Started { ssf, sent }
 }
 
-/// What an input came to: what was sent, and when a timer was due before it and after it.
+/// What an input came to: what was sent, the fault by which it was refused, and when a timer was due
+/// before it and after it.
 #[derive(Drop)]
 struct Sent {
     sent: ArrayVec<Out, 8>,
+    fault: Option<SsfFault>,
     before: Option<Moment>,
     after: Option<Moment>,
 }
@@ -268,20 +277,22 @@ fn feed(calls: &mut BTreeMap<u64, Ssf>, now: Moment, call: u64, input: Input) ->
 {
     let ssf = calls.get_mut(&call)?;
     let before = ssf.next_due();
-    let sent = step(ssf, now, input).sent;
+    let Step { sent, fault } = step(ssf, now, input);
     let after = ssf.next_due();
     Some(Sent {
         sent,
+        fault,
         before,
         after,
     })
 }
 
-/// Gives a gsmSSF an input at a moment. What it refuses is ignored.
+/// Gives a gsmSSF an input at a moment. What it refuses has a fault, and changes nothing else.
 fn step(ssf: &mut Ssf, now: Moment, input: Input) -> Step
     requires { now ≤ HORIZON }
     ensures goes_on { SsfGoesOn ssf.old ssf.new result.sent.items }
-    ensures given { IsGiven ssf.old ssf.new now input result.sent.items }
+    ensures given { (given : IsGiven ssf.old ssf.new now input result.sent.items)
+        × (result.fault ≡ given.fault) }
 {
     match input {
         Input::Operate(op) => ssf.operation(now, op),

@@ -1,9 +1,10 @@
 //! The driver that plays a script.
 
-ghost use Rattle.std.specs.Prelude.{◌≡◌, ◌≤◌, ◌+◌, ◌*◌, ◌++◌, All, OnErr, OnOk, drop, length, take};
+ghost use Rattle.std.specs.Prelude.{◌≡◌, ◌≤◌, ◌+◌, ◌*◌, ◌++◌, All, IfOk, OnErr, OnOk, drop, length, take};
 ghost use Rattle.script_player.specs.Networks.{Grows};
 ghost use Rattle.script_player.specs.Rows.{Adds, FollowsRows, TakesRow, next_row};
-ghost use Rattle.script_player.specs.Steps.{PlaysDue, PlaysRow, DeliversDue};
+ghost use Rattle.script_player.specs.Steps.{DeliversDue};
+ghost use Rattle.script_player.specs.Unplaced.{PlaysDueWithout, PlaysRowWithFault, where_refused};
 ghost use Rattle.script_player.specs.Deliveries.{deliveries_of, deliveries_to};
 
 use crate::network::{Input, MAX_SENT, Network};
@@ -11,7 +12,7 @@ use cap_values::ScfOp;
 use run_texts::{Happening, ScriptRow};
 use run_values::{Answer, Body};
 use runs_core::Driver;
-use ssf_core::{Delivery, Moment, SsfConfig, next_delivery, next_moment, send, take_due};
+use ssf_core::{Delivery, Moment, SsfConfig, SsfFault, next_delivery, next_moment, send, take_due};
 use std::alloc::{AllocError, Global};
 use std::collections::VecDeque;
 use std::marker::Model;
@@ -27,8 +28,9 @@ use tariff_core::{DAY, HORIZON, MAX_MOMENT};
 /// moment, in order; then the timers that are due run, in ascending order of the calls. At a
 /// `Start` row the gsmSSF of the call is invoked and triggered, an event is met by its call, and a
 /// recharge is a post in its place. Each message that a gsmSSF sends is a post, in the order in
-/// which they were sent. What a gsmSSF refuses is ignored, and so is an event of a call that hasn't
-/// started, and a further start of one that has.
+/// which they were sent. An event that its gsmSSF refuses has no place, and its row is put down as
+/// such; an operation that is refused is ignored, and so is an event of a call that hasn't started,
+/// and a further start of one that has.
 ///
 /// It ends where no row is left, and no delivery and no due moment within `HORIZON`, the last
 /// moment that a gsmSSF takes: a run breaks off there. The last row lies at half of it at most, and
@@ -41,6 +43,8 @@ pub struct ScriptPlayer {
     rows: Vec<ScriptRow>,
     taken: usize,
     ended: bool,
+    /// The rows taken whose event had no place.
+    unplaced: Vec<ScriptRow>,
     /// Whether the rounds so far came to their ends. Where memory ran out in one, no further round
     /// is played.
     sound: bool,
@@ -55,12 +59,14 @@ impl Model for ScriptPlayer {
     ghost Value = { Play };
 
     ghost view = { λ p.
-        play_at p.network p.deliveries.items p.delay p.rows.items p.taken p.ended };
+        play_at p.network p.deliveries.items p.delay p.rows.items p.taken p.ended
+        p.unplaced.items };
 
     ghost invariant = { λ p. IsKept p.network.given p.delay p.rows.items p.taken p.ended
         × (p.ended ≡ true → p.sound ≡ true)
         × (p.sound ≡ true → IsReached p.network.config p.delay p.rows.items
-        (play_at p.network p.deliveries.items p.delay p.rows.items p.taken p.ended)) };
+        (play_at p.network p.deliveries.items p.delay p.rows.items p.taken p.ended
+        p.unplaced.items)) };
 }
 
 impl ScriptPlayer {
@@ -94,6 +100,7 @@ impl ScriptPlayer {
             rows,
             taken: 0,
             ended: false,
+            unplaced: Vec::new(alloc),
             sound: true,
         })
     }
@@ -103,6 +110,14 @@ impl ScriptPlayer {
         ensures { result.now ≡ self.now.taken }
     {
         &self.rows[..self.taken]
+    }
+
+    /// Those of the rows taken whose event had no place, in order: the gsmSSF of the call refused
+    /// it, as a second answer, or what a party does where the call was released before.
+    pub fn unplaced(&self) -> &[ScriptRow]
+        ensures { result.now ≡ self.now.unplaced }
+    {
+        self.unplaced.as_slice()
     }
 }
 
@@ -203,6 +218,7 @@ impl Driver for ScriptPlayer {
             &mut self.network,
             self.rows.as_slice(),
             &mut self.taken,
+            &mut self.unplaced,
             now,
         )?;
         self.network.advance(now)?;
@@ -231,34 +247,53 @@ fn next_row(rows: &[ScriptRow], taken: usize) -> Option<Moment>
     None
 }
 
-/// Takes the rows that are due by now, in order.
+/// Takes the rows that are due by now, in order, and puts down those whose event had no place.
 fn take_rows(
     network: &mut Network,
     rows: &[ScriptRow],
     taken: &mut usize,
+    unplaced: &mut Vec<ScriptRow>,
     now: Moment,
 ) -> Result<(), AllocError>
     requires in_range { All (λ row. row.at ≤ MAX_MOMENT) rows.now }
     requires within { taken.old ≤ length rows.now }
     requires follows { FollowsRows (take taken.old rows.now) network.old.given }
     ensures within { taken.new ≤ length rows.now }
-    ensures plays { OnOk result (PlaysDue now network.old network.new
-        (drop taken.old rows.now) (drop taken.new rows.now)) }
+    ensures plays { OnOk result (PlaysDueWithout now network.old network.new
+        (drop taken.old rows.now) (drop taken.new rows.now)
+        unplaced.old.items unplaced.new.items) }
     ensures follows { FollowsRows (take taken.new rows.now) network.new.given }
     ensures added { Adds network.old network.new }
 {
     while *taken < rows.len() && rows[*taken].at <= now {
-        take_row(network, rows[*taken])?;
+        let row = rows[*taken];
+        let fault = take_row(network, row)?;
         *taken += 1;
+        put_down_refused(unplaced, row, fault)?;
     }
     Ok(())
 }
 
-/// Takes a row.
-fn take_row(network: &mut Network, row: ScriptRow) -> Result<(), AllocError>
+/// Puts down a row, where it was refused by a fault.
+fn put_down_refused(
+    unplaced: &mut Vec<ScriptRow>,
+    row: ScriptRow,
+    fault: Option<SsfFault>,
+) -> Result<(), AllocError>
+    ensures { OnOk result
+        (unplaced.new.items ≡ unplaced.old.items ++ where_refused row fault) }
+{
+    if fault.is_some() {
+        unplaced.push(row)?;
+    }
+    Ok(())
+}
+
+/// Takes a row. The fault by which its event was refused is the result.
+fn take_row(network: &mut Network, row: ScriptRow) -> Result<Option<SsfFault>, AllocError>
     requires { row.at ≤ MAX_MOMENT }
     ensures taken { OnOk result (TakesRow network.old network.new row.at row.what) }
-    ensures plays { OnOk result (PlaysRow network.old row network.new) }
+    ensures plays { IfOk result (PlaysRowWithFault network.old row network.new) }
     ensures failed { OnErr result (Grows network.old network.new) }
 {
     match row.what {
@@ -266,13 +301,19 @@ fn take_row(network: &mut Network, row: ScriptRow) -> Result<(), AllocError>
             call,
             calling,
             called,
-        } => network.start(row.at, call, calling, called),
+        } => {
+            network.start(row.at, call, calling, called)?;
+            Ok(None)
+        }
         Happening::Meets { call, event } => network.give(row.at, call, Input::Meet(event)),
         Happening::Recharge {
             account,
             amount,
             until,
-        } => network.recharge(row.at, account, amount, until),
+        } => {
+            network.recharge(row.at, account, amount, until)?;
+            Ok(None)
+        }
     }
 }
 

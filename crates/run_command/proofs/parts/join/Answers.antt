@@ -7,6 +7,7 @@ loop-part-init c = none_joined _ _ _ (search rules) (λ output. record {
   books = keeps_nothing output _ _ (search rules) (search rules);
   calls = search rules;
   refusals = search rules;
+  unplaced = search rules;
 })
 
 pub loop-part-preserved : goal.loop-part-preserved

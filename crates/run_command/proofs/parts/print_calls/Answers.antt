@@ -1,5 +1,6 @@
-use Rattle.std.proofs.Common.{◌≡◌, rules, length, arith}
+use Rattle.std.proofs.Common.{◌≡◌, rules, length, refl, arith}
 use Rattle.std.proofs.lemmas.List.Sorted.{IsNonDecreasingBy-from_sort_by_key, answers_always}
+use Rattle.call_records.specs.declared.call_record.CallRecord.{CallRecord}
 use Rattle.run_command.proofs.Merging.{stays_in_order}
 use Rattle.run_command.proofs.parts.print_calls.Goals as goal
 
@@ -12,7 +13,9 @@ returns c =
     let as_many : length c.sort_by_key.new.self.items ≡ length c.args.calls.items = omega (arith, len, new_ok, old_ok) in
     record {
       calls = c.sort_by_key.new.self.items;
-      rising = IsNonDecreasingBy-from_sort_by_key (λ call. call.call) _ c.in_ok-sort_by_key.ensures.sorted (λ a r q k. search rules);
-      same = λ number. stays_in_order _ _ as_many stable number;
+      merged = record {
+        rising = IsNonDecreasingBy-from_sort_by_key (λ call. call.call) _ c.in_ok-sort_by_key.ensures.sorted (λ a r q k. search rules);
+        same = λ number. stays_in_order (λ (call : CallRecord). call.call) (λ call n. record call { call = n }) (λ call n. refl) _ _ as_many stable number;
+      };
       is = rw c.as_slice.ensures.value at c.in_ok-text.ensures;
     }

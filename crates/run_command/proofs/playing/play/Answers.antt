@@ -21,16 +21,18 @@ returns-clause-played g c =
     let config = ap (λ p. p.0) kept ∙ ap (λ (play : Play). play.network.config) is_fresh in
     let delay = ap (λ p. p.1) kept ∙ ap (λ (play : Play). play.delay) is_fresh in
     let rows = ap (λ p. p.2) kept ∙ ap (λ (play : Play). play.taken ++ play.left) is_fresh in
+    let given = given_by (ask_of c.args.options.now) c.args.options.now.ssf after.network.config after.delay c.args.script.items after.taken after.left ran.heard after.network.given after.unplaced
+    (record { tssf = refl; tccd = refl; default_handling = refl })
+    config
+    delay
+    rows
+    (c.is_played.ensures c.args.script.items ran.heard rows
+    (rounds_of c.args.options.now.ssf after.network.config c.args.options.now.delay after.delay c.args.script.items before ran.heard after is_fresh config delay
+    (player_hears [] listener ran.heard end rounds))) in
     record {
       heard = ran.heard;
-      given_by = given_by (ask_of c.args.options.now) c.args.options.now.ssf after.network.config after.delay c.args.script.items after.taken after.left ran.heard after.network.given
-          (record { tssf = refl; tccd = refl; default_handling = refl })
-          config
-          delay
-          rows
-          (c.is_played.ensures c.args.script.items ran.heard rows
-          (rounds_of c.args.options.now.ssf after.network.config c.args.options.now.delay after.delay c.args.script.items before ran.heard after is_fresh config delay
-          (player_hears [] listener ran.heard end rounds)));
+      given_by = given.given_by;
+      unplaced = given.unplaced;
       run = ran.run;
       kept = λ asked. keeps_heard [] listener ran.heard end (c.new-listener.ensures.keeps ∙ asked) rounds ∙ ap (λ (l : List Answer). l ++ all_heard ran.heard) c.new-listener.ensures.heard;
       counted = counts_heard [] listener ran.heard end [] c.new-listener.ensures.refusals rounds;

@@ -18,5 +18,5 @@ returns g c =
     let ask = ask_of c.args.options.now in
     let ran = run_said_of c.in_ok-run_in_parts-in-Some.field-0 in
     subst (λ (parts : Option PartsAsk). IsRunSaid parts ask c.args.input.now ran) (sym c.in-Some.is ∙ c.played_parts.ensures)
-    (parts_said c.played_calls_have_paid.ensures c.joined_books_pass.ensures.accounts c.joined_books_pass.ensures.pass c.in-Some.parts.count ask c.args.input.now _ _ ran.text ran.refusals c.in_ok-setup.ensures.start
+    (parts_said c.played_calls_have_paid.ensures c.joined_books_pass.ensures.accounts c.joined_books_pass.ensures.pass c.in-Some.parts.count ask c.args.input.now _ _ ran.text ran.refusals ran.unplaced c.in_ok-setup.ensures.start
     c.in_ok-run_in_parts-in-Some.ensures.ran)

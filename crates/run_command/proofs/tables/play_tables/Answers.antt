@@ -8,4 +8,4 @@ returns-clause-tables g c =
     let played = c.in_ok-played in
     let printed = c.in_ok-print_all in
     tables_of_play (ask_of c.args.options.now) (ask_of c.traced.result) c.clock_of-clock.result c.args.setup.now c.args.script.items played.played (tables_said printed.field-0) c.traced.ensures
-    c.clock_of-clock.ensures played.ensures.workers played.ensures.played printed.ensures.texts printed.ensures.refusals printed.ensures.typed
+    c.clock_of-clock.ensures played.ensures.workers played.ensures.played printed.ensures.texts printed.ensures.refusals printed.ensures.unplaced printed.ensures.typed

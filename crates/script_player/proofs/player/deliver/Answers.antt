@@ -8,7 +8,7 @@ loop-delivery-init c = delivered_none c.args.now c.args.network.now c.args.deliv
 pub loop-delivery-preserved : goal.loop-delivery-preserved
 loop-delivery-preserved c =
     delivered_more c.args.now c.args.network.now c.loop-delivery.network c.give.new.self c.args.deliveries.now.items c.loop-delivery.deliveries.items c.take_due.new.deliveries.items c.in-Some.delivery
-    c.loop-delivery.invariant c.in-Some.ensures.takes c.give.ensures.grows c.in_ok-give.ensures.gives
+    c.loop-delivery.invariant c.in-Some.ensures.takes c.give.ensures.grows c.in_ok-give.ensures.gives.gives
 
 pub returns-in_err-give-clause-grows : goal.returns-in_err-give-clause-grows
 returns-in_err-give-clause-grows c = grows_on c.args.network.now c.loop-delivery.network c.give.new.self c.loop-delivery.invariant.grows c.give.ensures.grows

@@ -14,7 +14,7 @@ returns-in_err-give-clause-grows c = grows_on c.args.self.now c.loop-call.self c
 pub loop-call-preserved : goal.loop-call-preserved
 loop-call-preserved c =
     waited_more c.args.now c.in-Some.call.now c.args.self.now c.loop-call.self c.give.new.self c.into_iter-call-iterator.result c.loop-call.call-iterator c.next.new.self c.loop-call.invariant
-    c.in-Some.ensures.steps c.give.ensures.grows c.in_ok-give.ensures.gives (c.in_ok-give.ensures.waited refl)
+    c.in-Some.ensures.steps c.give.ensures.grows c.in_ok-give.ensures.gives.gives (c.in_ok-give.ensures.waited refl)
 
 pub returns-clause-runs : goal.returns-clause-runs
 returns-clause-runs c =

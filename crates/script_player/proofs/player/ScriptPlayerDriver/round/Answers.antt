@@ -20,9 +20,9 @@ invariant_of-self-in_default c =
     let waits = rw c.given.ensures.items at c.in_ok-put_down.ensures in
     let row = rw c.as_slice.ensures.value at c.next_row-row.ensures in
     let whole = reached_whole i.network.config i.delay i.rows.items _ (c.self.invariant.2 c.if-not-self.false) in
-    let next = next_is i.network i.deliveries.items c.put_down.new.deliveries.items i.delay i.rows.items i.taken i.ended c.args.answers.now c.next_row-row.result c.next_delivery-delivery.result
+    let next = next_is i.network i.deliveries.items c.put_down.new.deliveries.items i.delay i.rows.items i.taken i.ended i.unplaced.items c.args.answers.now c.next_row-row.result c.next_delivery-delivery.result
     c.first_due.result c.next_moment.result c.next_moment.ensures.least row c.next_delivery-delivery.ensures.first waits in
-    let turn = end_is i.network i.deliveries.items c.put_down.new.deliveries.items i.delay i.rows.items i.taken i.ended c.args.answers.now c.first_due.result c.self.invariant.0.in_range whole c.first_due.ensures
+    let turn = end_is i.network i.deliveries.items c.put_down.new.deliveries.items i.delay i.rows.items i.taken i.ended i.unplaced.items c.args.answers.now c.first_due.result c.self.invariant.0.in_range whole c.first_due.ensures
     (sym next ∙ c.in_default.is) waits in (
       record {
         delay_within_day = c.self.invariant.0.delay_within_day;
@@ -32,7 +32,7 @@ invariant_of-self-in_default c =
         played_out = λ over. none_left i.rows.items i.taken c.next_delivery-delivery.result c.first_due.result c.self.invariant.0.in_range (sym least ∙ c.in_default.is);
       },
       λ over. refl,
-      λ sound. reached_more i.network.config i.network.config i.delay i.rows.items c.args.answers.now (play_at i.network i.deliveries.items i.delay i.rows.items i.taken i.ended) _ false refl
+      λ sound. reached_more i.network.config i.network.config i.delay i.rows.items c.args.answers.now (play_at i.network i.deliveries.items i.delay i.rows.items i.taken i.ended i.unplaced.items) _ false refl
           c.if-self.false turn (c.self.invariant.2 c.if-not-self.false),
     )
 
@@ -42,9 +42,9 @@ returns-in_default-clause-turn c =
     let waits = rw c.given.ensures.items at c.in_ok-put_down.ensures in
     let row = rw c.as_slice.ensures.value at c.next_row-row.ensures in
     let whole = reached_whole i.network.config i.delay i.rows.items _ (c.self.invariant.2 c.if-not-self.false) in
-    let next = next_is i.network i.deliveries.items c.put_down.new.deliveries.items i.delay i.rows.items i.taken i.ended c.args.answers.now c.next_row-row.result c.next_delivery-delivery.result
+    let next = next_is i.network i.deliveries.items c.put_down.new.deliveries.items i.delay i.rows.items i.taken i.ended i.unplaced.items c.args.answers.now c.next_row-row.result c.next_delivery-delivery.result
     c.first_due.result c.next_moment.result c.next_moment.ensures.least row c.next_delivery-delivery.ensures.first waits in
-    let turn = end_is i.network i.deliveries.items c.put_down.new.deliveries.items i.delay i.rows.items i.taken i.ended c.args.answers.now c.first_due.result c.self.invariant.0.in_range whole c.first_due.ensures
+    let turn = end_is i.network i.deliveries.items c.put_down.new.deliveries.items i.delay i.rows.items i.taken i.ended i.unplaced.items c.args.answers.now c.first_due.result c.self.invariant.0.in_range whole c.first_due.ensures
     (sym next ∙ c.in_default.is) waits in
     rw (← c.self.view_is) (λ running. turn)
 
@@ -57,12 +57,12 @@ returns-in_default-clause-heard c =
     let waits = rw c.given.ensures.items at c.in_ok-put_down.ensures in
     let row = rw c.as_slice.ensures.value at c.next_row-row.ensures in
     let whole = reached_whole i.network.config i.delay i.rows.items _ (c.self.invariant.2 c.if-not-self.false) in
-    let next = next_is i.network i.deliveries.items c.put_down.new.deliveries.items i.delay i.rows.items i.taken i.ended c.args.answers.now c.next_row-row.result c.next_delivery-delivery.result
+    let next = next_is i.network i.deliveries.items c.put_down.new.deliveries.items i.delay i.rows.items i.taken i.ended i.unplaced.items c.args.answers.now c.next_row-row.result c.next_delivery-delivery.result
     c.first_due.result c.next_moment.result c.next_moment.ensures.least row c.next_delivery-delivery.ensures.first waits in
-    let turn = end_is i.network i.deliveries.items c.put_down.new.deliveries.items i.delay i.rows.items i.taken i.ended c.args.answers.now c.first_due.result c.self.invariant.0.in_range whole c.first_due.ensures
+    let turn = end_is i.network i.deliveries.items c.put_down.new.deliveries.items i.delay i.rows.items i.taken i.ended i.unplaced.items c.args.answers.now c.first_due.result c.self.invariant.0.in_range whole c.first_due.ensures
     (sym next ∙ c.in_default.is) waits in
     rw (← c.self.view_is)
-    (λ running config delay rows heard has. heard_more config delay rows heard c.args.answers.now (play_at i.network i.deliveries.items i.delay i.rows.items i.taken i.ended) _ false running turn has)
+    (λ running config delay rows heard has. heard_more config delay rows heard c.args.answers.now (play_at i.network i.deliveries.items i.delay i.rows.items i.taken i.ended i.unplaced.items) _ false running turn has)
 
 pub invariant_of-self-in_err-deliver : goal.invariant_of-self-in_err-deliver
 invariant_of-self-in_err-deliver c = (
@@ -90,17 +90,17 @@ invariant_of-self-2 c =
     let waits = rw c.given.ensures.items at c.in_ok-put_down.ensures in
     let row = rw c.as_slice.ensures.value at c.next_row-row.ensures in
     let whole = reached_whole i.network.config i.delay i.rows.items _ (c.self.invariant.2 c.if-not-self.false) in
-    let next = next_is i.network i.deliveries.items c.put_down.new.deliveries.items i.delay i.rows.items i.taken i.ended c.args.answers.now c.next_row-row.result c.next_delivery-delivery.result
+    let next = next_is i.network i.deliveries.items c.put_down.new.deliveries.items i.delay i.rows.items i.taken i.ended i.unplaced.items c.args.answers.now c.next_row-row.result c.next_delivery-delivery.result
     c.first_due.result c.next_moment.result c.next_moment.ensures.least row c.next_delivery-delivery.ensures.first waits in
     let delivers = rw waits at c.in_ok-deliver.ensures.delivers in
     let plays = rw c.as_slice-2.ensures.value at c.in_ok-take_rows.ensures.plays in
     let turn = round_is i.network c.deliver.new.network c.take_rows.new.network c.advance.new.self i.deliveries.items c.deliver.new.deliveries.items i.delay i.rows.items i.taken c.take_rows.new.taken
-    i.ended c.args.answers.now c.first_due.result c.in-Some.now c.if-self.false whole c.first_due.ensures (sym next ∙ c.in-Some.is) delivers plays c.in_ok-advance.ensures.runs in
+    i.ended i.unplaced.items c.take_rows.new.unplaced.items c.args.answers.now c.first_due.result c.in-Some.now c.if-self.false whole c.first_due.ensures (sym next ∙ c.in-Some.is) delivers plays c.in_ok-advance.ensures.runs in
     let config = c.advance.ensures.grows.same_config ∙ c.take_rows.ensures.added.same_config ∙ c.deliver.ensures.grows.same_config in (
       kept_on i.network.given i.delay i.taken c.take_rows.new.taken i.rows.items i.ended c.take_rows.new.network c.advance.new.self c.self.invariant.0 c.if-self.false
           (rw c.as_slice-2.ensures.value at c.take_rows.ensures.within) (rw c.as_slice-2.ensures.value at c.take_rows.ensures.follows) c.advance.ensures.grows,
       λ over. refl,
-      λ sound. reached_more i.network.config c.advance.new.self.config i.delay i.rows.items c.args.answers.now (play_at i.network i.deliveries.items i.delay i.rows.items i.taken i.ended) _ true config
+      λ sound. reached_more i.network.config c.advance.new.self.config i.delay i.rows.items c.args.answers.now (play_at i.network i.deliveries.items i.delay i.rows.items i.taken i.ended i.unplaced.items) _ true config
           c.if-self.false turn (c.self.invariant.2 c.if-not-self.false),
     )
 
@@ -110,12 +110,12 @@ returns-clause-turn c =
     let waits = rw c.given.ensures.items at c.in_ok-put_down.ensures in
     let row = rw c.as_slice.ensures.value at c.next_row-row.ensures in
     let whole = reached_whole i.network.config i.delay i.rows.items _ (c.self.invariant.2 c.if-not-self.false) in
-    let next = next_is i.network i.deliveries.items c.put_down.new.deliveries.items i.delay i.rows.items i.taken i.ended c.args.answers.now c.next_row-row.result c.next_delivery-delivery.result
+    let next = next_is i.network i.deliveries.items c.put_down.new.deliveries.items i.delay i.rows.items i.taken i.ended i.unplaced.items c.args.answers.now c.next_row-row.result c.next_delivery-delivery.result
     c.first_due.result c.next_moment.result c.next_moment.ensures.least row c.next_delivery-delivery.ensures.first waits in
     let delivers = rw waits at c.in_ok-deliver.ensures.delivers in
     let plays = rw c.as_slice-2.ensures.value at c.in_ok-take_rows.ensures.plays in
     let turn = round_is i.network c.deliver.new.network c.take_rows.new.network c.advance.new.self i.deliveries.items c.deliver.new.deliveries.items i.delay i.rows.items i.taken c.take_rows.new.taken
-    i.ended c.args.answers.now c.first_due.result c.in-Some.now c.if-self.false whole c.first_due.ensures (sym next ∙ c.in-Some.is) delivers plays c.in_ok-advance.ensures.runs in
+    i.ended i.unplaced.items c.take_rows.new.unplaced.items c.args.answers.now c.first_due.result c.in-Some.now c.if-self.false whole c.first_due.ensures (sym next ∙ c.in-Some.is) delivers plays c.in_ok-advance.ensures.runs in
     rw (← c.self.view_is) (λ running. turn)
 
 pub returns-clause-hears : goal.returns-clause-hears
@@ -127,11 +127,11 @@ returns-clause-heard c =
     let waits = rw c.given.ensures.items at c.in_ok-put_down.ensures in
     let row = rw c.as_slice.ensures.value at c.next_row-row.ensures in
     let whole = reached_whole i.network.config i.delay i.rows.items _ (c.self.invariant.2 c.if-not-self.false) in
-    let next = next_is i.network i.deliveries.items c.put_down.new.deliveries.items i.delay i.rows.items i.taken i.ended c.args.answers.now c.next_row-row.result c.next_delivery-delivery.result
+    let next = next_is i.network i.deliveries.items c.put_down.new.deliveries.items i.delay i.rows.items i.taken i.ended i.unplaced.items c.args.answers.now c.next_row-row.result c.next_delivery-delivery.result
     c.first_due.result c.next_moment.result c.next_moment.ensures.least row c.next_delivery-delivery.ensures.first waits in
     let delivers = rw waits at c.in_ok-deliver.ensures.delivers in
     let plays = rw c.as_slice-2.ensures.value at c.in_ok-take_rows.ensures.plays in
     let turn = round_is i.network c.deliver.new.network c.take_rows.new.network c.advance.new.self i.deliveries.items c.deliver.new.deliveries.items i.delay i.rows.items i.taken c.take_rows.new.taken
-    i.ended c.args.answers.now c.first_due.result c.in-Some.now c.if-self.false whole c.first_due.ensures (sym next ∙ c.in-Some.is) delivers plays c.in_ok-advance.ensures.runs in
+    i.ended i.unplaced.items c.take_rows.new.unplaced.items c.args.answers.now c.first_due.result c.in-Some.now c.if-self.false whole c.first_due.ensures (sym next ∙ c.in-Some.is) delivers plays c.in_ok-advance.ensures.runs in
     rw (← c.self.view_is)
-    (λ running config delay rows heard has. heard_more config delay rows heard c.args.answers.now (play_at i.network i.deliveries.items i.delay i.rows.items i.taken i.ended) _ true running turn has)
+    (λ running config delay rows heard has. heard_more config delay rows heard c.args.answers.now (play_at i.network i.deliveries.items i.delay i.rows.items i.taken i.ended i.unplaced.items) _ true running turn has)
