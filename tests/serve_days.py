@@ -28,7 +28,7 @@ def next_day(trial):
         seed += 1
         text = texts.pop() if texts else runs(random.Random(seed))[1]
         try:
-            run = do_run({"--workers": "1"}, text, None)
+            run, _ = do_run({"--workers": "1"}, text, None)
         except Fault:
             continue
         tariff, setup, _ = text.split(b"%%\n")

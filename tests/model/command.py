@@ -59,10 +59,12 @@ def command(words, text, book=None, write=None):
             raise ARGUMENTS
         given = options_in(words[0], words[1:])
         if words[0] == "run":
-            run = do_run(given, text, book)
+            run, script = do_run(given, text, book)
             table = next((it for it in TABLES if it in given), None)
             text = {None: run.lines, "--book": run.book, "--calls": run.calls, "--trace": run.trace}[table]()
-            return 0, text, run.refusals(), not run.is_contended
+            # where workers have met at an account, which events had no place is open
+            notes = run.notes(script) if explains and not run.is_contended else ""
+            return 0, text, run.refusals() + notes, not run.is_contended
         if words[0] in ("audit", "rate"):
             return *{"audit": do_audit, "rate": rate}[words[0]](given, text), "", True
         if words[0] == "serve":
@@ -298,4 +300,5 @@ def do_run(given, text, book):
             part.play(rows)
             run.accounts.update({it: part.accounts[it] for it in own})
             run.refused.update(part.refused)
-    return run
+            run.unplaced += part.unplaced
+    return run, script

@@ -72,6 +72,13 @@ def divided(script, setup, count):
     return parts
 
 
+def listed(one, many, items):
+    """A line that says how many there are, and which are the first ten."""
+    if not items:
+        return ""
+    return f"{len(items)} {one if len(items) == 1 else many}: {', '.join(map(str, items[:10]))}{', ..' * (len(items) > 10)}\n"
+
+
 class Run:
     """Accounts, dialogues and switches. With the text of a book, the operations of a round are taken in its order."""
 
@@ -81,6 +88,8 @@ class Run:
         self.accounts = {it: Account(*accounts[it]) for it in sorted(accounts)}
         self.switches, self.talks, self.deliveries, self.number = {}, {}, [], 0
         self.told, self.traced, self.clock = {}, [], clock
+        # the events that had no place, each with its call
+        self.unplaced = []
         # the columns of an operation in the book
         self.columns = 11 if has_steps(tariff) else 9
         # whether workers met at an account in one round, so that the order of their operations is open
@@ -116,7 +125,8 @@ class Run:
                 posts.append((None, ("recharge", *rest)))
             else:
                 point = f"disconnect {rest[0]}" if word == "disconnect" else word
-                self.give(call, posts, lambda switch: switch.event(now, point))
+                if not self.give(call, posts, lambda switch: switch.event(now, point)):
+                    self.unplaced.append((call, f"call {call} {word} at {now}"))
         for call in sorted(self.switches):
             self.give(call, posts, lambda switch: switch.run_timers(now))
         for call, message in posts:
@@ -129,14 +139,15 @@ class Run:
             self.traced += trace.rows(now, number, call, message, answer, self.clock)
 
     def give(self, call, posts, do):
-        """Gives a call's switch an input, and puts what it sends to the posts."""
-        switch = self.switches[call]
+        """Gives a call's switch an input, and puts what it sends to the posts. Says whether the input was taken."""
+        switch, is_taken = self.switches[call], True
         try:
             do(switch)
         except Refused:
-            pass
+            is_taken = False
         posts += [(call, it) for it in switch.sent]
         switch.sent.clear()
+        return is_taken
 
     def answered(self, now, posts):
         """The answer to each post, by its number. Each worker goes through its posts in order."""
@@ -216,6 +227,13 @@ class Run:
         """The line about how many messages and recharges an account refused, and why."""
         kinds = [f"{self.refused[it]} {it}" for it in FAULTS if self.refused[it]]
         return f"prepaid: refused: {', '.join(kinds)}\n" if kinds else ""
+
+    def notes(self, script):
+        """The lines about calls that no subscriber makes, and about events that had no place."""
+        strangers = [call for _, call, word, *rest in script if word == "start" and rest[0] not in self.subscribers]
+        events = [event for _, event in sorted(self.unplaced, key=lambda it: it[0])]
+        calls_line = listed("call of a number that no subscriber has", "calls of numbers that no subscriber has", strangers)
+        return calls_line + listed("event that had no place", "events that had no place", events)
 
     def lines(self):
         return "".join(account_line(number, it) for number, it in self.accounts.items()) + call_lines(self.accounts)
