@@ -112,7 +112,7 @@ fn write_others<T: Listed>(line: &mut String, others: &[T]) -> Result<(), AllocE
     Ok(())
 }
 
-/// Ends the line, which has so many behind the first one, or says that there are more.
+/// Ends the line, which has this number of them behind the first one, or says that there are more.
 fn write_end(line: &mut String, others: usize) -> Result<(), AllocError>
     ensures { OnOk result (string_bytes line.new ≡ string_bytes line.old ++ end_text others) }
 {

@@ -258,8 +258,8 @@ fn begin(config: SsfConfig, now: Moment, call: u64, calling: Number, called: Num
     Started { ssf, sent }
 }
 
-/// What an input came to: what was sent, the fault by which it was refused, and when a timer was due
-/// before it and after it.
+/// What an input came to: what was sent, the fault by which it was refused, and when a timer was
+/// due before it and after it.
 #[derive(Drop)]
 struct Sent {
     sent: ArrayVec<Out, 8>,
