@@ -1,8 +1,8 @@
 #!/usr/bin/env python3
 """Looks whether docs/PROOFS.md names what there is: tests/proofs_test.py
 
-Each name in backquotes is a name of the code, of specs, proofs or tests. Where a function, a type or a record stands
-before a colon, what follows are its own clauses or fields; where a clause stands there, what follows are definitions.
+Each name in backquotes is a name of the code, of specs, proofs or tests. Where a function, a type or a record is in
+front of a colon, what is behind it are its own clauses or fields; where a clause is, they are definitions.
 """
 import glob
 import os
@@ -63,34 +63,46 @@ def definitions(crate):
     return found
 
 
+def names_there_are(crates):
+    """Each word of a name in the files of the crates, the tests and the pages, and in their paths."""
+    paths = [it for crate in crates for folder in ("src", "specs", "proofs") for it in files(crate, folder)]
+    paths += [it for it in glob.glob("tests/**/*", recursive=True) if os.path.isfile(it)]
+    names = {"strace", *crates}
+    for path in [*paths, *glob.glob("docs/*.md"), "README.md", "Makefile"]:
+        names.update(WORD.findall(path))
+        if not path.endswith((".md", ".pyc")):
+            names.update(WORD.findall(text_of(path)))
+    return names
+
+
+def wrong_clauses(line, crate, of_crate, defined):
+    """What a line of a crate names behind a colon that isn't of what is named in front of it."""
+    functions, records = of_crate[crate]
+    for name, others in NAMED.findall(line):
+        own = records.get(name) or functions.get(name) or functions.get(name.split("::")[-1], set())
+        is_clause = any(name in clause_names for clause_names in functions.values())
+        for other in QUOTED.findall(others):
+            if other not in own and not (is_clause and other in defined):
+                yield f"{name} of {crate} has no {other}"
+
+
 def main():
     crates = sorted(os.listdir("crates"))
     of_crate = {crate: (clauses(crate), definitions(crate)) for crate in crates}
-    defined = {name for _, names in of_crate.values() for name in names}
-    tools = glob.glob("tests/**/*", recursive=True) + glob.glob("docs/*") + ["README.md", "Makefile"]
-    words = {"strace", *crates}
-    for path in [it for crate in crates for folder in ("src", "specs", "proofs") for it in files(crate, folder)] + [it for it in tools if os.path.isfile(it)]:
-        words.update(WORD.findall(path))
-        if not path.endswith((".md", ".pyc")):
-            words.update(WORD.findall(text_of(path)))
+    defined = {name for _, records in of_crate.values() for name in records}
+    names = names_there_are(crates)
     faults, count, crate = [], 0, ""
     for number, line in enumerate(text_of(PAGE).split("\n"), 1):
-        if it := SECTION.match(line):
-            crate = it[1]
+        if section := SECTION.match(line):
+            crate = section[1]
         elif line.startswith("#"):
             crate = ""
-        for name in [word for quoted in QUOTED.findall(line) for word in WORD.findall(quoted)]:
-            count += 1
-            if name not in words:
-                faults.append(f"{PAGE}:{number}: nothing is named {name}")
-        for name, names in NAMED.findall(line) if crate else []:
-            functions, records = of_crate[crate]
-            own = records.get(name) or functions.get(name) or functions.get(name.split("::")[-1], set())
-            is_clause = any(name in its for its in functions.values())
-            for one in QUOTED.findall(names):
-                if one not in own and not (is_clause and one in defined):
-                    faults.append(f"{PAGE}:{number}: {name} of {crate} has no {one}")
-    print("\n".join(faults) if faults else f"{count} names, all there")
+        found = [word for quoted in QUOTED.findall(line) for word in WORD.findall(quoted)]
+        count += len(found)
+        wrong = [f"nothing is named {word}" for word in found if word not in names]
+        wrong += wrong_clauses(line, crate, of_crate, defined) if crate else []
+        faults += [f"{PAGE}:{number}: {it}" for it in wrong]
+    print("\n".join(faults) if faults else f"proofs: {count} names, all there")
     return 1 if faults else 0
 
 
