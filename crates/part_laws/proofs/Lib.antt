@@ -18,6 +18,7 @@ pub mod OwnDeliveries
 pub mod OwnRows
 pub mod Payers
 pub mod Plain
+pub mod ReadInputs
 pub mod Records
 pub mod RoundMoments
 pub mod RoundsBeside

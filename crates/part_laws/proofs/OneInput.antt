@@ -1,7 +1,10 @@
 -- What a run in parts prints, beside what one run prints.
-use Rattle.std.proofs.Common.{◌≡◌, ◌<◌, ◌∙◌, ◌++◌, ℕ, List, [], ◌∷◌, length, map, refl, sym, ap, subst, arith}
+use Rattle.std.proofs.Common.{◌≡◌, ◌<◌, ◌∙◌, ◌++◌, ℕ, true, List, [], ◌∷◌, length, map, refl, sym, ap, subst, arith}
 use Rattle.std.specs.Prelude.{slice_index_or}
 use Rattle.std.specs.List.{flat_map}
+use Rattle.std.specs.List.Sorted.{IsStrictlySortedBy}
+use Rattle.std.specs.Map.{keys_of}
+use Rattle.std.specs.Ordering.{nat_cmp}
 use Rattle.std.proofs.lemmas.List.{get_or-map, length-map}
 use Rattle.book_texts.specs.Laws.{BooksHaveOneText}
 use Rattle.book_texts.specs.RunTexts.{IsRunText}
@@ -9,6 +12,7 @@ use Rattle.call_records.specs.Records.{AreRecords}
 use Rattle.call_records.specs.declared.call_record.CallRecord.{CallRecord}
 use Rattle.live_recovery.specs.Laws.{NoneIsRefused}
 use Rattle.part_laws.proofs.NoRefusals.{unrefused, unrefused_in}
+use Rattle.part_laws.proofs.ReadInputs.{InOrder, IsReadInput, read_input, rows_ordered}
 use Rattle.part_laws.proofs.ScriptParts.{scripts_joined, tables_joined}
 use Rattle.part_laws.specs.OneInput.{HasValuesOf, PartsPrintAsOneRun, PrintsAlike}
 use Rattle.part_laws.specs.Parts.{AreAsOfOneRun}
@@ -23,15 +27,17 @@ use Rattle.run_options.specs.declared.options.RunAsk.{RunAsk}
 use Rattle.run_options.specs.declared.options.RunOutput.{RunOutput}
 use Rattle.run_options.specs.declared.options.RunOutput.TheVariants as output
 use Rattle.run_parts.specs.Parts.{part_rows}
+use Rattle.run_texts.specs.Views.{rows_are_in_order}
 use Rattle.run_texts.specs.declared.script.ScriptRow.{ScriptRow}
 use Rattle.run_values.specs.Setups.{Setup}
+use Rattle.run_values.specs.declared.directory.OpeningCredit.{OpeningCredit}
 use Rattle.runs_core.specs.Hearing.{all_heard}
 use Rattle.runs_core.specs.Runs.{IsRun}
 use Rattle.shared_account.specs.Closed.{Closed}
 use Rattle.shared_account.specs.Seen.{StoodIn}
 use Rattle.ssf_core.specs.Laws.{InitialDpIsFirst}
 use Rattle.ssf_core.specs.declared.config.SsfConfig.{SsfConfig}
-use Rattle.tariff_core.specs.Laws.{OnePrefixCounts}
+use Rattle.tariff_core.specs.Laws.{IsProper, OnePrefixCounts, ReadTariffsAreProper}
 
 joined_lists : {X Y : Type 0} (f : X → List Y) (xs : List X) → flat_map (λ own. own) (map f xs) ≡ flat_map f xs
 joined_lists f [] = refl
@@ -73,10 +79,22 @@ module _ (ask : RunAsk) (input : List ℕ) (ran : RunSaid) (whole : IsRunOf ask 
       records = subst (λ (s : Setup). AreRecords (run_given s is.given is.books) kept.calls) values.setup are;
     }
 
-pub parts_print : SomeRowsGiveTheirItems → BooksHaveOneText → InitialDpIsFirst → OnePrefixCounts → PartsPrintAsOneRun
-parts_print own_items one_text first single asked ask input text refusals events ran parts whole proper sorted ordered one values none none_too =
+pub parts_print : SomeRowsGiveTheirItems → BooksHaveOneText → InitialDpIsFirst → OnePrefixCounts → ReadTariffsAreProper → PartsPrintAsOneRun
+parts_print own_items one_text first single read_proper asked ask input text refusals events ran parts whole one values none none_too =
     by_output ask.output parts.printed whole.printed (λ part d within. (parts.each part d within).calls)
   where
+    read : IsReadInput whole.said
+    read = read_input input whole.said whole.read
+
+    proper : IsProper whole.are_books.setup.tariff
+    proper = subst IsProper (sym whole.are_books.of_input.tariff) (read_proper whole.said.tariff read.tariff)
+
+    sorted : IsStrictlySortedBy nat_cmp (keys_of whole.are_books.setup.accounts)
+    sorted = subst (λ (a : List (ℕ × OpeningCredit)). IsStrictlySortedBy nat_cmp (keys_of a)) (sym whole.are_books.of_input.accounts) read.accounts
+
+    ordered : rows_are_in_order 0 whole.given_by.rows ≡ true
+    ordered = rows_ordered 0 whole.given_by.rows (subst (InOrder 0) (sym whole.given_by.says) read.script)
+
     none_of : NoneIsRefused (all_heard whole.heard)
     none_of = unrefused (all_heard whole.heard) ran.refusals whole.refused none_too
 

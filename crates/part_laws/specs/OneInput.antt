@@ -1,8 +1,5 @@
 -- One input, played in parts and by one run.
-use Rattle.std.specs.Prelude.{◌≡◌, ◌<◌, ℕ, true, List, length, ⊤}
-use Rattle.std.specs.List.Sorted.{IsStrictlySortedBy}
-use Rattle.std.specs.Map.{keys_of}
-use Rattle.std.specs.Ordering.{nat_cmp}
+use Rattle.std.specs.Prelude.{◌≡◌, ◌<◌, ℕ, List, length, ⊤}
 use Rattle.part_laws.specs.ScriptParts.{payer_in_rows}
 use Rattle.run_command.specs.Answers.{IsRunOf, RunSaid}
 use Rattle.run_command.specs.InParts.{IsPartOf, IsRunInParts, PartSaid}
@@ -14,8 +11,6 @@ use Rattle.run_options.specs.declared.options.RunOutput.{RunOutput}
 use Rattle.run_options.specs.declared.options.RunOutput.TheVariants as output
 use Rattle.run_parts.specs.Parts.{part_rows}
 use Rattle.run_texts.specs.Inputs.{RunInput}
-use Rattle.run_texts.specs.Views.{rows_are_in_order}
-use Rattle.tariff_core.specs.Laws.{IsProper}
 
 -- a part was played with the values that one run of the input has: its setup, its configuration of gsmSSFs, and of its rows those of the part
 pub record HasValuesOf {ask : RunAsk} {said : RunInput} {firsts : List ℕ} {part : ℕ} {kept : PartSaid} (is : IsPartOf ask said firsts part kept) {input : List ℕ} {ran : RunSaid} (whole : IsRunOf ask input ran) : Type 0 where
@@ -34,6 +29,5 @@ PrintsAlike (output.Trace clock) text other = ⊤
 abbrev pub PartsPrintAsOneRun : Type 0
 PartsPrintAsOneRun =
     (asked : ℕ) (ask : RunAsk) (input text : List ℕ) (refusals : Refusals) (events : List UnplacedEvent) (ran : RunSaid) (parts : IsRunInParts asked ask input text refusals events) (whole : IsRunOf ask input ran)
-    → IsProper whole.are_books.setup.tariff → IsStrictlySortedBy nat_cmp (keys_of whole.are_books.setup.accounts) → rows_are_in_order 0 whole.given_by.rows ≡ true → ask.workers ≡ 1
-    → ((part : ℕ) (d : PartSaid) (within : part < length parts.parts) → HasValuesOf (parts.each part d within) whole)
+    → ask.workers ≡ 1 → ((part : ℕ) (d : PartSaid) (within : part < length parts.parts) → HasValuesOf (parts.each part d within) whole)
     → refusals ≡ none_refused → ran.refusals ≡ none_refused → PrintsAlike ask.output text ran.text

@@ -14,7 +14,7 @@ ghost use Rattle.part_laws.specs.Scripts.{ScriptsHaveOneRun};
 
 use book_texts::books_have_one_text;
 use ssf_core::{initial_dp_is_first, timers_run_one_way};
-use tariff_core::routes_are_single;
+use tariff_core::{read_tariffs_are_proper, routes_are_single};
 
 /// Accounts don't interfere. One run of one worker is given items, and another over the same setup
 /// just those of some accounts: the recharges of these, and the messages of the calls that their
@@ -121,4 +121,5 @@ pub fn parts_print_as_one_run()
     books_have_one_text();
     initial_dp_is_first();
     routes_are_single();
+    read_tariffs_are_proper();
 }
