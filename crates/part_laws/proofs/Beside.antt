@@ -34,6 +34,7 @@ pub record IsPartPlay (choice : Choice) (whole part : Play) (queue own_queue : L
   pub network : IsNetworkOf choice whole.network part.network
   pub delay : whole.delay ≡ part.delay
   pub left : part.left ≡ chosen_rows choice whole.left
+  pub unplaced : part.unplaced ≡ chosen_rows choice whole.unplaced
   pub queue_is : own_queue ≡ chosen_deliveries choice queue
 
 -- operations come in this order, from a moment on
@@ -89,6 +90,7 @@ RoundsAreFollowed =
 pub record HasEnded (part its : Play) : Type 0 where
   pub ended : its.ended ≡ true
   pub given : its.network.given ≡ part.network.given
+  pub unplaced : its.unplaced ≡ part.unplaced
 
 abbrev pub EndsAreFollowed : Type 0
 EndsAreFollowed =

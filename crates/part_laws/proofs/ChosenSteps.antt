@@ -13,16 +13,19 @@ use Rattle.part_laws.specs.Chosen.{Choice, chosen, is_chosen}
 use Rattle.part_laws.specs.Rows.{is_chosen_happening}
 use Rattle.run_texts.specs.declared.script.Happening.{Happening}
 use Rattle.run_texts.specs.declared.script.Happening.TheVariants as row
+use Rattle.run_texts.specs.declared.script.ScriptRow.{ScriptRow}
 use Rattle.run_values.specs.declared.post.Body.{Body}
 use Rattle.run_values.specs.declared.post.Body.TheVariants as body
-use Rattle.script_player.proofs.OneSsf.{AreSsfsAlike, HaveSsfsAlike, ShownAlike, gives_alike, happens_alike}
+use Rattle.script_player.proofs.OneSsf.{AreSsfsAlike, HaveSsfsAlike, ShownAlike, gives_alike, happens_alike, row_fault_alike}
 use Rattle.script_player.specs.Chains.{Chain}
 use Rattle.script_player.specs.Dues.{ssf_of}
 use Rattle.script_player.specs.Networks.{Shown}
 use Rattle.script_player.specs.Posts.{post_of, posts_of}
 use Rattle.script_player.specs.Steps.{Delivers, GetsSsf, FeedsSsf, GivesTo, HappensAt, PlaysRow, Recharges, SendsItems, Sets, StartsCall, Waits}
+use Rattle.script_player.specs.Unplaced.{fault_given, fault_of_feed, fault_of_row, unplaced_in, where_refused}
 use Rattle.ssf_core.specs.Calls.{View}
 use Rattle.ssf_core.specs.OneWay.{TimersRunOneWay}
+use Rattle.ssf_core.specs.declared.fault.SsfFault.{SsfFault}
 use Rattle.ssf_core.specs.declared.item.Item.{Item}
 use Rattle.ssf_core.specs.declared.item.Item.TheVariants as sent
 use Rattle.ssf_core.specs.declared.item.Out.{Out}
@@ -121,16 +124,24 @@ module _ (choice : Choice) where
     same_whole = sends.same_whole;
   }
 
-  gives_own : (now call : ℕ) (input : _) (before after : Shown) → choice.calls call ≡ true → GivesTo now call input before after → GivesTo now call input (without_others before) (without_others after)
-  gives_own now call input before after own gives =
-      subst (λ (f : Option View). MatchOption f (without_others after ≡ without_others before) (FeedsSsf (without_others before) (without_others after) now call input)) (sym (own_ssf call before.ssfs own))
+  -- and by the same fault, where there is one
+  gives_own_too : (now call : ℕ) (input : _) (before after : Shown) → choice.calls call ≡ true → (gives : GivesTo now call input before after)
+      → (its : GivesTo now call input (without_others before) (without_others after)) × (fault_given now call input (without_others before) (without_others after) its ≡ fault_given now call input before after gives)
+  gives_own_too now call input before after own gives =
+      subst (λ (f : Option View).
+        (its : MatchOption f (without_others after ≡ without_others before) (FeedsSsf (without_others before) (without_others after) now call input))
+        × (fault_of_feed f now call input (without_others before) (without_others after) its ≡ fault_given now call input before after gives)) (sym (own_ssf call before.ssfs own))
       (by_ssf (ssf_of before.ssfs call) gives)
     where
-      by_ssf : (found : Option View) → MatchOption found (after ≡ before) (FeedsSsf before after now call input)
-          → MatchOption found (without_others after ≡ without_others before) (FeedsSsf (without_others before) (without_others after) now call input)
-      by_ssf None same = ap without_others same
+      by_ssf : (found : Option View) (gives : MatchOption found (after ≡ before) (FeedsSsf before after now call input))
+          → (its : MatchOption found (without_others after ≡ without_others before) (FeedsSsf (without_others before) (without_others after) now call input))
+          × (fault_of_feed found now call input (without_others before) (without_others after) its ≡ fault_of_feed found now call input before after gives)
+      by_ssf None same = (ap without_others same, refl)
       by_ssf (Some view) gives =
-          record { new = gives.new; sent = gives.sent; is_given = gives.is_given; sends = sends_own before after call gives.new gives.sent own gives.sends }
+          (record { new = gives.new; sent = gives.sent; is_given = gives.is_given; sends = sends_own before after call gives.new gives.sent own gives.sends }, refl)
+
+  gives_own : (now call : ℕ) (input : _) (before after : Shown) → choice.calls call ≡ true → GivesTo now call input before after → GivesTo now call input (without_others before) (without_others after)
+  gives_own now call input before after own gives = (gives_own_too now call input before after own gives).0
 
   starts_own : (now call : ℕ) (calling called : Number) (before after : Shown) → choice.calls call ≡ true → StartsCall now call calling called before after
       → StartsCall now call calling called (without_others before) (without_others after)
@@ -249,3 +260,50 @@ module _ (choice : Choice) where
           → Chain Step part (cond b (x ∷ filter own xs) (filter own xs)) its → IsNetworkOf choice after its
       by_own later true mine too = later too.0 too.1.1 (each.both x whole is.0 part too.0 mine is.1.0 too.1.0 network)
       by_own later false not too = later part too (each.alone x whole is.0 part not is.1.0 network)
+
+  -- ---- the rows that had no place
+
+  abbrev owns : ScriptRow → Bool
+  owns row = is_chosen_happening choice row.what
+
+  row_missed : TimersRunOneWay → (at : ℕ) (what : Happening) (whole after part its : Shown) → is_chosen_happening choice what ≡ true → (is : HappensAt at what whole after) (too : HappensAt at what part its)
+      → IsNetworkOf choice whole part → fault_of_row at what whole after is ≡ fault_of_row at what part its too
+  row_missed one_way at (row.Start call calling called) whole after part its own is too network = refl
+  row_missed one_way at (row.Meets call event) whole after part its own is too network =
+      let ours = gives_own_too at call _ whole after own is in
+      sym ours.1 ∙ row_fault_alike one_way at (row.Meets call event) (without_others whole) (without_others after) part its ours.0 too (shown_alike whole part network)
+  row_missed one_way at (row.Recharge account amount until) whole after part its own is too network = refl
+
+  own_refused : (row : ScriptRow) (fault : Option SsfFault) → owns row ≡ true → filter owns (where_refused row fault) ≡ where_refused row fault
+  own_refused row None own = refl
+  own_refused row (Some fault) own = rw own refl
+
+  none_refused : (row : ScriptRow) (fault : Option SsfFault) → owns row ≡ false → filter owns (where_refused row fault) ≡ []
+  none_refused row None not = refl
+  none_refused row (Some fault) not = rw not refl
+
+  pub rows_missed : TimersRunOneWay → (rows : List ScriptRow) (whole after part its : Shown) (is : Chain PlaysRow whole rows after) (too : Chain PlaysRow part (filter owns rows) its)
+      → IsNetworkOf choice whole part → unplaced_in part its (filter owns rows) too ≡ filter owns (unplaced_in whole after rows is)
+  rows_missed one_way [] whole after part its is too network = refl
+  rows_missed one_way (row ∷ rows) whole after part its is too network =
+      by_own (λ next too network. rows_missed one_way rows is.0 after next its is.1.1 too network) (owns row) refl too
+    where
+      steps : IsFollowedBy PlaysRow owns
+      steps = plays_followed one_way
+
+      split : filter owns (unplaced_in whole after (row ∷ rows) is)
+          ≡ filter owns (where_refused row (fault_of_row row.at row.what whole is.0 is.1.0)) ++ filter owns (unplaced_in is.0 after rows is.1.1)
+      split = filter-append owns (where_refused row (fault_of_row row.at row.what whole is.0 is.1.0)) (unplaced_in is.0 after rows is.1.1)
+
+      by_own : ((next : Shown) (too : Chain PlaysRow next (filter owns rows) its) → IsNetworkOf choice is.0 next → unplaced_in next its (filter owns rows) too ≡ filter owns (unplaced_in is.0 after rows is.1.1))
+          → (b : Bool) → owns row ≡ b → (too : Chain PlaysRow part (cond b (row ∷ filter owns rows) (filter owns rows)) its)
+          → unplaced_in part its (cond b (row ∷ filter owns rows) (filter owns rows)) too ≡ filter owns (unplaced_in whole after (row ∷ rows) is)
+      by_own later true mine too =
+          let fault = fault_of_row row.at row.what whole is.0 is.1.0 in
+          let same : fault ≡ fault_of_row row.at row.what part too.0 too.1.0 = row_missed one_way row.at row.what whole is.0 part too.0 mine is.1.0 too.1.0 network in
+          let rest = later too.0 too.1.1 (steps.both row whole is.0 part too.0 mine is.1.0 too.1.0 network) in
+          ap (λ (f : Option SsfFault). where_refused row f ++ unplaced_in too.0 its (filter owns rows) too.1.1) (sym same) ∙ ap (λ l. where_refused row fault ++ l) rest
+          ∙ ap (λ l. l ++ filter owns (unplaced_in is.0 after rows is.1.1)) (sym (own_refused row fault mine)) ∙ sym split
+      by_own later false not too =
+          later part too (steps.alone row whole is.0 part not is.1.0 network)
+          ∙ ap (λ l. l ++ filter owns (unplaced_in is.0 after rows is.1.1)) (sym (none_refused row (fault_of_row row.at row.what whole is.0 is.1.0) not)) ∙ sym split

@@ -195,6 +195,7 @@ passes_on choice after part own_queue before added answers adds passes =
       network = passes.beside.network;
       delay = passes.beside.delay;
       left = passes.beside.left;
+      unplaced = passes.beside.unplaced;
       queue_is = passes.beside.queue_is ∙ sym (append-nil (D after.queue)) ∙ ap (λ l. D after.queue ++ l) (sym nothing)
           ∙ sym (filter-append (λ (d : Delivery). choice.calls d.call) after.queue (deliveries_of delay after.network.given answers));
     }
@@ -215,6 +216,7 @@ goes_on choice after its before own_before added answers own_answers adds own_ad
       network = beside.network;
       delay = beside.delay;
       left = beside.left;
+      unplaced = beside.unplaced;
       queue_is = ap (λ q. q ++ own_sent) beside.queue_is ∙ ap (λ l. D after.queue ++ l) same
           ∙ sym (filter-append (λ (d : Delivery). choice.calls d.call) after.queue (deliveries_of delay after.network.given answers));
     }

@@ -11,7 +11,7 @@ use Rattle.part_laws.proofs.OneRun.{Grown, Rounds, rounds_grow, take_front}
 use Rattle.part_laws.proofs.OwnDeliveries.{AddsAnswered, between_on, each_more, goes_on, passes_on}
 use Rattle.part_laws.specs.Chosen.{AreByAccount, Choice, answers_for, chosen, is_chosen}
 use Rattle.part_laws.specs.Numbers.{unnumbered_answer}
-use Rattle.part_laws.specs.Rows.{SomeRowsGiveTheirItems, chosen_rows}
+use Rattle.part_laws.specs.Rows.{GivesItsOwn, SomeRowsGiveTheirItems, chosen_rows}
 use Rattle.run_texts.specs.Views.{rows_are_in_order}
 use Rattle.run_texts.specs.declared.script.ScriptRow.{ScriptRow}
 use Rattle.run_values.specs.Setups.{Setup}
@@ -116,6 +116,7 @@ fresh_beside choice config delay rows answers replies order =
       network = record { config = refl; given = refl; ssfs = record { own = λ call own. tt; no_other = λ call other. refl } };
       delay = refl;
       left = refl;
+      unplaced = refl;
       queue_is = refl;
     } in
     record {
@@ -194,7 +195,7 @@ module _ (followed : RoundsAreFollowed) (ends : EndsAreFollowed) (setup : Setup)
 
   rounds_beside : (heard others : List (List Answer)) (before_this again : List Answer) (old it : Play) (moment : ℕ) → Rounds before_this old heard new → Rounds again it others last
       → IsBeside choice old it (first_heard heard) (first_heard others) moment → all ≡ before_this ++ all_heard heard → own_all ≡ again ++ all_heard others
-      → last.network.given ≡ chosen choice new.network.given
+      → GivesItsOwn choice new.network.given last.network.given new.unplaced last.unplaced
   rounds_beside [] others before_this again old it moment rounds too state split split_too = absurd rounds
   rounds_beside (answers ∷ heard) [] before_this again old it moment rounds too state split split_too = absurd too
   rounds_beside (answers ∷ []) (replies ∷ []) before_this again old it moment rounds too state split split_too =
@@ -202,7 +203,10 @@ module _ (followed : RoundsAreFollowed) (ends : EndsAreFollowed) (setup : Setup)
       let there = too.0.hears_them in
       let end = has_ended here.more old new answers here.turn rounds.1 in
       let its_end = ends choice old new it last answers replies moment there.more end there.turn state.between state.beside in
-      its_end.given ∙ state.beside.network.given ∙ ap (λ (s : Shown). chosen choice s.given) (sym end.same_network)
+      record {
+        items = its_end.given ∙ state.beside.network.given ∙ ap (λ (s : Shown). chosen choice s.given) (sym end.same_network);
+        unplaced_are = its_end.unplaced ∙ state.beside.unplaced ∙ ap (chosen_rows choice) (sym end.same_unplaced);
+      }
   rounds_beside (answers ∷ []) (replies ∷ also ∷ others) before_this again old it moment rounds too state split split_too =
       let here = rounds.0.hears_them in
       let there = too.1.hears_them in
@@ -252,4 +256,4 @@ rows_give_theirs followed ends setup choice config delay rows heard own_heard gi
     (subst (AreByAccount setup choice) (sym play.gives) by) (subst R (sym play.gives) run) (subst S (sym own_play.gives) own_run)
     heard own_heard [] [] (fresh_play config delay rows) (fresh_play config delay (chosen_rows choice rows)) 0 play.rounds own_play.rounds
     (fresh_beside choice config delay rows (first_heard heard) (first_heard own_heard) order) refl refl in
-    sym own_play.gives ∙ same ∙ ap (chosen choice) play.gives
+    record { items = sym own_play.gives ∙ same.items ∙ ap (chosen choice) play.gives; unplaced_are = same.unplaced_are }

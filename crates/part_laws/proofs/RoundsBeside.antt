@@ -9,7 +9,7 @@ use Rattle.std.specs.Option.{ForSome}
 use Rattle.std.specs.Ordering.{nat_cmp}
 use Rattle.part_laws.proofs.Beside.{EndsAreFollowed, HasEnded, IsAdded, IsBetween, IsFollowed, IsNetworkOf, IsPartPlay, RoundsAreFollowed, chosen_deliveries}
 use Rattle.part_laws.proofs.ChosenFronts.{all_from, at_now, ComesInOrder, in_order_queue, in_order_rows, kept_calls, kept_order, kept_split, lower, lower_all, next_delivery_from, next_row_from, of_delivery, of_row, order_from, queue_later, queue_rises, queue_starts, raise_all, rest_in_order, rows_in_order, rows_later, rows_start, starts_of, timer_of_all}
-use Rattle.part_laws.proofs.ChosenSteps.{chain_followed, delivers_followed, plays_followed, waits_followed}
+use Rattle.part_laws.proofs.ChosenSteps.{chain_followed, delivers_followed, plays_followed, rows_missed, waits_followed}
 use Rattle.part_laws.proofs.LeastMoments.{From, IsLeast, least_of}
 use Rattle.part_laws.proofs.RoundMoments.{AreTimely, GrowsAt, chain_at, delivers_at, expires_later, grows_both, happens_at, waits_at}
 use Rattle.part_laws.specs.Chosen.{Choice, chosen, is_chosen}
@@ -24,6 +24,7 @@ use Rattle.script_player.specs.Plays.{Play}
 use Rattle.script_player.specs.Rounds.{IsEnd, IsRound, IsTurn, waiting}
 use Rattle.script_player.specs.Rows.{next_row}
 use Rattle.script_player.specs.Steps.{Delivers, DeliversDue, PlaysDue, PlaysRow, RunsTimers, Waits}
+use Rattle.script_player.specs.Unplaced.{unplaced_in}
 use Rattle.ssf_core.specs.Deliveries.{next_delivery}
 use Rattle.ssf_core.specs.OneWay.{TimersRunOneWay}
 use Rattle.ssf_core.specs.declared.deliveries.Delivery.{Delivery}
@@ -111,7 +112,11 @@ record GoesBy (now : ℕ) (before after : Shown) (queue queue_left : List Delive
   pub plays : PlaysDue now delivered played rows rows_left
   pub runs : RunsTimers now played after
 
-goes_in : (before after : Play) (answers : List Answer) (round : IsRound before after answers) → GoesBy round.now before.network after.network (waiting before answers) after.queue before.left after.left
+-- the rows that had no place
+abbrev missed_by : {now : ℕ} {before after : Shown} {queue queue_left : List Delivery} {rows rows_left : List ScriptRow} → GoesBy now before after queue queue_left rows rows_left → List ScriptRow
+missed_by goes = unplaced_in goes.delivered goes.played goes.plays.played goes.plays.plays
+
+abbrev goes_in : (before after : Play) (answers : List Answer) (round : IsRound before after answers) → GoesBy round.now before.network after.network (waiting before answers) after.queue before.left after.left
 goes_in before after answers round = record { delivered = round.delivered; played = round.played; delivers = round.delivers; plays = round.plays; runs = round.runs }
 
 no_calls : IsStrictlySortedBy nat_cmp []
@@ -119,7 +124,7 @@ unfolding IsStrictlySortedBy
 no_calls = tt
 
 -- where nothing is due by now, a play waits
-waits_by : (now : ℕ) (play : Play) (queue : List Delivery) → NothingBefore (now + 1) play queue → GoesBy now play.network play.network queue queue play.left play.left
+abbrev waits_by : (now : ℕ) (play : Play) (queue : List Delivery) → NothingBefore (now + 1) play queue → GoesBy now play.network play.network queue queue play.left play.left
 waits_by now play queue none = record {
   delivered = play.network;
   played = play.network;
@@ -151,10 +156,16 @@ record StandsBeside (choice : Choice) (after its : Shown) (queue own_queue : Lis
   pub queue_is : own_queue ≡ chosen_deliveries choice queue
   pub rows_are : own_rows ≡ chosen_rows choice rows
 
+-- so they stand again, and the rows of some that had no place are those of all
+record GoesBeside (choice : Choice) {now : ℕ} {whole after part its : Shown} {queue queue_left own_queue own_queue_left : List Delivery} {rows rows_left own_rows own_rows_left : List ScriptRow}
+    (goes : GoesBy now whole after queue queue_left rows rows_left) (too : GoesBy now part its own_queue own_queue_left own_rows own_rows_left) : Type 0 where
+  pub stands : StandsBeside choice after its queue_left own_queue_left rows_left own_rows_left
+  pub missed : missed_by too ≡ chosen_rows choice (missed_by goes)
+
 module _ (one_way : TimersRunOneWay) (choice : Choice) where
   goes_beside : (now last : ℕ) (whole after part its : Shown) (queue queue_left own_queue own_queue_left : List Delivery) (rows rows_left own_rows own_rows_left : List ScriptRow)
-      → GoesBy now whole after queue queue_left rows rows_left → GoesBy now part its own_queue own_queue_left own_rows own_rows_left → ComesInOrder of_delivery last queue → ComesInOrder of_row last rows
-      → StandsBeside choice whole part queue own_queue rows own_rows → StandsBeside choice after its queue_left own_queue_left rows_left own_rows_left
+      → (goes : GoesBy now whole after queue queue_left rows rows_left) (too : GoesBy now part its own_queue own_queue_left own_rows own_rows_left) → ComesInOrder of_delivery last queue
+      → ComesInOrder of_row last rows → StandsBeside choice whole part queue own_queue rows own_rows → GoesBeside choice goes too
   goes_beside now last whole after part its queue queue_left own_queue own_queue_left rows rows_left own_rows own_rows_left goes too queue_order row_order beside =
       let picks : Delivery → Bool = λ delivery. choice.calls delivery.call in
       let picks_row : ScriptRow → Bool = λ row. is_chosen_happening choice row.what in
@@ -176,7 +187,9 @@ module _ (one_way : TimersRunOneWay) (choice : Choice) where
       let network : IsNetworkOf choice after its =
       chain_followed choice (Waits now) choice.calls (waits_followed choice one_way now) goes.runs.calls goes.played after too.played its
       goes.runs.waits (subst (λ (l : List ℕ). Chain (Waits now) too.played l its) (sym calls) too.runs.waits) played in
-      record { network = network; queue_is = sym queues.1; rows_are = sym fronts.1 }
+      let missed = subst (λ (l : List ScriptRow). (c : Chain PlaysRow too.delivered l too.played) → unplaced_in too.delivered too.played l c ≡ filter picks_row (missed_by goes)) fronts.0
+      (λ c. rows_missed choice one_way plays.played goes.delivered goes.played too.delivered too.played plays.plays c delivered) its_plays.plays in
+      record { stands = record { network = network; queue_is = sym queues.1; rows_are = sym fronts.1 }; missed = missed }
 
 -- ---- what a round gives, and how it leaves a play
 
@@ -243,17 +256,30 @@ module _ (whole after : Play) (answers : List Answer) (last : ℕ) (round : IsRo
 
 module _ (one_way : TimersRunOneWay) (choice : Choice) (whole after part its : Play) (answers own_answers : List Answer) (last : ℕ) (round : IsRound whole after answers)
     (between : IsBetween whole (waiting whole answers) last) (beside : IsPartPlay choice whole part (waiting whole answers) (waiting part own_answers)) where
-  goes_with : (after_part : Shown) (queue_left : List Delivery) (rows_left : List ScriptRow) → GoesBy round.now part.network after_part (waiting part own_answers) queue_left part.left rows_left
-      → StandsBeside choice after.network after_part after.queue queue_left after.left rows_left
+  goes_with : (after_part : Shown) (queue_left : List Delivery) (rows_left : List ScriptRow) (goes : GoesBy round.now part.network after_part (waiting part own_answers) queue_left part.left rows_left)
+      → GoesBeside choice (goes_in whole after answers round) goes
   goes_with after_part queue_left rows_left goes =
       goes_beside one_way choice round.now last whole.network after.network part.network after_part (waiting whole answers) after.queue (waiting part own_answers) queue_left whole.left after.left part.left rows_left
       (goes_in whole after answers round) goes (in_order_queue last (waiting whole answers) between.rises) (in_order_rows last whole.left between.rows)
       (record { network = beside.network; queue_is = beside.queue_is; rows_are = beside.left })
 
+  -- the same, whatever the moment of its round is called
+  record TurnBeside (after_part : Shown) (queue_left : List Delivery) (rows_left : List ScriptRow) (moment : ℕ)
+      (goes : GoesBy moment part.network after_part (waiting part own_answers) queue_left part.left rows_left) : Type 0 where
+    stands : StandsBeside choice after.network after_part after.queue queue_left after.left rows_left
+    missed : missed_by goes ≡ chosen_rows choice (missed_by (goes_in whole after answers round))
+
+  all_missed : (own : List ScriptRow) → own ≡ chosen_rows choice (missed_by (goes_in whole after answers round)) → part.unplaced ++ own ≡ chosen_rows choice after.unplaced
+  all_missed own missed =
+      let new = missed_by (goes_in whole after answers round) in
+      ap (λ l. l ++ own) beside.unplaced ∙ ap (λ l. chosen_rows choice whole.unplaced ++ l) missed
+      ∙ sym (filter-append (λ (row : ScriptRow). is_chosen_happening choice row.what) whole.unplaced new) ∙ ap (chosen_rows choice) (sym round.unplaced)
+
   passes_over : NothingBefore (round.now + 1) part (waiting part own_answers) → IsFollowed choice whole after part its own_answers
   passes_over none =
       let goes = grows whole after answers last round between in
-      let stands = goes_with part.network (waiting part own_answers) part.left (waits_by round.now part (waiting part own_answers) none) in
+      let turn = goes_with part.network (waiting part own_answers) part.left (waits_by round.now part (waiting part own_answers) none) in
+      let stands = turn.stands in
       let items : chosen choice whole.network.given ++ chosen choice goes.added ≡ chosen choice whole.network.given ++ [] =
       sym (filter-append (λ (item : ℕ × Body). is_chosen choice item.1) whole.network.given goes.added) ∙ ap (chosen choice) (sym goes.grown) ∙ sym stands.network.given ∙ beside.network.given
       ∙ sym (append-nil (chosen choice whole.network.given)) in
@@ -264,15 +290,22 @@ module _ (one_way : TimersRunOneWay) (choice : Choice) (whole after part its : P
         between = stays_between whole after answers last round between;
         follows = inl (record {
           none = append_cancel_left (chosen choice whole.network.given) (chosen choice goes.added) [] items;
-          beside = record { network = stands.network; delay = round.same_delay ∙ beside.delay; left = stands.rows_are; queue_is = stands.queue_is };
+          beside = record {
+            network = stands.network;
+            delay = round.same_delay ∙ beside.delay;
+            left = stands.rows_are;
+            unplaced = sym (append-nil part.unplaced) ∙ all_missed [] turn.missed;
+            queue_is = stands.queue_is;
+          };
         });
       }
 
   goes_along : (its_round : IsRound part its own_answers) → its_round.now ≡ round.now → IsFollowed choice whole after part its own_answers
   goes_along its_round same =
-      let goes : GoesBy round.now part.network its.network (waiting part own_answers) its.queue part.left its.left =
-      subst (λ (n : ℕ). GoesBy n part.network its.network (waiting part own_answers) its.queue part.left its.left) same (goes_in part its own_answers its_round) in
-      let stands = goes_with its.network its.queue its.left goes in
+      let turn : TurnBeside its.network its.queue its.left its_round.now (goes_in part its own_answers its_round) =
+      subst (λ (n : ℕ). (goes : GoesBy n part.network its.network (waiting part own_answers) its.queue part.left its.left) → TurnBeside its.network its.queue its.left n goes) (sym same)
+      (λ goes. let turn = goes_with its.network its.queue its.left goes in record { stands = turn.stands; missed = turn.missed }) (goes_in part its own_answers its_round) in
+      let stands = turn.stands in
       record {
         now = round.now;
         added = (grows whole after answers last round between).added;
@@ -280,7 +313,13 @@ module _ (one_way : TimersRunOneWay) (choice : Choice) (whole after part its : P
         between = stays_between whole after answers last round between;
         follows = inr (record {
           running = its_round.running;
-          beside = record { network = stands.network; delay = round.same_delay ∙ beside.delay ∙ sym its_round.same_delay; left = stands.rows_are; queue_is = stands.queue_is };
+          beside = record {
+            network = stands.network;
+            delay = round.same_delay ∙ beside.delay ∙ sym its_round.same_delay;
+            left = stands.rows_are;
+            unplaced = its_round.unplaced ∙ all_missed (missed_by (goes_in part its own_answers its_round)) turn.missed;
+            queue_is = stands.queue_is;
+          };
         });
       }
 
@@ -325,7 +364,7 @@ pub ends_followed : EndsAreFollowed
 ends_followed choice whole after part its answers own_answers last more end turn between beside = by_turn more turn
   where
     by_turn : (more : Bool) → IsTurn more part its own_answers → HasEnded part its
-    by_turn false its_end = record { ended = its_end.ended; given = ap (λ (s : Shown). s.given) its_end.same_network }
+    by_turn false its_end = record { ended = its_end.ended; given = ap (λ (s : Shown). s.given) its_end.same_network; unplaced = its_end.same_unplaced }
     by_turn true its_round =
         let none = nothing_left whole after answers last end (in_order_queue last (waiting whole answers) between.rises) in
         let its_none = part_from choice (HORIZON + 1) whole part (waiting whole answers) (waiting part own_answers) none beside in

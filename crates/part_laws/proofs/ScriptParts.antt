@@ -55,8 +55,9 @@ scripts_joined own_items one_text first setup config delay firsts rows heard giv
     λ part d within.
     let its : PlaysItsRows setup config delay firsts rows part (slice_index_or parts part d) = played.each part d within in
     let choice = choice_of firsts payer part in
-    let same : its.given ≡ chosen choice given = own_items setup choice config delay rows heard its.heard given its.given books its.books proper ordered
+    let gives = own_items setup choice config delay rows heard its.heard given its.given books its.books proper ordered
     (all_by_account firsts setup payer part given paid) play (own_play firsts payer part config delay rows its.heard its.given its.play) run its.run none its.none in
+    let same : its.given ≡ chosen choice given = gives.items in
     record {
       answers = all_heard its.heard;
       books = its.books;
@@ -90,8 +91,9 @@ tables_joined own_items first single setup config delay firsts rows heard given 
     let its : RecordsItsRows setup config delay firsts rows part (slice_index_or parts part d) = played.each part d within in
     let choice = choice_of firsts payer part in
     let by : AreByAccount setup choice given = all_by_account firsts setup payer part given paid in
-    let same : its.given ≡ chosen choice given = own_items setup choice config delay rows heard its.heard given its.given books its.books proper ordered by play
+    let gives = own_items setup choice config delay rows heard its.heard given its.given books its.books proper ordered by play
     (own_play firsts payer part config delay rows its.heard its.given its.play) run its.run none its.none in
+    let same : its.given ≡ chosen choice given = gives.items in
     let own_run = subst (λ (g : List (ℕ × Body)). IsRun StoodIn setup 1 g (all_heard its.heard) its.books) same its.run in
     let apart = accounts_apart setup choice given (all_heard heard) (all_heard its.heard) books its.books proper by run own_run none its.none in
     let records = records_alike setup choice given books its.books whole.calls by apart.books_are whole.are in
