@@ -9,6 +9,7 @@ pub mod FrontsApart
 pub mod Joined
 pub mod LeastMoments
 pub mod Lines
+pub mod Merged
 pub mod MergedTables
 pub mod NoRefusals
 pub mod OneInput

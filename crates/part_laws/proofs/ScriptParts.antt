@@ -7,7 +7,8 @@ use Rattle.call_records.specs.Records.{AreRecords}
 use Rattle.call_records.specs.declared.call_record.CallRecord.{CallRecord}
 use Rattle.part_laws.proofs.Apart.{accounts_apart}
 use Rattle.part_laws.proofs.Joined.{all_by_account, parts_joined, rise}
-use Rattle.part_laws.proofs.MergedTables.{all_joined, ascending_rise, home_within, numbered_rows, one_order, row_of, rows_at, rows_rise, same_table}
+use Rattle.part_laws.proofs.Merged.{all_joined, at_home, one_order}
+use Rattle.part_laws.proofs.MergedTables.{ascending_rise, home_within, number_of, numbered_rows, row_of, rows_rise, same_table}
 use Rattle.part_laws.proofs.OneRecord.{records_one}
 use Rattle.part_laws.proofs.Payers.{are_paid}
 use Rattle.part_laws.proofs.Records.{records_alike}
@@ -69,14 +70,14 @@ scripts_joined own_items one_text first setup config delay firsts rows heard giv
 
 -- the rows that are printed of the calls of a part
 own_shown : (clock : _) (firsts : List ℕ) (payer : ℕ → Option ℕ) (part : ℕ) (calls : List CallRecord)
-    → map (row_of clock) (filter (λ call. part_by firsts (payer call.call) call.call == part) calls) ≡ rows_at clock (λ call. part_by firsts (payer call) call) (map (row_of clock) calls) part
+    → map (row_of clock) (filter (λ call. part_by firsts (payer call.call) call.call == part) calls) ≡ at_home number_of (row_of clock) (λ call. part_by firsts (payer call) call) (map (row_of clock) calls) part
 own_shown clock firsts payer part [] = refl
 own_shown clock firsts payer part (call ∷ calls) = by_own (part_by firsts (payer call.call) call.call == part) (own_shown clock firsts payer part calls)
   where
     by_own : (b : Bool)
-        → map (row_of clock) (filter (λ call. part_by firsts (payer call.call) call.call == part) calls) ≡ rows_at clock (λ call. part_by firsts (payer call) call) (map (row_of clock) calls) part
+        → map (row_of clock) (filter (λ call. part_by firsts (payer call.call) call.call == part) calls) ≡ at_home number_of (row_of clock) (λ call. part_by firsts (payer call) call) (map (row_of clock) calls) part
         → map (row_of clock) (if b then call ∷ filter (λ call. part_by firsts (payer call.call) call.call == part) calls else filter (λ call. part_by firsts (payer call.call) call.call == part) calls)
-        ≡ (if b then row_of clock call ∷ rows_at clock (λ call. part_by firsts (payer call) call) (map (row_of clock) calls) part else rows_at clock (λ call. part_by firsts (payer call) call) (map (row_of clock) calls) part)
+        ≡ (if b then row_of clock call ∷ at_home number_of (row_of clock) (λ call. part_by firsts (payer call) call) (map (row_of clock) calls) part else at_home number_of (row_of clock) (λ call. part_by firsts (payer call) call) (map (row_of clock) calls) part)
     by_own true rest = ap (λ l. row_of clock call ∷ l) rest
     by_own false rest = rest
 
@@ -86,7 +87,7 @@ tables_joined own_items first single setup config delay firsts rows heard given 
     let paid = are_paid setup rows given play.begins (played_starts first config given play.calls) in
     let home : ℕ → ℕ = λ call. part_by firsts (payer call) call in
     let all = map (row_of clock) whole.calls in
-    let each : (part : ℕ) (d : List CallRecord) → part < length parts → map (row_of clock) (slice_index_or parts part d) ≡ rows_at clock home all (part + 0) =
+    let each : (part : ℕ) (d : List CallRecord) → part < length parts → map (row_of clock) (slice_index_or parts part d) ≡ at_home number_of (row_of clock) home all (part + 0) =
     λ part d within.
     let its : RecordsItsRows setup config delay firsts rows part (slice_index_or parts part d) = played.each part d within in
     let choice = choice_of firsts payer part in
@@ -100,11 +101,11 @@ tables_joined own_items first single setup config delay firsts rows heard given 
     let kept = subst (λ (g : List (ℕ × Body)). AreRecords (run_given setup g its.books) (slice_index_or parts part d)) same its.records in
     let place : part ≡ part + 0 = omega arith in
     records_one single (run_given setup (chosen choice given) its.books) clock (slice_index_or parts part d) (filter (λ (call : CallRecord). choice.calls call.call) whole.calls) kept records
-    ∙ own_shown clock firsts payer part whole.calls ∙ ap (rows_at clock home all) place in
-    let joined : map (row_of clock) merged.calls ≡ all = one_order (map (row_of clock) merged.calls) all
+    ∙ own_shown clock firsts payer part whole.calls ∙ ap (at_home number_of (row_of clock) home all) place in
+    let joined : map (row_of clock) merged.calls ≡ all = one_order number_of (map (row_of clock) merged.calls) all
     (rows_rise clock merged.calls (rise (λ (call : CallRecord). call.call) merged.calls merged.merged.rising))
     (rows_rise clock whole.calls (ascending_rise clock whole.calls whole.are.ascending))
     (λ number.
     numbered_rows clock number merged.calls ∙ ap (map (row_of clock)) (merged.merged.same number) ∙ sym (numbered_rows clock number (flat_map (λ (kept : List CallRecord). kept) parts))
-    ∙ all_joined clock home all number 0 parts (omega arith) (omega (arith, home_within firsts (payer number) number, played.count)) each) in
+    ∙ all_joined number_of (row_of clock) home all number 0 parts (omega arith) (omega (arith, home_within firsts (payer number) number, played.count)) each) in
     merged.is ∙ same_table clock merged.calls whole.calls joined ∙ sym whole.is
