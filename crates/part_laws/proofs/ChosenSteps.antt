@@ -129,8 +129,8 @@ module _ (choice : Choice) where
       → (its : GivesTo now call input (without_others before) (without_others after)) × (fault_given now call input (without_others before) (without_others after) its ≡ fault_given now call input before after gives)
   gives_own_too now call input before after own gives =
       subst (λ (f : Option View).
-        (its : MatchOption f (without_others after ≡ without_others before) (FeedsSsf (without_others before) (without_others after) now call input))
-        × (fault_of_feed f now call input (without_others before) (without_others after) its ≡ fault_given now call input before after gives)) (sym (own_ssf call before.ssfs own))
+      (its : MatchOption f (without_others after ≡ without_others before) (FeedsSsf (without_others before) (without_others after) now call input))
+      × (fault_of_feed f now call input (without_others before) (without_others after) its ≡ fault_given now call input before after gives)) (sym (own_ssf call before.ssfs own))
       (by_ssf (ssf_of before.ssfs call) gives)
     where
       by_ssf : (found : Option View) (gives : MatchOption found (after ≡ before) (FeedsSsf before after now call input))

@@ -17,6 +17,7 @@ pub mod OneRecord
 pub mod OneRun
 pub mod OwnDeliveries
 pub mod OwnRows
+pub mod PartEvents
 pub mod Payers
 pub mod Plain
 pub mod ReadInputs

@@ -1,19 +1,16 @@
 -- The table of the calls of all parts, by rising number.
-use Rattle.std.proofs.Common.{◌≡◌, ◌==◌, ◌<◌, ◌≤◌, ◌+◌, inl, inr, ◌++◌, ◌∙◌, ℕ, zero, suc, Bool, true, false, Option, Some, None, List, [], ◌∷◌, length, map, refl, sym, ap, subst, arith, append-nil}
+use Rattle.std.proofs.Common.{◌≡◌, ◌==◌, ◌<◌, ◌+◌, ◌++◌, ◌∙◌, ℕ, Bool, true, false, Option, Some, None, List, [], ◌∷◌, length, map, refl, sym, ap, arith}
 use Rattle.std.specs.List.{filter, flat_map}
 use Rattle.std.specs.List.Sorted.{IsStrictlySortedBy}
 use Rattle.std.specs.Ordering.{nat_cmp}
-use Rattle.std.specs.Prelude.{◌%◌, if◌then◌else◌, slice_index_or}
-use Rattle.std.proofs.lemmas.Bool.{cases_lt}
-use Rattle.std.proofs.lemmas.Bool.Decides.{nat_tests}
-use Rattle.std.proofs.lemmas.List.{get_or-map, length-map, map-append}
-use Rattle.std.proofs.lemmas.List.Elements.{filter-append}
+use Rattle.std.specs.Prelude.{◌%◌, if◌then◌else◌}
+use Rattle.std.proofs.lemmas.List.{get_or-map, length-map}
 use Rattle.std.proofs.lemmas.Map.Keys.{non_decreasing_from_sorted}
 use Rattle.call_records.specs.Tables.{call_header, call_text, record_row}
 use Rattle.call_records.specs.declared.call_record.CallRecord.{CallRecord}
 use Rattle.moment_texts.specs.declared.clock.Clock.{Clock}
 use Rattle.part_laws.proofs.Merged.{at_number}
-use Rattle.part_laws.proofs.Joined.{AreFrom, Rise, no_piece, part_within, piece, rise}
+use Rattle.part_laws.proofs.Joined.{AreFrom, Rise, part_within, rise}
 use Rattle.run_parts.specs.Parts.{part_by}
 use native.Mathlib.Nat.{mod-lt}
 

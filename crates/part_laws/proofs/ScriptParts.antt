@@ -38,7 +38,7 @@ module _ (firsts : List ℕ) (payer : ℕ → Option ℕ) (part : ℕ) where
   happening_same (Meets call event) = refl
   happening_same (Recharge account amount until) = refl
 
-  rows_same : (rows : List ScriptRow) → part_rows firsts payer rows part ≡ chosen_rows (choice_of firsts payer part) rows
+  pub rows_same : (rows : List ScriptRow) → part_rows firsts payer rows part ≡ chosen_rows (choice_of firsts payer part) rows
   rows_same [] = refl
   rows_same (row ∷ rows) =
       ap (λ (b : Bool). if b then row ∷ part_rows firsts payer rows part else part_rows firsts payer rows part) (sym (happening_same row.what))

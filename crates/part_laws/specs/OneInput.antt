@@ -25,9 +25,14 @@ PrintsAlike (output.Calls clock) text other = text ≡ other
 PrintsAlike output.Book text other = ⊤
 PrintsAlike (output.Trace clock) text other = ⊤
 
+-- its text is so, and the same events had no place
+pub record SaysAsOneRun (o : RunOutput) (text : List ℕ) (events : List UnplacedEvent) (ran : RunSaid) : Type 0 where
+  pub text_is : PrintsAlike o text ran.text
+  pub events_are : events ≡ ran.unplaced
+
 -- so prints a run in parts of one worker each as one run of one worker does, where no account refuses an ask in either
 abbrev pub PartsPrintAsOneRun : Type 0
 PartsPrintAsOneRun =
     (asked : ℕ) (ask : RunAsk) (input text : List ℕ) (refusals : Refusals) (events : List UnplacedEvent) (ran : RunSaid) (parts : IsRunInParts asked ask input text refusals events) (whole : IsRunOf ask input ran)
     → ask.workers ≡ 1 → ((part : ℕ) (d : PartSaid) (within : part < length parts.parts) → HasValuesOf (parts.each part d within) whole)
-    → refusals ≡ none_refused → ran.refusals ≡ none_refused → PrintsAlike ask.output text ran.text
+    → refusals ≡ none_refused → ran.refusals ≡ none_refused → SaysAsOneRun ask.output text events ran

@@ -82,7 +82,8 @@ pub fn scripts_have_one_run()
 /// their recharges, and the rows of the calls that their subscribers begin, and perhaps of calls
 /// that no subscriber begins. The other's rows give just their own items of all that the script
 /// gives, in the same order, with gsmSSFs of the same configuration and the same delay, where the
-/// rows are in order and no account refuses an ask in either.
+/// rows are in order and no account refuses an ask in either; and just those of them have no place
+/// that have none there.
 pub fn some_rows_give_their_items()
     ensures { SomeRowsGiveTheirItems }
 {
@@ -109,7 +110,7 @@ pub fn scripts_in_parts_have_one_run()
 /// So a run in parts prints what one run prints, as `run` of `run_command` answers both. Where an
 /// input is played in parts of one worker each, and by one run of one worker with the same options,
 /// and no account refuses an ask in either, the lines are the same, byte for byte, and so is the
-/// table of calls.
+/// table of calls; and the same events had no place.
 ///
 /// The parts have the values of the one run: its setup, its configuration and its rows. What an
 /// answer says of these names a number by its digits alone, so it is a premise that they are the
