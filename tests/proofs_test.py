@@ -9,6 +9,8 @@ import os
 import re
 import sys
 
+from definitions import DEFINED, lines_of
+
 PAGE = "docs/PROOFS.md"
 SECTION = re.compile(r"\*\*`(\w+)`\*\*")
 QUOTED = re.compile(r"`([^`]+)`")
@@ -17,12 +19,6 @@ WORD = re.compile(r"[A-Za-z_]\w*")
 OWNER = re.compile(r"(?:pub(?:\(crate\))? )?(?:impl(?:<.*?>)? (?:[\w<>:', ]+ for )?|trait |struct |enum )(\w+)")
 FUNCTION = re.compile(r"\s*(?:pub(?:\(crate\))? )?fn (\w+)")
 CLAUSE = re.compile(r"\s*(?:ensures|requires) (\w+) \{|\s*(?:pub )?ghost (\w+)(?: =|:)")
-DEFINED = re.compile(r"(?:abbrev |unfoldable )?pub (?:record |data |abbrev )?([^\s:]+)")
-
-
-def text_of(path):
-    with open(path, encoding="utf-8") as it:
-        return it.read()
 
 
 def files(crate, folder):
@@ -34,7 +30,7 @@ def clauses(crate):
     found = {}
     for path in files(crate, "src"):
         owner = function = ""
-        for line in text_of(path).split("\n"):
+        for line in lines_of(path):
             if it := OWNER.match(line):
                 owner, function = it[1], ""
             if line == "}":
@@ -54,7 +50,7 @@ def definitions(crate):
     found = {}
     for path in files(crate, "specs"):
         name = ""
-        for line in text_of(path).split("\n"):
+        for line in lines_of(path):
             if it := DEFINED.match(line):
                 name = it[1]
                 found[name] = set()
@@ -71,7 +67,7 @@ def names_there_are(crates):
     for path in [*paths, *glob.glob("docs/*.md"), "README.md", "Makefile"]:
         names.update(WORD.findall(path))
         if not path.endswith((".md", ".pyc")):
-            names.update(WORD.findall(text_of(path)))
+            names.update(WORD.findall("\n".join(lines_of(path))))
     return names
 
 
@@ -92,7 +88,7 @@ def main():
     defined = {name for _, records in of_crate.values() for name in records}
     names = names_there_are(crates)
     faults, count, crate = [], 0, ""
-    for number, line in enumerate(text_of(PAGE).split("\n"), 1):
+    for number, line in enumerate(lines_of(PAGE), 1):
         if section := SECTION.match(line):
             crate = section[1]
         elif line.startswith("#"):
