@@ -24,7 +24,7 @@ use Rattle.part_laws.specs.Parts.{AreAsOfOneRun, choice_of}
 use Rattle.part_laws.specs.Printed.{run_given}
 use Rattle.part_laws.specs.Rows.{SomeRowsGiveTheirItems, chosen_rows}
 use Rattle.run_command.proofs.Starts.{played_starts}
-use Rattle.part_laws.specs.ScriptParts.{PlaysItsRows, RecordsItsRows, payer_in_rows}
+use Rattle.part_laws.specs.ScriptParts.{IsPlayedByItsRows, PlaysItsRows, RecordsItsRows, payer_in_rows}
 use Rattle.run_command.specs.Answers.{IsRunOf, IsTextOf, RunSaid}
 use Rattle.run_command.specs.InParts.{IsMergedText, IsPartOf, IsPartsText, KeepsCalls, PartSaid}
 use Rattle.run_command.specs.Plays.{IsPlayOf}
@@ -91,18 +91,16 @@ module _ (ask : RunAsk) (input : List ℕ) (ran : RunSaid) (whole : IsRunOf ask 
         play own.0 one_run own_run none own_none in
         sym own.1 ∙ gives.unplaced_are
 
+    abbrev its_plays : NoneIsRefused (all_heard is.heard) → IsPlayedByItsRows setup whole.given_by.config ask.delay firsts rows part
+    its_plays none = record { heard = is.heard; given = is.given; play = own_play; books = is.books; run = own_run; none = none }
+
     its_rows : NoneIsRefused (all_heard is.heard) → PlaysItsRows setup whole.given_by.config ask.delay firsts rows part kept.books
-    its_rows none = record { heard = is.heard; given = is.given; play = own_play; books = is.books; run = own_run; none = none; own = is.own }
+    its_rows none = record { plays = its_plays none; own = is.own }
 
     its_records : NoneIsRefused (all_heard is.heard) → AreRecords (run_given is.are_books.setup is.given is.books) kept.calls
         → RecordsItsRows setup whole.given_by.config ask.delay firsts rows part kept.calls
     its_records none are = record {
-      heard = is.heard;
-      given = is.given;
-      play = own_play;
-      books = is.books;
-      run = own_run;
-      none = none;
+      plays = its_plays none;
       records = subst (λ (s : Setup). AreRecords (run_given s is.given is.books) kept.calls) values.setup are;
     }
 

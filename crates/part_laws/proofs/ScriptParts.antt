@@ -54,7 +54,8 @@ scripts_joined own_items one_text first setup config delay firsts rows heard giv
     let paid = are_paid setup rows given play.begins (played_starts first config given play.calls) in
     let alone : (part : ℕ) (d : List Closed) → part < length parts → IsPlayedAlone setup firsts payer given part (slice_index_or parts part d) =
     λ part d within.
-    let its : PlaysItsRows setup config delay firsts rows part (slice_index_or parts part d) = played.each part d within in
+    let kept : PlaysItsRows setup config delay firsts rows part (slice_index_or parts part d) = played.each part d within in
+    let its = kept.plays in
     let choice = choice_of firsts payer part in
     let gives = own_items setup choice config delay rows heard its.heard given its.given books its.books proper ordered
     (all_by_account firsts setup payer part given paid) play (own_play firsts payer part config delay rows its.heard its.given its.play) run its.run none its.none in
@@ -64,7 +65,7 @@ scripts_joined own_items one_text first setup config delay firsts rows heard giv
       books = its.books;
       run = subst (λ (g : List (ℕ × Body)). IsRun StoodIn setup 1 g (all_heard its.heard) its.books) same its.run;
       none = its.none;
-      own = its.own;
+      own = kept.own;
     } in
     parts_joined one_text setup firsts payer given (all_heard heard) books parts proper sorted paid run none (record { count = played.count; each = alone })
 
@@ -89,7 +90,8 @@ tables_joined own_items first single setup config delay firsts rows heard given 
     let all = map (row_of clock) whole.calls in
     let each : (part : ℕ) (d : List CallRecord) → part < length parts → map (row_of clock) (slice_index_or parts part d) ≡ at_home number_of (row_of clock) home all (part + 0) =
     λ part d within.
-    let its : RecordsItsRows setup config delay firsts rows part (slice_index_or parts part d) = played.each part d within in
+    let recorded : RecordsItsRows setup config delay firsts rows part (slice_index_or parts part d) = played.each part d within in
+    let its = recorded.plays in
     let choice = choice_of firsts payer part in
     let by : AreByAccount setup choice given = all_by_account firsts setup payer part given paid in
     let gives = own_items setup choice config delay rows heard its.heard given its.given books its.books proper ordered by play
@@ -98,7 +100,7 @@ tables_joined own_items first single setup config delay firsts rows heard given 
     let own_run = subst (λ (g : List (ℕ × Body)). IsRun StoodIn setup 1 g (all_heard its.heard) its.books) same its.run in
     let apart = accounts_apart setup choice given (all_heard heard) (all_heard its.heard) books its.books proper by run own_run none its.none in
     let records = records_alike setup choice given books its.books whole.calls by apart.books_are whole.are in
-    let kept = subst (λ (g : List (ℕ × Body)). AreRecords (run_given setup g its.books) (slice_index_or parts part d)) same its.records in
+    let kept = subst (λ (g : List (ℕ × Body)). AreRecords (run_given setup g its.books) (slice_index_or parts part d)) same recorded.records in
     let place : part ≡ part + 0 = omega arith in
     records_one single (run_given setup (chosen choice given) its.books) clock (slice_index_or parts part d) (filter (λ (call : CallRecord). choice.calls call.call) whole.calls) kept records
     ∙ own_shown clock firsts payer part whole.calls ∙ ap (at_home number_of (row_of clock) home all) place in

@@ -30,15 +30,19 @@ use Rattle.tariff_core.specs.Laws.{IsProper}
 abbrev pub payer_in_rows : Setup → List ScriptRow → ℕ → Option ℕ
 payer_in_rows setup rows = payer_of (with_digits setup.subscribers) (map script_event rows)
 
--- one worker has played the rows of a part alone, none of its asks was refused, and these are the books of the part's own accounts
-pub record PlaysItsRows (setup : Setup) (config : SsfConfig) (delay : ℕ) (firsts : List ℕ) (rows : List ScriptRow) (part : ℕ) (kept : List Closed) : Type 0 where
+-- one worker has played the rows of a part alone, and none of its asks was refused
+pub record IsPlayedByItsRows (setup : Setup) (config : SsfConfig) (delay : ℕ) (firsts : List ℕ) (rows : List ScriptRow) (part : ℕ) : Type 0 where
   pub heard : List (List Answer)
   pub given : List (ℕ × Body)
   pub play : IsPlayOf config delay (part_rows firsts (payer_in_rows setup rows) rows part) heard given
   pub books : List Closed
   pub run : IsRun StoodIn setup 1 given (all_heard heard) books
   pub none : NoneIsRefused (all_heard heard)
-  pub own : kept ≡ own_books firsts part books
+
+-- and these are the books of the part's own accounts
+pub record PlaysItsRows (setup : Setup) (config : SsfConfig) (delay : ℕ) (firsts : List ℕ) (rows : List ScriptRow) (part : ℕ) (kept : List Closed) : Type 0 where
+  pub plays : IsPlayedByItsRows setup config delay firsts rows part
+  pub own : kept ≡ own_books firsts part plays.books
 
 -- so it is of each part
 pub record ArePlayedByTheirRows (setup : Setup) (config : SsfConfig) (delay : ℕ) (firsts : List ℕ) (rows : List ScriptRow) (parts : List (List Closed)) : Type 0 where
@@ -55,15 +59,10 @@ ScriptsInPartsHaveOneRun =
 
 -- ---- the records of calls
 
--- one worker has played the rows of a part alone, none of its asks was refused, and these are the records of its calls
+-- a part was played so, and these are the records of its calls
 pub record RecordsItsRows (setup : Setup) (config : SsfConfig) (delay : ℕ) (firsts : List ℕ) (rows : List ScriptRow) (part : ℕ) (kept : List CallRecord) : Type 0 where
-  pub heard : List (List Answer)
-  pub given : List (ℕ × Body)
-  pub play : IsPlayOf config delay (part_rows firsts (payer_in_rows setup rows) rows part) heard given
-  pub books : List Closed
-  pub run : IsRun StoodIn setup 1 given (all_heard heard) books
-  pub none : NoneIsRefused (all_heard heard)
-  pub records : AreRecords (run_given setup given books) kept
+  pub plays : IsPlayedByItsRows setup config delay firsts rows part
+  pub records : AreRecords (run_given setup plays.given plays.books) kept
 
 -- so it is of each part
 pub record AreRecordedByTheirRows (setup : Setup) (config : SsfConfig) (delay : ℕ) (firsts : List ℕ) (rows : List ScriptRow) (parts : List (List CallRecord)) : Type 0 where
