@@ -1,6 +1,7 @@
 -- The play of some rows beside the play of all: what holds between two rounds, and what a round of all is for some.
 use Rattle.std.proofs.Common.{◌≡◌, ◌≤◌, ◌<◌, ◌+◌, ◌++◌, ◌⊎◌, ℕ, Bool, true, false, Some, None, List, [], ◌∷◌, All}
 use Rattle.std.specs.List.{filter}
+use Rattle.part_laws.proofs.InOrder.{ComesInOrder, of_delivery}
 use Rattle.part_laws.specs.Chosen.{Choice, chosen}
 use Rattle.part_laws.specs.Rows.{chosen_rows}
 use Rattle.run_texts.specs.Views.{rows_are_in_order}
@@ -37,11 +38,6 @@ pub record IsPartPlay (choice : Choice) (whole part : Play) (queue own_queue : L
   pub unplaced : part.unplaced ≡ chosen_rows choice whole.unplaced
   pub queue_is : own_queue ≡ chosen_deliveries choice queue
 
--- operations come in this order, from a moment on
-abbrev pub Rises : ℕ → List Delivery → Type 0
-Rises from [] = Unit {0}
-Rises from (delivery ∷ queue) = (from ≤ delivery.at) × Rises delivery.at queue
-
 -- a gsmSSF stands for a trace after which no timer expires before a moment
 pub record ExpiresFrom (view : View) (moment : ℕ) : Type 0 where
   pub trace : List Happening
@@ -53,7 +49,7 @@ pub record ExpiresFrom (view : View) (moment : ℕ) : Type 0 where
 pub record IsBetween (play : Play) (queue : List Delivery) (last : ℕ) : Type 0 where
   pub timers : (call at : ℕ) → HasTimer play.network.ssfs call at → last < at
   pub rows : rows_are_in_order last play.left ≡ true
-  pub rises : Rises last queue
+  pub rises : ComesInOrder of_delivery last queue
   pub within : All (λ delivery. delivery.at ≤ last + play.delay) queue
   pub stood : (call : ℕ) (view : View) → ssf_of play.network.ssfs call ≡ Some view → ExpiresFrom view view.last
 

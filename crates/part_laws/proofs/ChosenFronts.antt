@@ -12,8 +12,9 @@ use Rattle.std.specs.List.Sorted.{IsStrictlySortedBy}
 use Rattle.std.specs.Option.{ForSome}
 use Rattle.std.specs.Ordering.{nat_cmp}
 use Rattle.std.specs.Prelude.{nat_le}
-use Rattle.part_laws.proofs.Beside.{IsNetworkOf, Rises}
+use Rattle.part_laws.proofs.Beside.{IsNetworkOf}
 use Rattle.part_laws.proofs.ChosenSteps.{chosen_ssfs, own_ssf, same_choice, shown_alike}
+use Rattle.part_laws.proofs.InOrder.{all_from, ComesInOrder, of_delivery, rest_in_order, starts_of, StartsFrom}
 use Rattle.part_laws.specs.Chosen.{Choice}
 use Rattle.run_texts.specs.Views.{rows_are_in_order}
 use Rattle.run_texts.specs.declared.script.ScriptRow.{ScriptRow}
@@ -24,52 +25,9 @@ use Rattle.script_player.specs.Rows.{next_row}
 use Rattle.ssf_core.specs.Deliveries.{next_delivery}
 use Rattle.ssf_core.specs.declared.deliveries.Delivery.{Delivery}
 
--- ---- what comes in order
+-- ---- what is due by now, in front of what isn't
 
 module _ {X : Type 0} (at : X → ℕ) where
-  abbrev pub ComesInOrder : ℕ → List X → Type 0
-  ComesInOrder from [] = Unit {0}
-  ComesInOrder from (x ∷ xs) = (from ≤ at x) × ComesInOrder (at x) xs
-
-  -- the first one, where there is one, isn't before a moment
-  abbrev pub StartsFrom : ℕ → List X → Type 0
-  StartsFrom from [] = Unit {0}
-  StartsFrom from (x ∷ xs) = from ≤ at x
-
-  pub order_from : (was from : ℕ) (xs : List X) → ComesInOrder was xs → StartsFrom from xs → ComesInOrder from xs
-  order_from was from [] order starts = tt
-  order_from was from (x ∷ xs) order starts = (starts, order.1)
-
-  pub lower : (from was : ℕ) (xs : List X) → from ≤ was → ComesInOrder was xs → ComesInOrder from xs
-  lower from was [] before order = tt
-  lower from was (x ∷ xs) before order = let first : was ≤ at x = order.0 in (omega (arith, before, first), order.1)
-
-  pub lower_all : (near far : ℕ) (xs : List X) → near ≤ far → All (λ x. far ≤ at x) xs → All (λ x. near ≤ at x) xs
-  lower_all near far [] order all = All-nil (λ (x : X). near ≤ at x)
-  lower_all near far (x ∷ xs) order all =
-      let P : X → Type 0 = λ y. far ≤ at y in
-      let first : far ≤ at x = All-head P x xs all in
-      All-cons (λ (y : X). near ≤ at y) x xs (omega (arith, order, first)) (lower_all near far xs order (All-tail P x xs all))
-
-  pub raise_all : (near far : ℕ) (xs : List X) → near ≤ far → All (λ x. at x ≤ near) xs → All (λ x. at x ≤ far) xs
-  raise_all near far [] order all = All-nil (λ (x : X). at x ≤ far)
-  raise_all near far (x ∷ xs) order all =
-      let P : X → Type 0 = λ y. at y ≤ near in
-      let first : at x ≤ near = All-head P x xs all in
-      All-cons (λ (y : X). at y ≤ far) x xs (omega (arith, order, first)) (raise_all near far xs order (All-tail P x xs all))
-
-  pub all_from : (from : ℕ) (xs : List X) → ComesInOrder from xs → All (λ x. from ≤ at x) xs
-  all_from from [] order = All-nil (λ (x : X). from ≤ at x)
-  all_from from (x ∷ xs) order = All-cons (λ (y : X). from ≤ at y) x xs order.0 (all_from from xs (lower from (at x) xs order.0 order.1))
-
-  pub starts_of : (from : ℕ) (xs : List X) → All (λ x. from ≤ at x) xs → StartsFrom from xs
-  starts_of from [] all = tt
-  starts_of from (x ∷ xs) all = All-head (λ (y : X). from ≤ at y) x xs all
-
-  pub rest_in_order : (was from : ℕ) (front left : List X) → ComesInOrder was (front ++ left) → StartsFrom from left → ComesInOrder from left
-  rest_in_order was from [] left order starts = order_from was from left order starts
-  rest_in_order was from (x ∷ front) left order starts = rest_in_order (at x) from front left order.1 starts
-
   pub at_now : (now : ℕ) (front left : List X) → All (λ x. now ≤ at x) (front ++ left) → All (λ x. at x ≤ now) front → All (λ x. at x ≡ now) front
   at_now now [] left all due = All-nil (λ (x : X). at x ≡ now)
   at_now now (x ∷ front) left all due =
@@ -79,23 +37,12 @@ module _ {X : Type 0} (at : X → ℕ) where
       let last : at x ≤ now = All-head Q x front due in
       All-cons (λ (y : X). at y ≡ now) x front (omega (arith, first, last)) (at_now now front left (All-tail P x (front ++ left) all) (All-tail Q x front due))
 
-  -- some of what comes in order comes in order
-  pub kept_order : (own : X → Bool) (from : ℕ) (xs : List X) → ComesInOrder from xs → ComesInOrder from (filter own xs)
-  kept_order own from [] order = tt
-  kept_order own from (x ∷ xs) order = by_own (λ was order. kept_order own was xs order) (own x)
-    where
-      by_own : ((was : ℕ) → ComesInOrder was xs → ComesInOrder was (filter own xs)) → (b : Bool) → ComesInOrder from (cond b (x ∷ filter own xs) (filter own xs))
-      by_own later true = (order.0, later (at x) order.1)
-      by_own later false = later from (lower from (at x) xs order.0 order.1)
-
-  -- ---- what is due by now, in front of what isn't
-
   module _ (now : ℕ) where
     abbrev Due : List X → Type 0
     Due xs = All (λ (x : X). at x ≤ now) xs
 
     abbrev Later : List X → Type 0
-    Later xs = StartsFrom (now + 1) xs
+    Later xs = StartsFrom at (now + 1) xs
 
     same_split : (front others left rest : List X) → front ++ left ≡ others ++ rest → Due front → Due others → Later left → Later rest → (front ≡ others) × (left ≡ rest)
     same_split [] [] left rest same due its later after = (refl, same)
@@ -116,28 +63,17 @@ module _ {X : Type 0} (at : X → ℕ) where
         (ap (λ y. y ∷ front) one ∙ ap (λ l. other ∷ l) rests.0, rests.1)
 
     -- of some, those are due that are due of all
-    pub kept_split : (own : X → Bool) (was : ℕ) (front left its rest : List X) → ComesInOrder was (front ++ left) → Due front → Later left → filter own (front ++ left) ≡ its ++ rest → Due its → Later rest
+    pub kept_split : (own : X → Bool) (was : ℕ) (front left its rest : List X) → ComesInOrder at was (front ++ left) → Due front → Later left → filter own (front ++ left) ≡ its ++ rest → Due its → Later rest
         → (filter own front ≡ its) × (filter own left ≡ rest)
     kept_split own was front left its rest order due later same its_due after =
-        let behind = all_from (now + 1) left (rest_in_order was (now + 1) front left order later) in
+        let behind = all_from at (now + 1) left (rest_in_order at was (now + 1) front left order later) in
         same_split (filter own front) its (filter own left) rest (sym (filter-append own front left) ∙ same) (All-filter own (λ (x : X). at x ≤ now) front due) its_due
-        (starts_of (now + 1) (filter own left) (All-filter own (λ (x : X). now + 1 ≤ at x) left behind)) after
+        (starts_of at (now + 1) (filter own left) (All-filter own (λ (x : X). now + 1 ≤ at x) left behind)) after
 
 -- ---- deliveries and rows
 
-abbrev pub of_delivery : Delivery → ℕ
-of_delivery delivery = delivery.at
-
 abbrev pub of_row : ScriptRow → ℕ
 of_row row = row.at
-
-pub in_order_queue : (from : ℕ) (queue : List Delivery) → Rises from queue → ComesInOrder of_delivery from queue
-in_order_queue from [] rises = tt
-in_order_queue from (delivery ∷ queue) rises = (rises.0, in_order_queue delivery.at queue rises.1)
-
-pub queue_rises : (from : ℕ) (queue : List Delivery) → ComesInOrder of_delivery from queue → Rises from queue
-queue_rises from [] order = tt
-queue_rises from (delivery ∷ queue) order = (order.0, queue_rises delivery.at queue order.1)
 
 both_true : (one two : Bool) → (one && two) ≡ true → (one ≡ true) × (two ≡ true)
 both_true true two is = (refl, is)

@@ -9,6 +9,7 @@ use Rattle.std.proofs.lemmas.List.Elements.{All-cons, All-head, All-nil, All-tai
 use Rattle.cap_values.specs.declared.message.SsfMsg.TheVariants.{InitialDp, EventReport, ChargingReport, Ended}
 use Rattle.book_texts.specs.Laws.{BooksHaveOneText}
 use Rattle.part_laws.proofs.Apart.{accounts_apart}
+use Rattle.part_laws.proofs.InOrder.{ComesInOrder, rise}
 use Rattle.part_laws.proofs.Lines.{lines_alike}
 use Rattle.part_laws.proofs.Records.{chosen_account}
 use Rattle.part_laws.specs.Chosen.{AreByAccount, HasBooksOf, IsByAccount, chosen_book}
@@ -29,25 +30,6 @@ use Rattle.shared_account.specs.Terms.{Terms}
 -- ---- what rises is the pieces of its parts, one after another
 
 module _ {X : Type 0} (n : X → ℕ) where
-  abbrev pub AreFrom : ℕ → List X → Type 0
-  AreFrom low [] = Unit {0}
-  AreFrom low (x ∷ xs) = (low ≤ n x) × AreFrom low xs
-
-  abbrev pub Rise : List X → Type 0
-  Rise [] = Unit {0}
-  Rise (x ∷ xs) = AreFrom (n x) xs × Rise xs
-
-  are_from : (low : ℕ) (xs : List X) → ((i : ℕ) (d : X) → i < length xs → low ≤ n (slice_index_or xs i d)) → AreFrom low xs
-  are_from low [] above = tt
-  are_from low (x ∷ xs) above = (above zero x (omega arith), are_from low xs (λ i d within. above (suc i) d (omega (arith, within))))
-
-  pub rise : (xs : List X) → IsNonDecreasingBy n xs → Rise xs
-  rise [] sorted = tt
-  rise (x ∷ xs) sorted = (
-    are_from (n x) xs (λ i d within. sorted zero (suc i) d (omega arith) (omega (arith, within))),
-    rise xs (λ i j d below within. sorted (suc i) (suc j) d (omega (arith, below)) (omega (arith, within))),
-  )
-
   -- those of one part, and those of this part and all later ones
   abbrev pub piece : ℕ → List X → List X
   piece part xs = filter (λ x. n x == part) xs
@@ -55,19 +37,19 @@ module _ {X : Type 0} (n : X → ℕ) where
   abbrev behind : ℕ → List X → List X
   behind part xs = filter (λ x. nat_le part (n x)) xs
 
-  pub no_piece : (part low : ℕ) (xs : List X) → part < low → AreFrom low xs → piece part xs ≡ []
+  pub no_piece : (part low : ℕ) (xs : List X) → part < low → ComesInOrder n low xs → piece part xs ≡ []
   no_piece part low [] below from = refl
   no_piece part low (x ∷ xs) below from =
-      let here : (n x == part) ≡ false = grind (arith, nat_tests, below, from.0) in rw here (no_piece part low xs below from.1)
+      let here : (n x == part) ≡ false = grind (arith, nat_tests, below, from.0) in rw here (no_piece part (n x) xs (omega (arith, below, from.0)) from.1)
 
-  all_behind : (part low : ℕ) (xs : List X) → part ≤ low → AreFrom low xs → behind part xs ≡ xs
+  all_behind : (part low : ℕ) (xs : List X) → part ≤ low → ComesInOrder n low xs → behind part xs ≡ xs
   all_behind part low [] below from = refl
   all_behind part low (x ∷ xs) below from =
-      let here : nat_le part (n x) ≡ true = grind (arith, nat_tests, below, from.0) in rw here (ap (λ l. x ∷ l) (all_behind part low xs below from.1))
+      let here : nat_le part (n x) ≡ true = grind (arith, nat_tests, below, from.0) in rw here (ap (λ l. x ∷ l) (all_behind part (n x) xs (omega (arith, below, from.0)) from.1))
 
-  next_piece : (part : ℕ) (xs : List X) → Rise xs → behind part xs ≡ piece part xs ++ behind (suc part) xs
-  next_piece part [] rises = refl
-  next_piece part (x ∷ xs) rises = by_piece (next_piece part xs rises.1) (n x == part) refl (nat_le part (n x)) refl
+  next_piece : (part low : ℕ) (xs : List X) → ComesInOrder n low xs → behind part xs ≡ piece part xs ++ behind (suc part) xs
+  next_piece part low [] rises = refl
+  next_piece part low (x ∷ xs) rises = by_piece (next_piece part (n x) xs rises.1) (n x == part) refl (nat_le part (n x)) refl
     where
       by_piece : behind part xs ≡ piece part xs ++ behind (suc part) xs → (here : Bool) → (n x == part) ≡ here → (from : Bool) → nat_le part (n x) ≡ from
           → (if nat_le part (n x) then x ∷ behind part xs else behind part xs)
@@ -79,9 +61,9 @@ module _ {X : Type 0} (n : X → ℕ) where
       by_piece rest false here true is =
           let later : nat_le (suc part) (n x) ≡ true = grind (arith, nat_tests, here, is) in
           let below : part < n x = grind (arith, nat_tests, here, is) in
-          let none = no_piece part (n x) xs below rises.0 in
-          let all = all_behind part (n x) xs (omega (arith, below)) rises.0 in
-          let all_later = all_behind (suc part) (n x) xs (omega (arith, below)) rises.0 in
+          let none = no_piece part (n x) xs below rises.1 in
+          let all = all_behind part (n x) xs (omega (arith, below)) rises.1 in
+          let all_later = all_behind (suc part) (n x) xs (omega (arith, below)) rises.1 in
           rw (here, is, later) (ap (λ l. x ∷ l) (all ∙ sym all_later) ∙ ap (λ l. l ++ (x ∷ behind (suc part) xs)) (sym none))
       by_piece rest false here false is =
           let later : nat_le (suc part) (n x) ≡ false = grind (arith, nat_tests, here, is) in
@@ -118,24 +100,15 @@ module _ (firsts : List ℕ) where
 
   -- ---- the books of a run rise by their parts
 
-  books_from : (limit low : ℕ) (accounts : List (ℕ × OpeningCredit)) (books : List Closed) → map (terms_shown 1) books ≡ map (terms_with limit 1) accounts
-      → AreFrom (λ (e : ℕ × OpeningCredit). e.0) low accounts → AreFrom part_in (part_of_account firsts low) (plain_books books)
-  books_from limit low accounts [] opened from = tt
-  books_from limit low [] (book ∷ books) opened from = absurd (cc)
-  books_from limit low (account ∷ accounts) (book ∷ books) opened from =
-      let first : terms_shown 1 book ≡ terms_with limit 1 account = cc opened in
-      let number : account.0 ≡ book.account = sym (ap (λ (t : Terms). t.number) first) in
-      (part_rises firsts low book.account (subst (λ (a : ℕ). low ≤ a) number from.0), books_from limit low accounts books (cc opened) from.1)
-
-  books_rise : (limit : ℕ) (accounts : List (ℕ × OpeningCredit)) (books : List Closed) → map (terms_shown 1) books ≡ map (terms_with limit 1) accounts
-      → Rise (λ (e : ℕ × OpeningCredit). e.0) accounts → Rise part_in (plain_books books)
-  books_rise limit accounts [] opened rises = tt
-  books_rise limit [] (book ∷ books) opened rises = absurd (cc)
-  books_rise limit (account ∷ accounts) (book ∷ books) opened rises =
+  books_rise : (limit low : ℕ) (accounts : List (ℕ × OpeningCredit)) (books : List Closed) → map (terms_shown 1) books ≡ map (terms_with limit 1) accounts
+      → ComesInOrder (λ (e : ℕ × OpeningCredit). e.0) low accounts → ComesInOrder part_in (part_of_account firsts low) (plain_books books)
+  books_rise limit low accounts [] opened rises = tt
+  books_rise limit low [] (book ∷ books) opened rises = absurd (cc)
+  books_rise limit low (account ∷ accounts) (book ∷ books) opened rises =
       let first : terms_shown 1 book ≡ terms_with limit 1 account = cc opened in
       let number : account.0 ≡ book.account = sym (ap (λ (t : Terms). t.number) first) in (
-        subst (λ (a : ℕ). AreFrom part_in (part_of_account firsts a) (plain_books books)) number (books_from limit account.0 accounts books (cc opened) rises.0),
-        books_rise limit accounts books (cc opened) rises.1,
+        part_rises firsts low book.account (subst (λ (a : ℕ). low ≤ a) number rises.0),
+        subst (λ (a : ℕ). ComesInOrder part_in (part_of_account firsts a) (plain_books books)) number (books_rise limit account.0 accounts books (cc opened) rises.1),
       )
 
   nothing_behind : (books : List Closed) → behind part_in (suc (length firsts)) books ≡ []
@@ -186,25 +159,25 @@ module _ (firsts : List ℕ) where
 
   -- ---- all of them
 
-  pieces_joined : (books : List Closed) (parts : List (List Closed)) (from : ℕ) → Rise part_in books
+  pieces_joined : (low : ℕ) (books : List Closed) (parts : List (List Closed)) (from : ℕ) → ComesInOrder part_in low books
       → ((i : ℕ) (d : List Closed) → i < length parts → plain_books (slice_index_or parts i d) ≡ piece part_in (i + from) books)
       → behind part_in from books ≡ plain_books (flat_map (λ own. own) parts) ++ behind part_in (length parts + from) books
-  pieces_joined books [] from rises each = let same : from ≡ 0 + from = omega arith in ap (λ k. behind part_in k books) same
-  pieces_joined books (own ∷ parts) from rises each =
+  pieces_joined low books [] from rises each = let same : from ≡ 0 + from = omega arith in ap (λ k. behind part_in k books) same
+  pieces_joined low books (own ∷ parts) from rises each =
       let none : 0 + from ≡ from = omega arith in
       let count : length parts + suc from ≡ suc (length parts) + from = omega arith in
       let first : plain_books own ≡ piece part_in from books = each zero own (omega arith) ∙ ap (λ k. piece part_in k books) none in
-      let later = pieces_joined books parts (suc from) rises
+      let later = pieces_joined low books parts (suc from) rises
       (λ i d within. let next : suc i + from ≡ i + suc from = omega arith in each (suc i) d (omega (arith, within)) ∙ ap (λ k. piece part_in k books) next) in
       let all = flat_map (λ (its : List Closed). its) parts in
-      next_piece part_in from books rises ∙ ap (λ l. l ++ behind part_in (suc from) books) (sym first) ∙ ap (λ l. plain_books own ++ l) later
+      next_piece part_in from low books rises ∙ ap (λ l. l ++ behind part_in (suc from) books) (sym first) ∙ ap (λ l. plain_books own ++ l) later
       ∙ sym (append_assoc (plain_books own) (plain_books all) (behind part_in (length parts + suc from) books))
       ∙ ap (λ l. l ++ behind part_in (length parts + suc from) books) (sym (map-append unnumbered_book own all))
       ∙ ap (λ k. plain_books (own ++ all) ++ behind part_in k books) count
 
 pub parts_joined : BooksHaveOneText → PartsAreAsOneRun
 parts_joined one_text setup firsts payer given answers books parts proper sorted paid run none played =
-    let rises = books_rise firsts setup.limit setup.accounts books run.opened (rise (λ (e : ℕ × OpeningCredit). e.0) setup.accounts (never_fall setup.accounts sorted)) in
+    let rises = books_rise firsts setup.limit 0 setup.accounts books run.opened (rise (λ (e : ℕ × OpeningCredit). e.0) setup.accounts (never_fall setup.accounts sorted)) in
     let plain = plain_books firsts books in
     let each : (i : ℕ) (d : List Closed) → i < length parts → plain_books firsts (slice_index_or parts i d) ≡ piece (part_in firsts) (i + 0) plain =
     λ i d within.
@@ -214,6 +187,6 @@ parts_joined one_text setup firsts payer given answers books parts proper sorted
     ap (plain_books firsts) its.own ∙ own_same firsts setup payer i books its.books apart.books_are ∙ ap (λ k. piece (part_in firsts) k plain) same in
     let all = flat_map (λ (own : List Closed). own) parts in
     let count : length parts + 0 ≡ suc (length firsts) = omega (arith, played.count) in
-    let joined = sym (everything firsts plain) ∙ pieces_joined firsts plain parts 0 rises each ∙ ap (λ k. plain_books firsts all ++ behind (part_in firsts) k plain) count
+    let joined = sym (everything firsts plain) ∙ pieces_joined firsts (part_of_account firsts 0) plain parts 0 rises each ∙ ap (λ k. plain_books firsts all ++ behind (part_in firsts) k plain) count
     ∙ ap (λ l. plain_books firsts all ++ l) (nothing_behind firsts plain) ∙ append-nil (plain_books firsts all) in
     record { same = sym joined; lines = λ one other is too. lines_alike one_text all books one other (sym joined) is too }

@@ -6,6 +6,7 @@ pub mod ChosenFronts
 pub mod ChosenSteps
 pub mod Fronts
 pub mod FrontsApart
+pub mod InOrder
 pub mod Joined
 pub mod LeastMoments
 pub mod Lines

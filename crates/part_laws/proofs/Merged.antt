@@ -6,7 +6,8 @@ use Rattle.std.proofs.lemmas.Bool.{cases_lt}
 use Rattle.std.proofs.lemmas.Bool.Decides.{nat_tests}
 use Rattle.std.proofs.lemmas.List.{map-append}
 use Rattle.std.proofs.lemmas.List.Elements.{filter-append}
-use Rattle.part_laws.proofs.Joined.{AreFrom, Rise, no_piece, piece}
+use Rattle.part_laws.proofs.InOrder.{ComesInOrder}
+use Rattle.part_laws.proofs.Joined.{no_piece, piece}
 
 -- ---- lists that rise by a number are known by what they have of each
 
@@ -17,14 +18,14 @@ module _ {X : Type 0} (key : X → ℕ) where
   own_first : (x : X) (xs : List X) → at_number (key x) (x ∷ xs) ≡ x ∷ at_number (key x) xs
   own_first x xs = let here : (key x == key x) ≡ true = grind (arith, nat_tests) in rw here refl
 
-  none_below : (number : ℕ) (x : X) (xs : List X) → number < key x → AreFrom key (key x) xs → at_number number (x ∷ xs) ≡ []
+  none_below : (number : ℕ) (x : X) (xs : List X) → number < key x → ComesInOrder key (key x) xs → at_number number (x ∷ xs) ≡ []
   none_below number x xs below from =
       let here : (key x == number) ≡ false = grind (arith, nat_tests, below) in rw here (no_piece key number (key x) xs below from)
 
   abbrev AreSame : List X → List X → Type 0
   AreSame xs ys = (number : ℕ) → at_number number xs ≡ at_number number ys
 
-  not_below : (x y : X) (xs ys : List X) → AreFrom key (key y) ys → at_number (key x) (x ∷ xs) ≡ at_number (key x) (y ∷ ys) → key x < key y → ⊥
+  not_below : (x y : X) (xs ys : List X) → ComesInOrder key (key y) ys → at_number (key x) (x ∷ xs) ≡ at_number (key x) (y ∷ ys) → key x < key y → ⊥
   not_below x y xs ys from same below =
       let clash : x ∷ at_number (key x) xs ≡ [] = sym (own_first x xs) ∙ same ∙ none_below (key x) y ys below from in cc clash
 
@@ -41,19 +42,19 @@ module _ {X : Type 0} (key : X → ℕ) where
       by_here true here both = cc both
       by_here false here both = both
 
-  pub one_order : (xs ys : List X) → Rise key xs → Rise key ys → ((number : ℕ) → at_number number xs ≡ at_number number ys) → xs ≡ ys
-  one_order [] [] rises rises_too same = refl
-  one_order [] (y ∷ ys) rises rises_too same = let clash : [] ≡ y ∷ at_number (key y) ys = same (key y) ∙ own_first y ys in absurd (cc clash)
-  one_order (x ∷ xs) [] rises rises_too same = let clash : x ∷ at_number (key x) xs ≡ [] = sym (own_first x xs) ∙ same (key x) in absurd (cc clash)
-  one_order (x ∷ xs) (y ∷ ys) rises rises_too same = elim (cases_lt (key x) (key y)) [
-    | inl below ↦ absurd (not_below x y xs ys rises_too.0 (same (key x)) below)
+  pub one_order : (low high : ℕ) (xs ys : List X) → ComesInOrder key low xs → ComesInOrder key high ys → ((number : ℕ) → at_number number xs ≡ at_number number ys) → xs ≡ ys
+  one_order low high [] [] rises rises_too same = refl
+  one_order low high [] (y ∷ ys) rises rises_too same = let clash : [] ≡ y ∷ at_number (key y) ys = same (key y) ∙ own_first y ys in absurd (cc clash)
+  one_order low high (x ∷ xs) [] rises rises_too same = let clash : x ∷ at_number (key x) xs ≡ [] = sym (own_first x xs) ∙ same (key x) in absurd (cc clash)
+  one_order low high (x ∷ xs) (y ∷ ys) rises rises_too same = elim (cases_lt (key x) (key y)) [
+    | inl below ↦ absurd (not_below x y xs ys rises_too.1 (same (key x)) below)
     | inr above ↦ elim (cases_lt (key y) (key x)) [
-      | inl below ↦ absurd (not_below y x ys xs rises.0 (sym (same (key y))) below)
+      | inl below ↦ absurd (not_below y x ys xs rises.1 (sym (same (key y))) below)
       | inr up ↦
           (let number : key x ≡ key y = omega (arith, above, up) in
           let first = first_same x y xs ys number (same (key x)) in
           let all : AreSame (x ∷ xs) (x ∷ ys) = subst (λ z. AreSame (x ∷ xs) (z ∷ ys)) (sym first) same in
-          ap (λ z. z ∷ xs) first ∙ ap (λ l. y ∷ l) (one_order xs ys rises.1 rises_too.1 (rest_same x xs ys all)))
+          ap (λ z. z ∷ xs) first ∙ ap (λ l. y ∷ l) (one_order (key x) (key y) xs ys rises.1 rises_too.1 (rest_same x xs ys all)))
     ]
   ]
 

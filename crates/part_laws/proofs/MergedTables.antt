@@ -9,8 +9,9 @@ use Rattle.std.proofs.lemmas.Map.Keys.{non_decreasing_from_sorted}
 use Rattle.call_records.specs.Tables.{call_header, call_text, record_row}
 use Rattle.call_records.specs.declared.call_record.CallRecord.{CallRecord}
 use Rattle.moment_texts.specs.declared.clock.Clock.{Clock}
+use Rattle.part_laws.proofs.InOrder.{ComesInOrder, rise}
 use Rattle.part_laws.proofs.Merged.{at_number}
-use Rattle.part_laws.proofs.Joined.{AreFrom, Rise, part_within, rise}
+use Rattle.part_laws.proofs.Joined.{part_within}
 use Rattle.run_parts.specs.Parts.{part_by}
 use native.Mathlib.Nat.{mod-lt}
 
@@ -39,13 +40,9 @@ module _ (clock : Clock) where
       by_here true rest = ap (λ l. row_of call ∷ l) rest
       by_here false rest = rest
 
-  rows_from : (low : ℕ) (calls : List CallRecord) → AreFrom (λ (call : CallRecord). call.call) low calls → AreFrom number_of low (map row_of calls)
-  rows_from low [] from = tt
-  rows_from low (call ∷ calls) from = (from.0, rows_from low calls from.1)
-
-  pub rows_rise : (calls : List CallRecord) → Rise (λ (call : CallRecord). call.call) calls → Rise number_of (map row_of calls)
-  rows_rise [] rises = tt
-  rows_rise (call ∷ calls) rises = (rows_from call.call calls rises.0, rows_rise calls rises.1)
+  pub rows_rise : (low : ℕ) (calls : List CallRecord) → ComesInOrder (λ (call : CallRecord). call.call) low calls → ComesInOrder number_of low (map row_of calls)
+  rows_rise low [] rises = tt
+  rows_rise low (call ∷ calls) rises = (rises.0, rows_rise call.call calls rises.1)
 
   rows_printed : (calls : List CallRecord) → flat_map (record_row clock) calls ≡ flat_map (λ (shown : Shown). shown.1) (map row_of calls)
   rows_printed [] = refl
@@ -55,7 +52,7 @@ module _ (clock : Clock) where
   same_table calls others same =
       ap (λ l. call_header ++ l) (rows_printed calls ∙ ap (λ l. flat_map (λ (shown : Shown). shown.1) l) same ∙ sym (rows_printed others))
 
-  pub ascending_rise : (calls : List CallRecord) → IsStrictlySortedBy nat_cmp (map (λ (call : CallRecord). call.call) calls) → Rise (λ (call : CallRecord). call.call) calls
+  pub ascending_rise : (calls : List CallRecord) → IsStrictlySortedBy nat_cmp (map (λ (call : CallRecord). call.call) calls) → ComesInOrder (λ (call : CallRecord). call.call) 0 calls
   ascending_rise calls sorted = rise (λ (call : CallRecord). call.call) calls (λ i j d le within.
       let small : i < length calls = omega (arith, le, within) in
       let numbers = non_decreasing_from_sorted (map (λ (call : CallRecord). call.call) calls) sorted i j d.call le (rw (length-map calls (λ (call : CallRecord). call.call)) within) in

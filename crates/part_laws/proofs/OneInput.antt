@@ -11,13 +11,14 @@ use Rattle.book_texts.specs.RunTexts.{IsRunText}
 use Rattle.call_records.specs.Records.{AreRecords}
 use Rattle.call_records.specs.declared.call_record.CallRecord.{CallRecord}
 use Rattle.live_recovery.specs.Laws.{NoneIsRefused}
-use Rattle.part_laws.proofs.Joined.{all_by_account, rise}
+use Rattle.part_laws.proofs.InOrder.{ComesInOrder, rise}
+use Rattle.part_laws.proofs.Joined.{all_by_account}
 use Rattle.part_laws.proofs.Merged.{all_joined, at_home, at_number, one_order}
 use Rattle.part_laws.proofs.MergedTables.{home_within}
 use Rattle.part_laws.proofs.NoRefusals.{unrefused, unrefused_in}
 use Rattle.part_laws.proofs.PartEvents.{chosen_events}
 use Rattle.part_laws.proofs.Payers.{are_paid}
-use Rattle.part_laws.proofs.ReadInputs.{InOrder, IsReadInput, read_input, rows_ordered}
+use Rattle.part_laws.proofs.ReadInputs.{IsReadInput, of_event, read_input, rows_ordered}
 use Rattle.part_laws.proofs.ScriptParts.{rows_same, scripts_joined, tables_joined}
 use Rattle.part_laws.specs.OneInput.{HasValuesOf, PartsPrintAsOneRun, PrintsAlike}
 use Rattle.part_laws.specs.Parts.{AreAsOfOneRun, choice_of}
@@ -118,7 +119,7 @@ parts_print own_items one_text first single read_proper asked ask input text ref
     sorted = subst (λ (a : List (ℕ × OpeningCredit)). IsStrictlySortedBy nat_cmp (keys_of a)) (sym whole.are_books.of_input.accounts) read.accounts
 
     ordered : rows_are_in_order 0 whole.given_by.rows ≡ true
-    ordered = rows_ordered 0 whole.given_by.rows (subst (InOrder 0) (sym whole.given_by.says) read.script)
+    ordered = rows_ordered 0 whole.given_by.rows (subst (ComesInOrder of_event 0) (sym whole.given_by.says) read.script)
 
     none_of : NoneIsRefused (all_heard whole.heard)
     none_of = unrefused (all_heard whole.heard) ran.refusals whole.refused none_too
@@ -150,7 +151,7 @@ parts_print own_items one_text first single read_proper asked ask input text ref
         map-id (slice_index_or lists part d) ∙ get_or-map events_of parts.parts part e d inside ∙ is.unplaced ∙ ap events_in_rows unplaced ∙ chosen_events choice whole.given_by.play.play.unplaced
         ∙ ap (at_home call_of itself home all) place in
         let count : 1 + length firsts ≡ length lists + 0 = omega (arith, parts.all, length-map parts.parts events_of) in
-        one_order call_of events ran.unplaced (rise call_of events parts.unplaced.rising) (rise call_of ran.unplaced whole.unplaced.rising) (λ number.
+        one_order call_of 0 0 events ran.unplaced (rise call_of events parts.unplaced.rising) (rise call_of ran.unplaced whole.unplaced.rising) (λ number.
         parts.unplaced.same number ∙ ap (at_number call_of number) (sym (joined_lists events_of parts.parts) ∙ sym (map-id (flat_map (λ (kept : List UnplacedEvent). kept) lists)))
         ∙ all_joined call_of itself home all number 0 lists (omega arith) (omega (arith, home_within firsts (payer number) number, count)) each ∙ sym (whole.unplaced.same number))
 

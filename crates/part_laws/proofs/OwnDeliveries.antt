@@ -6,7 +6,8 @@ use Rattle.std.proofs.lemmas.List.{append_cancel_left, map-append}
 use Rattle.std.proofs.lemmas.List.Elements.{All-append, All-cons, All-head, All-nil, All-tail, filter-append}
 use Rattle.cap_values.specs.declared.operation.ScfOp.{ScfOp}
 use Rattle.live_recovery.proofs.Alone.{numbered_more}
-use Rattle.part_laws.proofs.Beside.{IsBetween, IsPartPlay, PassesOver, Rises, chosen_deliveries}
+use Rattle.part_laws.proofs.Beside.{IsBetween, IsPartPlay, PassesOver, chosen_deliveries}
+use Rattle.part_laws.proofs.InOrder.{of_delivery, order_more}
 use Rattle.part_laws.specs.Chosen.{Choice, answers_for, chosen, is_chosen}
 use Rattle.part_laws.specs.Numbers.{unnumbered_answer}
 use Rattle.run_values.specs.declared.post.Answer.{Answer}
@@ -141,21 +142,6 @@ each_at delay now (item ∷ added) (answer ∷ answers) moments =
     All-append (λ (d : Delivery). d.at ≡ now + delay) (deliveries_to delay answer.ops.items item.0 item.1) (deliveries_each delay added answers)
     (to_at delay now answer.ops.items item.0 item.1 (All-head M item added moments)) (each_at delay now added answers (All-tail M item added moments))
 
-rises_at : (from until : ℕ) (added : List Delivery) → from ≤ until → All (λ delivery. delivery.at ≡ until) added → Rises from added
-rises_at from until [] low at = tt
-rises_at from until (delivery ∷ added) low at =
-    let A : Delivery → Type 0 = λ d. d.at ≡ until in
-    let here : delivery.at ≡ until = All-head A delivery added at in
-    (omega (arith, low, here), rises_at delivery.at until added (omega (arith, here)) (All-tail A delivery added at))
-
--- behind operations that come by a moment those of that moment come in order
-rises_more : (from until : ℕ) (queue added : List Delivery) → from ≤ until → Rises from queue → All (λ delivery. delivery.at ≤ until) queue → All (λ delivery. delivery.at ≡ until) added
-    → Rises from (queue ++ added)
-rises_more from until [] added low rises within at = rises_at from until added low at
-rises_more from until (delivery ∷ queue) added low rises within at =
-    let W : Delivery → Type 0 = λ d. d.at ≤ until in
-    (rises.0, rises_more delivery.at until queue added (All-head W delivery queue within) rises.1 (All-tail W delivery queue within) at)
-
 -- ---- once the answers to a round are heard
 
 -- the items that a play has added, and one answer for each
@@ -177,7 +163,7 @@ between_on after now before added answers moments adds between =
     record {
       timers = between.timers;
       rows = between.rows;
-      rises = rises_more now until after.queue sent (omega arith) between.rises between.within at;
+      rises = order_more of_delivery now until after.queue sent (omega arith) between.rises between.within at;
       within = All-append (λ (d : Delivery). d.at ≤ until) after.queue sent between.within (λ k d inside. omega (arith, at k d inside));
       stood = between.stood;
     }

@@ -11,6 +11,7 @@ use Rattle.std.specs.declared.cmp.Ordering.TheVariants.{Less, Equal, Greater}
 use Rattle.std.specs.Prelude.{codes, if◌then◌else◌, nat_le, nat_lt, ok_or}
 use Rattle.std.proofs.lemmas.Bool.Decides.{nat_tests}
 use Rattle.std.proofs.lemmas.List.{reverse-append}
+use Rattle.part_laws.proofs.InOrder.{ComesInOrder}
 use Rattle.run_texts.specs.Happenings.{Happens, Meets, Recharges, ScriptEvent, Starts}
 use Rattle.run_texts.specs.Inputs.{RunInput, as_input_fault, input_of, tariff_in}
 use Rattle.run_texts.specs.Parts.{Texts, texts_of}
@@ -105,16 +106,15 @@ module _ (accounts : List (ℕ × OpeningCredit)) where
       by_read (Err why) is = absurd (cc is)
       by_read (Ok event) is = by_judged (judged_row accounts earlier event) (λ judged at. row_kept earlier event judged at) is
 
--- from the first on, no moment lies below the one before it, nor the first one below the start
-abbrev pub InOrder : ℕ → List ScriptEvent → Type 0
-InOrder start [] = Unit {0}
-InOrder start (event ∷ events) = (start ≤ event.at) × InOrder event.at events
+abbrev pub of_event : ScriptEvent → ℕ
+of_event event = event.at
 
+-- where a list ends that begins at a moment
 abbrev end_from : ℕ → List ScriptEvent → ℕ
 end_from start [] = start
 end_from start (event ∷ events) = end_from event.at events
 
-order_more : (start : ℕ) (events : List ScriptEvent) (event : ScriptEvent) → InOrder start events → end_from start events ≤ event.at → InOrder start (events ++ event ∷ [])
+order_more : (start : ℕ) (events : List ScriptEvent) (event : ScriptEvent) → ComesInOrder of_event start events → end_from start events ≤ event.at → ComesInOrder of_event start (events ++ event ∷ [])
 order_more start [] event order above = (above, tt)
 order_more start (first ∷ events) event order above = (order.0, order_more first.at events event order.1 above)
 
@@ -122,25 +122,25 @@ end_more : (start : ℕ) (events : List ScriptEvent) (event : ScriptEvent) → e
 end_more start [] event = refl
 end_more start (first ∷ events) event = end_more first.at events event
 
-turned : (newest : List ScriptEvent) → Fall newest → InOrder 0 (reverse newest) × (end_from 0 (reverse newest) ≡ last_row_moment newest)
+turned : (newest : List ScriptEvent) → Fall newest → ComesInOrder of_event 0 (reverse newest) × (end_from 0 (reverse newest) ≡ last_row_moment newest)
 turned [] falls = (tt, refl)
 turned (event ∷ earlier) falls =
     let rest = turned earlier falls.1 in
     let last = reverse-append (event ∷ []) earlier in (
-      subst (InOrder 0) (sym last) (order_more 0 (reverse earlier) event rest.0 (subst (λ (n : ℕ). n ≤ event.at) (sym rest.1) falls.0)),
+      subst (ComesInOrder of_event 0) (sym last) (order_more 0 (reverse earlier) event rest.0 (subst (λ (n : ℕ). n ≤ event.at) (sym rest.1) falls.0)),
       ap (end_from 0) last ∙ end_more 0 (reverse earlier) event,
     )
 
-script_ordered : (accounts : List (ℕ × OpeningCredit)) (rows : List Fields) (script : List ScriptEvent) → script_of accounts rows ≡ Ok script → InOrder 0 script
+script_ordered : (accounts : List (ℕ × OpeningCredit)) (rows : List Fields) (script : List ScriptEvent) → script_of accounts rows ≡ Ok script → ComesInOrder of_event 0 script
 script_ordered accounts rows script is = by_table (table_of (script_form accounts) rows) refl is
   where
-    by_table : (read : Result (List ScriptEvent) _) → table_of (script_form accounts) rows ≡ read → and_then read (λ newest. Ok (reverse newest)) ≡ Ok script → InOrder 0 script
+    by_table : (read : Result (List ScriptEvent) _) → table_of (script_form accounts) rows ≡ read → and_then read (λ newest. Ok (reverse newest)) ≡ Ok script → ComesInOrder of_event 0 script
     by_table (Err why) at is = absurd (cc is)
     by_table (Ok newest) at is =
         let same : reverse newest ≡ script = cc is in
-        subst (InOrder 0) same (turned newest (table_keeps (script_form accounts) Fall (script_falls accounts) tt rows newest at)).0
+        subst (ComesInOrder of_event 0) same (turned newest (table_keeps (script_form accounts) Fall (script_falls accounts) tt rows newest at)).0
 
-pub rows_ordered : (start : ℕ) (rows : List ScriptRow) → InOrder start (map script_event rows) → rows_are_in_order start rows ≡ true
+pub rows_ordered : (start : ℕ) (rows : List ScriptRow) → ComesInOrder of_event start (map script_event rows) → rows_are_in_order start rows ≡ true
 rows_ordered start [] order = refl
 rows_ordered start (row ∷ rows) order = let first : nat_le start row.at ≡ true = grind (arith, nat_tests, order.0) in rw first (rows_ordered row.at rows order.1)
 
@@ -242,7 +242,7 @@ accounts_sorted rows setup is = table_keeps setup_form AreSorted setup_sorted no
 pub record IsReadInput (said : RunInput) : Type 0 where
   pub tariff : IsReadTariff said.tariff
   pub accounts : IsStrictlySortedBy nat_cmp (keys_of said.setup.accounts)
-  pub script : InOrder 0 said.script
+  pub script : ComesInOrder of_event 0 said.script
 
 named_fault : {X E : Type 0} (tell : E → InputFault) (read : Result X E) (x : X) → as_input_fault tell read ≡ Ok x → read ≡ Ok x
 named_fault tell (Ok y) x is = let same : y ≡ x = cc is in ap Ok same

@@ -8,7 +8,8 @@ use Rattle.std.specs.List.Sorted.{IsStrictlySortedBy}
 use Rattle.std.specs.Option.{ForSome}
 use Rattle.std.specs.Ordering.{nat_cmp}
 use Rattle.part_laws.proofs.Beside.{EndsAreFollowed, HasEnded, IsAdded, IsBetween, IsFollowed, IsNetworkOf, IsPartPlay, RoundsAreFollowed, chosen_deliveries}
-use Rattle.part_laws.proofs.ChosenFronts.{all_from, at_now, ComesInOrder, in_order_queue, in_order_rows, kept_calls, kept_order, kept_split, lower, lower_all, next_delivery_from, next_row_from, of_delivery, of_row, order_from, queue_later, queue_rises, queue_starts, raise_all, rest_in_order, rows_in_order, rows_later, rows_start, starts_of, timer_of_all}
+use Rattle.part_laws.proofs.ChosenFronts.{at_now, in_order_rows, kept_calls, kept_split, next_delivery_from, next_row_from, of_row, queue_later, queue_starts, rows_in_order, rows_later, rows_start, timer_of_all}
+use Rattle.part_laws.proofs.InOrder.{all_from, ComesInOrder, kept_order, lower, lower_all, of_delivery, order_from, raise_all, rest_in_order, starts_of}
 use Rattle.part_laws.proofs.ChosenSteps.{chain_followed, delivers_followed, plays_followed, rows_missed, waits_followed}
 use Rattle.part_laws.proofs.LeastMoments.{From, IsLeast, least_of}
 use Rattle.part_laws.proofs.RoundMoments.{AreTimely, GrowsAt, chain_at, delivers_at, expires_later, grows_both, happens_at, waits_at}
@@ -198,7 +199,7 @@ module _ (whole after : Play) (answers : List Answer) (last : ℕ) (round : IsRo
   now = round.now
 
   before : NothingBefore now whole (waiting whole answers)
-  before = nothing_before whole after answers last round (in_order_queue last (waiting whole answers) between.rises) (in_order_rows last whole.left between.rows)
+  before = nothing_before whole after answers last round between.rises (in_order_rows last whole.left between.rows)
 
   timely : AreTimely now whole.network
   timely call view is =
@@ -219,7 +220,7 @@ module _ (whole after : Play) (answers : List Answer) (last : ℕ) (round : IsRo
   not_back : last ≤ now
   not_back = round_from last whole after answers round (record {
     rows = all_from of_row last whole.left (in_order_rows last whole.left between.rows);
-    deliveries = all_from of_delivery last (waiting whole answers) (in_order_queue last (waiting whole answers) between.rises);
+    deliveries = all_from of_delivery last (waiting whole answers) between.rises;
     timers = λ call at timer. let later : last < at = between.timers call at timer in omega (arith, later);
   })
 
@@ -243,8 +244,8 @@ module _ (whole after : Play) (answers : List Answer) (last : ℕ) (round : IsRo
             let order = subst (ComesInOrder of_row last) plays.split (in_order_rows last whole.left between.rows) in
             rows_in_order now after.left (lower of_row now (now + 1) after.left soon (rest_in_order of_row last (now + 1) plays.played after.left order (rows_later now after.left plays.later)));
         rises =
-            let order = subst (ComesInOrder of_delivery last) delivers.split (in_order_queue last (waiting whole answers) between.rises) in
-            queue_rises now after.queue (lower of_delivery now (now + 1) after.queue soon (rest_in_order of_delivery last (now + 1) delivers.delivered after.queue order (queue_later now after.queue delivers.later)));
+            let order = subst (ComesInOrder of_delivery last) delivers.split between.rises in
+            lower of_delivery now (now + 1) after.queue soon (rest_in_order of_delivery last (now + 1) delivers.delivered after.queue order (queue_later now after.queue delivers.later));
         within = raise_all of_delivery (last + whole.delay) (now + after.delay) after.queue in_time within;
         stood = λ call view is. (grows.timely call view is).own;
       }
@@ -260,7 +261,7 @@ module _ (one_way : TimersRunOneWay) (choice : Choice) (whole after part its : P
       → GoesBeside choice (goes_in whole after answers round) goes
   goes_with after_part queue_left rows_left goes =
       goes_beside one_way choice round.now last whole.network after.network part.network after_part (waiting whole answers) after.queue (waiting part own_answers) queue_left whole.left after.left part.left rows_left
-      (goes_in whole after answers round) goes (in_order_queue last (waiting whole answers) between.rises) (in_order_rows last whole.left between.rows)
+      (goes_in whole after answers round) goes between.rises (in_order_rows last whole.left between.rows)
       (record { network = beside.network; queue_is = beside.queue_is; rows_are = beside.left })
 
   -- the same, whatever the moment of its round is called
@@ -326,7 +327,7 @@ module _ (one_way : TimersRunOneWay) (choice : Choice) (whole after part its : P
   own_queue_order : ComesInOrder of_delivery last (waiting part own_answers)
   own_queue_order =
       subst (ComesInOrder of_delivery last) (sym beside.queue_is)
-      (kept_order of_delivery (λ (delivery : Delivery). choice.calls delivery.call) last (waiting whole answers) (in_order_queue last (waiting whole answers) between.rises))
+      (kept_order of_delivery (λ (delivery : Delivery). choice.calls delivery.call) last (waiting whole answers) between.rises)
 
   own_row_order : ComesInOrder of_row last part.left
   own_row_order =
@@ -366,7 +367,7 @@ ends_followed choice whole after part its answers own_answers last more end turn
     by_turn : (more : Bool) → IsTurn more part its own_answers → HasEnded part its
     by_turn false its_end = record { ended = its_end.ended; given = ap (λ (s : Shown). s.given) its_end.same_network; unplaced = its_end.same_unplaced }
     by_turn true its_round =
-        let none = nothing_left whole after answers last end (in_order_queue last (waiting whole answers) between.rises) in
+        let none = nothing_left whole after answers last end between.rises in
         let its_none = part_from choice (HORIZON + 1) whole part (waiting whole answers) (waiting part own_answers) none beside in
         let late : HORIZON + 1 ≤ its_round.now = round_from (HORIZON + 1) part its own_answers its_round its_none in
         let within : its_round.now ≤ HORIZON = (least_in part its own_answers its_round).within in absurd (omega (arith, late, within))

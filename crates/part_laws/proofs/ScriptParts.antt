@@ -6,7 +6,8 @@ use Rattle.book_texts.specs.Laws.{BooksHaveOneText}
 use Rattle.call_records.specs.Records.{AreRecords}
 use Rattle.call_records.specs.declared.call_record.CallRecord.{CallRecord}
 use Rattle.part_laws.proofs.Apart.{accounts_apart}
-use Rattle.part_laws.proofs.Joined.{all_by_account, parts_joined, rise}
+use Rattle.part_laws.proofs.InOrder.{rise}
+use Rattle.part_laws.proofs.Joined.{all_by_account, parts_joined}
 use Rattle.part_laws.proofs.Merged.{all_joined, at_home, one_order}
 use Rattle.part_laws.proofs.MergedTables.{ascending_rise, home_within, number_of, numbered_rows, row_of, rows_rise, same_table}
 use Rattle.part_laws.proofs.OneRecord.{records_one}
@@ -104,9 +105,9 @@ tables_joined own_items first single setup config delay firsts rows heard given 
     let place : part ≡ part + 0 = omega arith in
     records_one single (run_given setup (chosen choice given) its.books) clock (slice_index_or parts part d) (filter (λ (call : CallRecord). choice.calls call.call) whole.calls) kept records
     ∙ own_shown clock firsts payer part whole.calls ∙ ap (at_home number_of (row_of clock) home all) place in
-    let joined : map (row_of clock) merged.calls ≡ all = one_order number_of (map (row_of clock) merged.calls) all
-    (rows_rise clock merged.calls (rise (λ (call : CallRecord). call.call) merged.calls merged.merged.rising))
-    (rows_rise clock whole.calls (ascending_rise clock whole.calls whole.are.ascending))
+    let joined : map (row_of clock) merged.calls ≡ all = one_order number_of 0 0 (map (row_of clock) merged.calls) all
+    (rows_rise clock 0 merged.calls (rise (λ (call : CallRecord). call.call) merged.calls merged.merged.rising))
+    (rows_rise clock 0 whole.calls (ascending_rise clock whole.calls whole.are.ascending))
     (λ number.
     numbered_rows clock number merged.calls ∙ ap (map (row_of clock)) (merged.merged.same number) ∙ sym (numbered_rows clock number (flat_map (λ (kept : List CallRecord). kept) parts))
     ∙ all_joined number_of (row_of clock) home all number 0 parts (omega arith) (omega (arith, home_within firsts (payer number) number, played.count)) each) in
