@@ -1,30 +1,18 @@
 # The three commands of the README are `make run`, `make` and `make test`.
 SHELL := bash
 PREFIX ?= /usr/local
-# How many processors the proof of a crate may take.
+# How many crates are proved at once.
 JOBS = $(shell nproc)
 SOURCES := crates.txt $(shell find crates -path '*/out' -prune -o -name '*.rt' -print -o -name '*.antt' -print)
 
 .PHONY: all quick run report picture test edits install dist bench recipes
 
-# Proves and builds bin/prepaid; out/proved/prepaid says by which toolchain. A process takes 0.7 to 1.1 GB.
+# Proves what is below the program, several crates at once, and builds bin/prepaid; out/proved/prepaid says by which
+# toolchain. A process takes 0.7 to 3.5 GB.
 all: bin/prepaid
 
-# The crates, those of them that a crate uses, and its files.
-crates := $(shell sed -n 's/^\([a-z0-9_]*\).*:.*/\1/p' crates.txt)
-used = $(filter $(crates),$(shell sed -n 's/^$(1):\(.*\)/\1/p' crates.txt))
-files = $(shell find crates/$(1)/src crates/$(1)/specs crates/$(1)/proofs -type f 2> /dev/null)
-
-# A crate is proved once those are that it uses.
-define library
-out/proved/$(1): $(call files,$(1)) $(addprefix out/proved/,$(call used,$(1)))
-	cd crates/$(1) && rt lib --jobs $$(JOBS)
-	@mkdir -p out/proved
-	@touch $$@
-endef
-$(foreach crate,$(filter-out prepaid,$(crates)),$(eval $(call library,$(crate))))
-
-bin/prepaid: $(call files,prepaid) $(addprefix out/proved/,$(call used,prepaid))
+bin/prepaid: $(SOURCES)
+	cd crates/prepaid && rt all check --jobs $(JOBS)
 	cd crates/prepaid && rt run --jobs $(JOBS) -- --help > /dev/null
 	mkdir -p bin out/proved
 	rt version > out/proved/prepaid
