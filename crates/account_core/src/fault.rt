@@ -33,14 +33,14 @@ impl fmt::Display for AccountFault {
     ghost output = { λ fault. Some (account_fault_name fault) };
 
     fn fmt<W: fmt::Write>(&self, f: &mut fmt::Formatter<W>) -> fmt::Result {
-        match self {
-            AccountFault::OutOfMemory => f.write_str("OutOfMemory"),
-            AccountFault::HistoryFull => f.write_str("HistoryFull"),
-            AccountFault::NotOpen => f.write_str("NotOpen"),
-            AccountFault::CallUsed => f.write_str("CallUsed"),
-            AccountFault::OutOfRange => f.write_str("OutOfRange"),
-            AccountFault::GateClosed => f.write_str("GateClosed"),
-        }
+        f.write_str(match self {
+            AccountFault::OutOfMemory => "OutOfMemory",
+            AccountFault::HistoryFull => "HistoryFull",
+            AccountFault::NotOpen => "NotOpen",
+            AccountFault::CallUsed => "CallUsed",
+            AccountFault::OutOfRange => "OutOfRange",
+            AccountFault::GateClosed => "GateClosed",
+        })
     }
 }
 

@@ -30,12 +30,12 @@ impl fmt::Display for SetupFault {
     ghost output = { λ fault. Some (setup_fault_name fault) };
 
     fn fmt<W: fmt::Write>(&self, f: &mut fmt::Formatter<W>) -> fmt::Result {
-        match self {
-            SetupFault::Repeated => f.write_str("Repeated"),
-            SetupFault::Unknown => f.write_str("Unknown"),
-            SetupFault::OutOfRange => f.write_str("OutOfRange"),
-            SetupFault::OutOfMemory => f.write_str("OutOfMemory"),
-        }
+        f.write_str(match self {
+            SetupFault::Repeated => "Repeated",
+            SetupFault::Unknown => "Unknown",
+            SetupFault::OutOfRange => "OutOfRange",
+            SetupFault::OutOfMemory => "OutOfMemory",
+        })
     }
 }
 

@@ -30,14 +30,14 @@ impl fmt::Display for RunFault {
     ghost output = { λ fault. Some (run_fault_name fault) };
 
     fn fmt<W: fmt::Write>(&self, f: &mut fmt::Formatter<W>) -> fmt::Result {
-        match self {
-            RunFault::OutOfMemory => f.write_str("OutOfMemory"),
-            RunFault::Workers => f.write_str("Workers"),
-            RunFault::GateClosed => f.write_str("GateClosed"),
-            RunFault::Mismatch => f.write_str("Mismatch"),
-            RunFault::Channel => f.write_str("Channel"),
-            RunFault::Thread => f.write_str("Thread"),
-        }
+        f.write_str(match self {
+            RunFault::OutOfMemory => "OutOfMemory",
+            RunFault::Workers => "Workers",
+            RunFault::GateClosed => "GateClosed",
+            RunFault::Mismatch => "Mismatch",
+            RunFault::Channel => "Channel",
+            RunFault::Thread => "Thread",
+        })
     }
 }
 

@@ -36,17 +36,17 @@ impl fmt::Display for RowKind {
     ghost output = { λ kind. Some (row_kind_name kind) };
 
     fn fmt<W: fmt::Write>(&self, f: &mut fmt::Formatter<W>) -> fmt::Result {
-        match self {
-            RowKind::Csv => f.write_str("Csv"),
-            RowKind::Header => f.write_str("Header"),
-            RowKind::TooManyRows => f.write_str("TooManyRows"),
-            RowKind::What => f.write_str("What"),
-            RowKind::Number => f.write_str("Number"),
-            RowKind::Empty => f.write_str("Empty"),
-            RowKind::Order => f.write_str("Order"),
-            RowKind::Repeated => f.write_str("Repeated"),
-            RowKind::Unknown => f.write_str("Unknown"),
-        }
+        f.write_str(match self {
+            RowKind::Csv => "Csv",
+            RowKind::Header => "Header",
+            RowKind::TooManyRows => "TooManyRows",
+            RowKind::What => "What",
+            RowKind::Number => "Number",
+            RowKind::Empty => "Empty",
+            RowKind::Order => "Order",
+            RowKind::Repeated => "Repeated",
+            RowKind::Unknown => "Unknown",
+        })
     }
 }
 

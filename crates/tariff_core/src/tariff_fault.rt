@@ -53,22 +53,22 @@ impl fmt::Display for TariffKind {
     ghost output = { λ kind. Some (tariff_kind_name kind) };
 
     fn fmt<W: fmt::Write>(&self, f: &mut fmt::Formatter<W>) -> fmt::Result {
-        match self {
-            TariffKind::Csv => f.write_str("Csv"),
-            TariffKind::Header => f.write_str("Header"),
-            TariffKind::Digits => f.write_str("Digits"),
-            TariffKind::From => f.write_str("From"),
-            TariffKind::Money => f.write_str("Money"),
-            TariffKind::Repeated => f.write_str("Repeated"),
-            TariffKind::NoMidnightBand => f.write_str("NoMidnightBand"),
-            TariffKind::OutOfMemory => f.write_str("OutOfMemory"),
-            TariffKind::Device => f.write_str("Device"),
-            TariffKind::TooManyRows => f.write_str("TooManyRows"),
-            TariffKind::Free => f.write_str("Free"),
-            TariffKind::First => f.write_str("First"),
-            TariffKind::Step => f.write_str("Step"),
-            TariffKind::Days => f.write_str("Days"),
-        }
+        f.write_str(match self {
+            TariffKind::Csv => "Csv",
+            TariffKind::Header => "Header",
+            TariffKind::Digits => "Digits",
+            TariffKind::From => "From",
+            TariffKind::Money => "Money",
+            TariffKind::Repeated => "Repeated",
+            TariffKind::NoMidnightBand => "NoMidnightBand",
+            TariffKind::OutOfMemory => "OutOfMemory",
+            TariffKind::Device => "Device",
+            TariffKind::TooManyRows => "TooManyRows",
+            TariffKind::Free => "Free",
+            TariffKind::First => "First",
+            TariffKind::Step => "Step",
+            TariffKind::Days => "Days",
+        })
     }
 }
 
