@@ -1,11 +1,11 @@
 //! The workers of a run are started, and waited for.
 
-ghost use Rattle.std.specs.Prelude.{◌≡◌, ◌<◌, ◌+◌, ◌++◌, ◌∷◌, [], List, length, map, All, IfErr, IfOk, OnOk};
+ghost use Rattle.std.specs.Prelude.{◌≡◌, ◌<◌, [], length, map, All, IfErr, OnOk};
 ghost use Rattle.std.specs.Map.{keys_of};
 ghost use Rattle.std.specs.Vec.Iter.{into_iter_items};
 ghost use Rattle.runs_core.specs.RunFaults.{AsksNoGate, MayAskGate};
-ghost use Rattle.runs_core.specs.Sending.{AreLeftBy, ArePromised, IsFirstFault, IsLeftBy, MayBeShut, heard_by, promises_of, sent_by};
-ghost use Rattle.runs_core.specs.Teams.{AreFresh, IsFresh};
+ghost use Rattle.runs_core.specs.Sending.{AreLeftBy, ArePromised, IsFirstFault, MayBeShut, heard_by, promises_of, sent_by};
+ghost use Rattle.runs_core.specs.Teams.{AreFresh};
 ghost use Rattle.workers_core.specs.Workers.{number_by};
 
 use crate::RunFault;
@@ -42,39 +42,10 @@ pub(crate) fn start_all<'s, E, S: Shared, R: Wait + Threads + Sync, G: Gate + Sy
 {
     let mut number = 1;
     for team in teams {
-        start_one(scope, rt, alloc, number, setup, accounts, team, gate, links)?;
+        let link = start(scope, rt, alloc, number, setup, accounts, team, gate)?;
+        links.push(link)?;
         number += 1;
     }
-    Ok(())
-}
-
-/// Starts the worker of a number, and puts down its link behind those of the workers before it.
-fn start_one<'s, E, S: Shared, R: Wait + Threads + Sync, G: Gate + Sync>(
-    scope: &Scope<'s, E>,
-    rt: &'s R,
-    alloc: Global,
-    number: u32,
-    setup: &'s RunSetup,
-    accounts: &'s [S],
-    seats: Vec<S::Seat>,
-    gate: &'s G,
-    links: &mut Vec<WorkerLink<'s, S, G>>,
-) -> Result<(), RunFault>
-    requires numbered { map (number_by S.terms) accounts.now ≡ keys_of setup.now.accounts }
-    requires fresh { IsFresh S.reads (map S.key accounts.now) number seats.items }
-    requires count { length links.old.items + 1 ≡ number }
-    requires silent { All (λ link. sent_by link ≡ []) links.old.items }
-    requires unheard { All (λ link. heard_by link ≡ []) links.old.items }
-    requires promised { ArePromised setup.now accounts.now gate.now 1
-        (promises_of links.old.items) }
-    ensures count { OnOk result (length links.new.items ≡ number) }
-    ensures silent { All (λ link. sent_by link ≡ []) links.new.items }
-    ensures unheard { All (λ link. heard_by link ≡ []) links.new.items }
-    ensures promised { ArePromised setup.now accounts.now gate.now 1 (promises_of links.new.items) }
-    ensures fault { AsksNoGate result }
-{
-    let link = start(scope, rt, alloc, number, setup, accounts, seats, gate)?;
-    links.push(link)?;
     Ok(())
 }
 
@@ -94,7 +65,7 @@ pub(crate) fn finish_all<S: Shared, R: Wait + Threads, G: Gate>(
 {
     let mut fault = None;
     for link in links {
-        if let Err(why) = finish_one(rt, link, left) {
+        if let Err(why) = link.finish(rt, left) {
             fault = fault.or(Some(why));
         }
     }
@@ -102,21 +73,4 @@ pub(crate) fn finish_all<S: Shared, R: Wait + Threads, G: Gate>(
         None => Ok(()),
         Some(why) => Err(why),
     }
-}
-
-/// Waits for a worker to end, and puts down what it leaves.
-fn finish_one<S: Shared, R: Wait + Threads, G: Gate>(
-    rt: &R,
-    link: WorkerLink<'_, S, G>,
-    left: &mut Vec<Vec<S::Seat>>,
-) -> Result<(), RunFault>
-    ensures left { OnOk result ((team : List S.Seat)
-        × (map (λ team. team.items) left.new.items
-        ≡ map (λ team. team.items) left.old.items ++ team ∷ [])
-        × IsLeftBy S.reads S.key S.was link.entry team) }
-    ensures fault { MayAskGate (G.may_shut link.entry.child.promise.gate.now) result }
-{
-    let seats = link.finish(rt)?;
-    left.push(seats)?;
-    Ok(())
 }

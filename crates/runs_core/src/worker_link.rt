@@ -134,13 +134,20 @@ impl<S: Shared, G: Gate> WorkerLink<'_, S, G> {
         }
     }
 
-    /// Sends the last mail, and waits for what the worker leaves.
-    pub(crate) fn finish<R: Wait + Threads>(self, rt: &R) -> Result<Vec<S::Seat>, RunFault>
-        ensures left { IfOk result (λ seats. IsLeft S.reads S.was
+    /// Sends the last mail, waits for the worker to end, and puts down what it leaves.
+    pub(crate) fn finish<R: Wait + Threads>(
+        self,
+        rt: &R,
+        left: &mut Vec<Vec<S::Seat>>,
+    ) -> Result<(), RunFault>
+        ensures left { OnOk result ((team : List S.Seat)
+            × (map (λ team. team.items) left.new.items
+            ≡ map (λ team. team.items) left.old.items ++ team ∷ [])
+            × IsLeft S.reads S.was
             (map S.key self.entry.child.promise.accounts.now)
             self.entry.child.promise.setup.now self.entry.child.promise.number
             (items_in (sent self.entry.outbox))
-            (map answer_view (items_in (taken self.entry.inbox))) seats.items) }
+            (map answer_view (items_in (taken self.entry.inbox))) team) }
         ensures fault { MayAskGate (G.may_shut self.entry.child.promise.gate.now) result }
     {
         let WorkerLink {
@@ -158,7 +165,8 @@ impl<S: Shared, G: Gate> WorkerLink<'_, S, G> {
         compare_ends(outbox, posts);
         take_last(rt, &mut inbox)?;
         compare_ends(answers, inbox);
-        Ok(seats)
+        left.push(seats)?;
+        Ok(())
     }
 }
 

@@ -12,13 +12,13 @@ loop-link-init g c =
 pub loop-link-preserved-in-Err : goal.loop-link-preserved-in-Err
 loop-link-preserved-in-Err g c =
     rw (c.or-fault.ensures)
-    (one_failed _ _ _ _ c.args.links.items (into_iter_items c.next.new.self) (map (λ team. team.items) c.loop-link.left.items) (map (λ team. team.items) c.finish_one.new.left.items) c.loop-link.fault c.in-Some.link c.in-Err.why
+    (one_failed _ _ _ _ c.args.links.items (into_iter_items c.next.new.self) (map (λ team. team.items) c.loop-link.left.items) (map (λ team. team.items) c.finish.new.left.items) c.loop-link.fault c.in-Some.link c.in-Err.why
     (rw c.in-Some.ensures.steps.0 at c.loop-link.invariant) (search rules) (search rules))
 
 pub loop-link-preserved : goal.loop-link-preserved
 loop-link-preserved g c =
     let left = c.in_default.ensures.left in
-    one_finished _ _ _ _ c.args.links.items (into_iter_items c.next.new.self) (map (λ team. team.items) c.loop-link.left.items) (map (λ team. team.items) c.finish_one.new.left.items) c.loop-link.fault c.in-Some.link left.0
+    one_finished _ _ _ _ c.args.links.items (into_iter_items c.next.new.self) (map (λ team. team.items) c.loop-link.left.items) (map (λ team. team.items) c.finish.new.left.items) c.loop-link.fault c.in-Some.link left.0
     (rw c.in-Some.ensures.steps.0 at c.loop-link.invariant) left.1 left.2
 
 pub returns-in-None-fault-clause-left : goal.returns-in-None-fault-clause-left

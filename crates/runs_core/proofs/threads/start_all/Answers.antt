@@ -1,6 +1,9 @@
-use Rattle.std.proofs.Common.{arith, ◌≡◌, [], refl}
-use Rattle.std.proofs.lemmas.List.Elements.{All-nil}
-use Rattle.runs_core.specs.Sending.{heard_by, sent_by}
+use Rattle.std.proofs.Common.{arith, ◌≡◌, ◌+◌, ◌∷◌, [], length, ap, refl, ◌∙◌}
+use Rattle.std.proofs.lemmas.List.{length-append, length-map, map-append}
+use Rattle.std.proofs.lemmas.List.Elements.{All-nil, All-push}
+use Rattle.runs_core.proofs.Finishing.{promised_more}
+use Rattle.runs_core.specs.Mails.{items_in}
+use Rattle.runs_core.specs.Sending.{heard_by, promises_of, sent_by}
 use Rattle.runs_core.proofs.threads.start_all.Goals as goal
 
 pub loop-team-init : goal.loop-team-init
@@ -8,13 +11,28 @@ loop-team-init g c =
     rw (c.requires.none, c.into_iter-team-iterator.ensures.into_iter_gives)
     (refl, omega (arith), c.requires.fresh, All-nil (λ link. sent_by link ≡ []), tt, All-nil (λ link. heard_by link ≡ []))
 
-pub start_one-requires-clause-fresh : goal.start_one-requires-clause-fresh
-start_one-requires-clause-fresh g c =
+pub start-requires-clause-fresh : goal.start-requires-clause-fresh
+start-requires-clause-fresh g c =
     let before = rw c.in-Some.ensures.steps.0 at c.loop-team.invariant in
     λ _ _. before.2.0
 
-pub returns-in_err-start_one-clause-promised : goal.returns-in_err-start_one-clause-promised
-returns-in_err-start_one-clause-promised g c = c.start_one.ensures.promised
+pub returns-in_err-link-clause-silent : goal.returns-in_err-link-clause-silent
+returns-in_err-link-clause-silent g c = c.loop-team.invariant.3
+
+pub returns-in_err-link-clause-unheard : goal.returns-in_err-link-clause-unheard
+returns-in_err-link-clause-unheard g c = c.loop-team.invariant.5
+
+pub returns-in_err-link-clause-promised : goal.returns-in_err-link-clause-promised
+returns-in_err-link-clause-promised g c = c.loop-team.invariant.4
+
+pub returns-in_err-push-clause-silent : goal.returns-in_err-push-clause-silent
+returns-in_err-push-clause-silent g c = rw (c.in_err-push.ensures.items) c.loop-team.invariant.3
+
+pub returns-in_err-push-clause-unheard : goal.returns-in_err-push-clause-unheard
+returns-in_err-push-clause-unheard g c = rw (c.in_err-push.ensures.items) c.loop-team.invariant.5
+
+pub returns-in_err-push-clause-promised : goal.returns-in_err-push-clause-promised
+returns-in_err-push-clause-promised g c = rw (c.in_err-push.ensures.items) c.loop-team.invariant.4
 
 pub overflow_add-number : goal.overflow_add-number
 overflow_add-number g c =
@@ -24,7 +42,24 @@ overflow_add-number g c =
 pub loop-team-preserved : goal.loop-team-preserved
 loop-team-preserved g c =
     let before = rw c.in-Some.ensures.steps.0 at c.loop-team.invariant in
-    (omega (arith, c.in_ok-start_one.ensures.count), omega (arith, before.1), before.2.1, c.start_one.ensures.silent, c.start_one.ensures.promised, c.start_one.ensures.unheard)
+    let links = c.loop-team.links.items in
+    let link = c.in_ok-link.link in
+    let number : c.loop-team.number ≡ 1 + length (promises_of links) = omega (arith, before.0, length-map links (λ link. link.child.promise)) in
+    rw (c.in_ok-push.ensures.items) (
+      omega (arith, before.0, length-append links (link ∷ [])),
+      omega (arith, before.1),
+      before.2.1,
+      All-push (λ link. sent_by link ≡ []) links link before.3 (ap items_in c.in_ok-link.ensures.sent),
+      rw (map-append (λ link. link.child.promise) links (link ∷ []))
+          (promised_more c.args.setup.now c.args.accounts.now c.args.gate.now 1 (promises_of links) link.child.promise before.4
+          (record {
+            setup_is = c.in_ok-link.ensures.setup;
+            accounts_are = c.in_ok-link.ensures.accounts;
+            gate_is = c.in_ok-link.ensures.gate;
+            number_is = c.in_ok-link.ensures.number ∙ number;
+          })),
+      All-push (λ link. heard_by link ≡ []) links link before.5 (ap items_in c.in_ok-link.ensures.heard),
+    )
 
 pub returns-clause-count : goal.returns-clause-count
 returns-clause-count g c =
