@@ -3,11 +3,12 @@
 //! somebody sits at a terminal.
 #![tactic(auto)]
 
-use prepaid_command::{Fault, Noting, Terminal, command};
+use prepaid_command::{Terminal, command};
 use std::alloc::AllocError;
 use std::io::{BufReader, IsTerminal};
 use std::process::ExitCode;
 use std::{env, io};
+use table_commands::{Fault, Noting};
 
 /// How many bytes of the input are read ahead: all that a pipe holds.
 const READ_AHEAD: usize = 65_536;

@@ -1,6 +1,6 @@
 -- An answer to a wish is an answer to the words that ask for it.
 use Rattle.std.proofs.Common.{◌≡◌, ℕ, Bool, true, false, List, Option, Some, None, Result, Ok, Err, ap, refl, ◌∙◌, subst, subst₂, sym, inl, inr}
-use Rattle.std.specs.Prelude.{◌⊎◌, ⊤, IfErr, IfNone, IfOk, IfSome, MatchResult, option_map, if◌then◌else◌, length, nat_lt}
+use Rattle.std.specs.Prelude.{◌⊎◌, ⊤, IfErr, IfOk, IfSome, MatchResult, option_map, if◌then◌else◌, length, nat_lt}
 use Rattle.std.specs.Result.{result_map_both}
 use Rattle.book_texts.specs.Books.{Books, books_of}
 use Rattle.book_texts.specs.Sizes.{most_rows}
@@ -27,17 +27,22 @@ use Rattle.table_core.specs.declared.fault.RowFault.{RowFault}
 use Rattle.tariff_core.specs.Bands.{Band}
 use Rattle.tariff_core.specs.Rates.{Rates}
 use Rattle.tariff_core.specs.Times.{Elapsed}
-use Rattle.prepaid_command.specs.Answers.{Answers, IsAnswer, IsAnswerTo, IsAuditOfTable, IsFiledRun, IsSaidOrReported, IsAuditPrinted, IsQuotePrinted, IsRunPrinted, Written, price_of_input, replay_of_input}
-use Rattle.prepaid_command.specs.Explanations.{IsAdded, IsOfWords, IsSaidBehind, IsSaidBy, IsSaidOfFault, has_parts, slip_of}
-use Rattle.prepaid_command.specs.Faults.{GivesAnswer, GivesOne, meaning_in, meaning_of_part, of_run, of_run_input, of_words}
-use Rattle.prepaid_command.specs.Input.{sized, sized_as}
-use Rattle.prepaid_command.specs.PriceLines.{price_lines}
-use Rattle.prepaid_command.specs.Reports.{table_reports_of}
-use Rattle.prepaid_command.specs.Replays.{replayed}
-use Rattle.prepaid_command.specs.Printouts.{Printout, plain, printout_of_files, printout_of_run}
-use Rattle.prepaid_command.specs.declared.fault.Fault.{Fault}
-use Rattle.prepaid_command.specs.declared.fault.Fault.TheVariants as fault
-use Rattle.prepaid_command.specs.declared.fault.Part.TheVariants as part
+use Rattle.table_commands.specs.Answers.{IsAuditOfTable, IsAuditPrinted, IsQuotePrinted, price_of_input, replay_of_input}
+use Rattle.table_commands.specs.Explanations.{IsOfWords, IsSaidOfAnswer, IsSaidOfFault}
+use Rattle.table_commands.specs.Faults.{GivesAnswer, GivesOne, meaning_in, meaning_of_part, of_run_input, of_words}
+use Rattle.table_commands.specs.Input.{sized, sized_as}
+use Rattle.table_commands.specs.PriceLines.{price_lines}
+use Rattle.table_commands.specs.Printouts.{Printout, plain}
+use Rattle.table_commands.specs.Replays.{replayed}
+use Rattle.table_commands.specs.Reports.{table_reports_of}
+use Rattle.table_commands.specs.Writers.{Written}
+use Rattle.table_commands.specs.declared.fault.Fault.{Fault}
+use Rattle.table_commands.specs.declared.fault.Fault.TheVariants as fault
+use Rattle.table_commands.specs.declared.fault.Part.TheVariants as part
+use Rattle.prepaid_command.specs.Answers.{Answers, IsAnswer, IsAnswerTo, IsFiledRun, IsRunPrinted, IsSaidOrReported}
+use Rattle.prepaid_command.specs.Explanations.{IsAdded, IsSaidBehind, IsSaidBy, has_parts}
+use Rattle.prepaid_command.specs.Faults.{of_run}
+use Rattle.prepaid_command.specs.Printouts.{printout_of_files, printout_of_run}
 
 -- ---- no input has a fault of the words
 
@@ -202,18 +207,14 @@ filed_of ask folder input answer is = filed_by ask (sized input) answer (sized_o
 
 -- ---- and is printed
 
--- what is said over an input that was kept is said over the input
-said_over : {V W X : Type 0} (words : List (List ℕ)) (items : V → List ℕ) (text_of : W → List ℕ) (view : X → Printout) (known : Option (List ℕ)) (kept : Option V) (more : Option W)
-    (answer : Result X Fault) (wish : Wish) → AsksFor words wish → IfSome known (λ text. IfSome kept (λ bytes. items bytes ≡ text))
-    → IfNone kept (IfErr answer (λ why. IfSome more (λ m. slip_of (has_parts wish) why ≡ None)))
-    → IfSome kept (λ bytes. IfErr answer (λ why. IfSome more (λ said. IsSaidOfFault (has_parts wish) (items bytes) why (text_of said))))
-    → IfSome known (λ text. IfErr (result_map_both view (λ why. why) answer) (λ why. IfSome (option_map text_of more) (λ said. IsSaidBy words text why said)))
-said_over words items text_of view None kept more answer wish asked same none said = tt
-said_over words items text_of view (Some text) kept more (Ok x) wish asked same none said = tt
-said_over words items text_of view (Some text) kept None (Err why) wish asked same none said = tt
-said_over words items text_of view (Some text) None (Some m) (Err why) wish asked same none said = inl (record { wish = wish; asked = asked; said = rw none tt })
-said_over words items text_of view (Some text) (Some bytes) (Some m) (Err why) wish asked same none said =
-    inl (record { wish = wish; asked = asked; said = subst (λ (t : List ℕ). IsSaidOfFault (has_parts wish) t why (text_of m)) same said })
+-- what is said of a fault over an input is said by the words
+said_by : {X : Type 0} (words : List (List ℕ)) (view : X → Printout) (known more : Option (List ℕ)) (answer : Result X Fault) (wish : Wish) → AsksFor words wish
+    → IfSome known (λ text. IfErr answer (λ why. IfSome more (λ said. IsSaidOfFault (has_parts wish) text why said)))
+    → IfSome known (λ text. IfErr (result_map_both view (λ why. why) answer) (λ why. IfSome more (λ said. IsSaidBy words text why said)))
+said_by words view None more answer wish asked said = tt
+said_by words view (Some text) more (Ok x) wish asked said = tt
+said_by words view (Some text) None (Err why) wish asked said = tt
+said_by words view (Some text) (Some m) (Err why) wish asked said = inl (record { wish = wish; asked = asked; said = said })
 
 -- nothing is said behind an answer of another command
 pub none_added : {W X : Type 0} (words : List (List ℕ)) (text_of : W → List ℕ) (view : X → Printout) (known : Option (List ℕ)) (more : Option W) (answer : Result X Fault)
@@ -222,17 +223,14 @@ none_added words text_of view None more answer none = tt
 none_added words text_of view (Some text) more (Ok x) none = rw none tt
 none_added words text_of view (Some text) more (Err why) none = tt
 
--- what is said behind an answer of a run, over an input that was kept, is said over the input
-pub run_added : {V W X : Type 0} (words : List (List ℕ)) (items : V → List ℕ) (text_of : W → List ℕ) (view : X → Printout) (known : Option (List ℕ)) (kept : Option V) (more : Option W)
-    (answer : Result X Fault) (wish : Wish) → AsksFor words wish → has_parts wish ≡ true → IfSome known (λ text. IfSome kept (λ bytes. items bytes ≡ text))
-    → IfNone kept (IfOk answer (λ x. more ≡ None)) → IfSome kept (λ bytes. IfOk answer (λ x. IfSome more (λ m. IsSaidBehind (items bytes) (view x).unplaced (text_of m))))
+-- what is said behind an answer of a run, over its input
+pub run_added : {W X : Type 0} (words : List (List ℕ)) (text_of : W → List ℕ) (view : X → Printout) (known : Option (List ℕ)) (more : Option W) (answer : Result X Fault) (wish : Wish)
+    → AsksFor words wish → has_parts wish ≡ true → IfSome known (λ text. IfOk answer (λ x. IfSome more (λ m. IsSaidBehind text (view x).unplaced (text_of m))))
     → IfSome known (λ text. IfOk (result_map_both view (λ why. why) answer) (λ printout. IfSome (option_map text_of more) (λ said. IsAdded words text printout said)))
-run_added words items text_of view None kept more answer wish asked run same none said = tt
-run_added words items text_of view (Some text) kept more (Err why) wish asked run same none said = tt
-run_added words items text_of view (Some text) None more (Ok x) wish asked run same none said = rw none tt
-run_added words items text_of view (Some text) (Some bytes) None (Ok x) wish asked run same none said = tt
-run_added words items text_of view (Some text) (Some bytes) (Some m) (Ok x) wish asked run same none said =
-    record { wish = wish; asked = asked; run = run; said = subst (λ (t : List ℕ). IsSaidBehind t (view x).unplaced (text_of m)) same said }
+run_added words text_of view None more answer wish asked run said = tt
+run_added words text_of view (Some text) more (Err why) wish asked run said = tt
+run_added words text_of view (Some text) None (Ok x) wish asked run said = tt
+run_added words text_of view (Some text) (Some m) (Ok x) wish asked run said = record { wish = wish; asked = asked; run = run; said = said }
 
 none_said : {W : Type 0} (text_of : W → List ℕ) (more : Option W) → more ≡ None → option_map text_of more ≡ None
 none_said text_of more is = rw is refl
@@ -252,24 +250,21 @@ said_of_words : (words : List (List ℕ)) (input : List ℕ) (fault : Fault) (mo
 said_of_words words input fault None is = tt
 said_of_words words input fault (Some text) is = inr is
 
-module _ {V W X : Type 0} (items : V → List ℕ) (text_of : W → List ℕ) (view : X → Printout) (words : List (List ℕ)) (status : ℕ) (old new : Written) (known : Option (List ℕ))
-    (kept : Option V) (more : Option W) (ending_answer answer : Result X Fault) (explaining : Bool) where
+module _ {X : Type 0} (view : X → Printout) (words : List (List ℕ)) (status : ℕ) (old new : Written) (known more : Option (List ℕ)) (answer : Result X Fault) (explaining : Bool) where
   -- an answer to a wish, or its fault and what is said of that
   pub wished : (wish : Wish) → ((input : List ℕ) (answer : Result Printout Fault) → IsAnswerTo wish input answer → IfErr answer IsOfInput) → AsksFor words wish
-      → IfSome known (λ input. GivesOne (IsAnswerTo wish input) (result_map_both view (λ why. why) answer)) → ending_answer ≡ answer → explaining ≡ explains words
-      → (explaining ≡ false → more ≡ None) → IfSome known (λ text. IfSome kept (λ bytes. items bytes ≡ text))
-      → IfNone kept (IfErr answer (λ why. IfSome more (λ m. slip_of (has_parts wish) why ≡ None)))
-      → IfSome kept (λ bytes. IfErr answer (λ why. IfSome more (λ said. IsSaidOfFault (has_parts wish) (items bytes) why (text_of said))))
-      → IfSome known (λ text. IfOk (result_map_both view (λ why. why) answer) (λ printout. IfSome (option_map text_of more) (λ said. IsAdded words text printout said)))
-      → IsSaidOrReported explaining (option_map text_of more) (result_map_both view (λ why. why) ending_answer) status old new → Answers words known status old new
-  wished wish of_input asked is same_answer explains_is only same none said added ending = record {
+      → IfSome known (λ input. GivesOne (IsAnswerTo wish input) (result_map_both view (λ why. why) answer)) → explaining ≡ explains words
+      → IsSaidOfAnswer explaining (has_parts wish) known answer more
+      → IfSome known (λ text. IfOk (result_map_both view (λ why. why) answer) (λ printout. IfSome more (λ said. IsAdded words text printout said)))
+      → IsSaidOrReported explaining more (result_map_both view (λ why. why) answer) status old new → Answers words known status old new
+  wished wish of_input asked is explains_is said added ending = record {
     answer = result_map_both view (λ why. why) answer;
     answered = answered_known words known wish of_input (result_map_both view (λ why. why) answer) asked is;
-    more = option_map text_of more;
-    only = λ off. none_said text_of more (only (explains_is ∙ off));
-    said = said_over words items text_of view known kept more answer wish asked same none said;
+    more = more;
+    only = λ off. said.only (explains_is ∙ off);
+    said = said_by words view known more answer wish asked said.said;
     added = added;
-    printed = subst₂ (λ (on : Bool) (a : Result X Fault). IsSaidOrReported on (option_map text_of more) (result_map_both view (λ why. why) a) status old new) explains_is same_answer ending;
+    printed = subst (λ (on : Bool). IsSaidOrReported on more (result_map_both view (λ why. why) answer) status old new) explains_is ending;
   }
 
 pub price_wished : (plan : Rates) (input : List ℕ) (answer : Result Printout Fault) → IsAnswerTo (Prices plan) input answer → IfErr answer IsOfInput

@@ -1,10 +1,3 @@
 pub mod AnswerLemmas
-pub mod InputLemmas
 pub mod KindLemmas
-pub mod Known
-pub mod LineLemmas
-pub mod QuoteLemmas
-pub mod RateLemmas
-pub mod ReplayLemmas
-pub mod ReportLemmas
-pub mod WriteLemmas
+pub mod RunLemmas

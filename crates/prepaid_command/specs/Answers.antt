@@ -5,55 +5,30 @@ use Rattle.std.specs.Result.{result_map_both}
 use Rattle.answer_command.specs.Inputs.{live_input_of}
 use Rattle.answer_command.specs.Serves.{ServesBy}
 use Rattle.answer_command.specs.declared.error.ServeError.{ServeError}
-use Rattle.book_texts.specs.Audits.{Audited, IsAuditOf}
-use Rattle.book_texts.specs.Books.{Books, books_of}
-use Rattle.book_texts.specs.Sizes.{most_rows}
-use Rattle.book_texts.specs.declared.size.AuditAsk.{AuditAsk}
 use Rattle.command_words.specs.Arguments.{AsksFor, AsksHelp, AsksInVain, AsksNothing, AsksVersion, explains}
-use Rattle.command_words.specs.QuoteWishes.{QuoteWish}
 use Rattle.command_words.specs.Wishes.{Wish, Audits, Prices, Quotes, RatesRecords, Replays, Runs, RunsInto, Serves}
 use Rattle.command_words.specs.declared.fault.WordsFault.TheVariants as words_fault
+use Rattle.rating.specs.Asks.{RateWish}
+use Rattle.rating.specs.Fronts.{AppendsFront}
 use Rattle.run_command.specs.Answers.{IsRunAnswer, RunSaid}
 use Rattle.run_command.specs.Tables.{IsTablesAnswer, TablesSaid}
 use Rattle.run_command.specs.declared.error.RunError.{RunError}
 use Rattle.run_options.specs.Logs.{LogWish}
 use Rattle.run_options.specs.declared.live.LiveAsk.{LiveAsk}
 use Rattle.run_options.specs.declared.options.RunAsk.{RunAsk}
-use Rattle.run_texts.specs.Inputs.{tariff_in}
 use Rattle.runs_core.specs.declared.run_fault.RunFault.TheVariants as run
-use Rattle.table_core.specs.Judging.{and_then}
-use Rattle.table_core.specs.Rows.{rows_of}
-use Rattle.tariff_core.specs.Bands.{Band}
-use Rattle.tariff_core.specs.Rates.{Rates}
+use Rattle.table_commands.specs.Answers.{IsAuditOfInput, IsQuoteOfInput, price_of_input, replay_of_input}
+use Rattle.table_commands.specs.Faults.{line_of_fault, status_of}
+use Rattle.table_commands.specs.Input.{sized}
+use Rattle.table_commands.specs.Outputs.{IsSaidOfOutput}
+use Rattle.table_commands.specs.Printouts.{Printout, status_of_printout}
+use Rattle.table_commands.specs.Ratings.{IsRatedByWish}
+use Rattle.table_commands.specs.Writers.{IsReported, IsSaid, Written}
+use Rattle.table_commands.specs.declared.fault.Fault.{Fault}
+use Rattle.table_commands.specs.declared.fault.Fault.TheVariants as fault
 use Rattle.prepaid_command.specs.Explanations.{IsAdded, IsSaidBy}
-use Rattle.prepaid_command.specs.Faults.{line_of_fault, meaning_in, meaning_of_part, of_rate, of_run, of_serve, status_of}
-use Rattle.prepaid_command.specs.Summaries.{status_of_rating, summary_of}
-use Rattle.rating.specs.Asks.{RateWish}
-use Rattle.rating.specs.Ends.{IsInPart, IsRatedWhole as IsRatedWhole}
-use Rattle.rating.specs.Texts.{rate_input_of}
-use Rattle.rating.specs.declared.fault.RateFault.{RateFault}
-use Rattle.rating.specs.declared.tally.Tally.{Tally}
-use Rattle.rating.specs.Fronts.{AppendsFront}
-use Rattle.prepaid_command.specs.Input.{sized, sized_as}
-use Rattle.prepaid_command.specs.Outputs.{IsSaidOfOutput}
-use Rattle.prepaid_command.specs.PriceLines.{price_lines}
-use Rattle.prepaid_command.specs.Quotes.{IsQuoteText}
-use Rattle.prepaid_command.specs.Replays.{replayed}
-use Rattle.prepaid_command.specs.Reports.{table_reports_of}
-use Rattle.prepaid_command.specs.Printouts.{Printout, plain, status_of_printout, printout_of_files, printout_of_run}
-use Rattle.prepaid_command.specs.declared.fault.Fault.{Fault}
-use Rattle.prepaid_command.specs.declared.fault.Fault.TheVariants as fault
-use Rattle.prepaid_command.specs.declared.fault.Part.TheVariants as part
-
--- what `price` makes of an input: its lines, or the first fault
-abbrev pub price_of_input : Rates → List ℕ → Result Printout Fault
-price_of_input plan input = and_then (sized input) (λ text.
-    and_then (meaning_in part.Reports (table_reports_of plan (rows_of text))) (λ reports. Ok (plain (price_lines plan 0 reports))))
-
--- what `replay` makes of it
-abbrev pub replay_of_input : ℕ → ℕ → List ℕ → Result Printout Fault
-replay_of_input opening limit input = and_then (sized input) (λ text.
-    and_then (meaning_in part.Ops (replayed opening limit (rows_of text))) (λ lines. Ok (plain lines)))
+use Rattle.prepaid_command.specs.Faults.{of_run, of_serve}
+use Rattle.prepaid_command.specs.Printouts.{printout_of_files, printout_of_run}
 
 -- an answer of a run, its fault as the program's
 pub record IsRunPrinted (ask : RunAsk) (text : List ℕ) (answer : Result Printout Fault) : Type 0 where
@@ -74,36 +49,6 @@ pub record IsFiledRun (ask : RunAsk) (text : List ℕ) (answer : Result Printout
 -- what it may make of an input
 abbrev pub IsFiledRunOfInput : RunAsk → List ℕ → Result Printout Fault → Type 0
 IsFiledRunOfInput ask input answer = MatchResult (sized input) (λ text. IsFiledRun ask text answer) (λ why. answer ≡ Err why)
-
--- the text of an audit, which passes where each account's history is legal
-abbrev pub printout_of_audit : Audited → Printout
-printout_of_audit audit = record { text = audit.lines; passes = audit.passes; refused = []; unplaced = [] }
-
--- an audit of the books of a table is printed
-pub record IsAuditPrinted (ask : AuditAsk) (text : List ℕ) (books : Books) (answer : Result Printout Fault) : Type 0 where
-  pub audit : Audited
-  pub is_audit : IsAuditOf (most_rows ask.size) ask.lines ask.rows (rows_of text) books audit
-  pub printed : answer ≡ Ok (printout_of_audit audit)
-
--- what `audit` makes of a table of books, as it is asked
-abbrev pub IsAuditOfTable : AuditAsk → List ℕ → Result Printout Fault → Type 0
-IsAuditOfTable ask text answer =
-    MatchResult (meaning_in part.Book (books_of (most_rows ask.size) (rows_of text))) (λ books. IsAuditPrinted ask text books answer) (λ why. answer ≡ Err why)
-
--- and of an input
-abbrev pub IsAuditOfInput : AuditAsk → List ℕ → Result Printout Fault → Type 0
-IsAuditOfInput ask input answer = MatchResult (sized_as ask.size input) (λ text. IsAuditOfTable ask text answer) (λ why. answer ≡ Err why)
-
--- a quote of this tariff is printed
-pub record IsQuotePrinted (bands : List Band) (wish : QuoteWish) (answer : Result Printout Fault) : Type 0 where
-  pub text : List ℕ
-  pub is_text : IsQuoteText bands wish text
-  pub printed : answer ≡ Ok (plain text)
-
--- what `quote` makes of an input, which is a tariff
-abbrev pub IsQuoteOfInput : QuoteWish → List ℕ → Result Printout Fault → Type 0
-IsQuoteOfInput wish input answer =
-    MatchResult (and_then (sized input) (λ text. meaning_of_part (tariff_in text))) (λ bands. IsQuotePrinted bands wish answer) (λ why. answer ≡ Err why)
 
 -- what is made of an input as it was wished, where it is printed once it is whole
 abbrev pub IsAnswerTo : Wish → List ℕ → Result Printout Fault → Type 0
@@ -132,11 +77,6 @@ IsAnswer words input (Err fault.Device) = ⊤
 IsAnswer words input (Err (fault.Run run.OutOfMemory)) = ⊤
 IsAnswer words input (Err why) = AskForAnswer words input (Err why)
 
--- what the two writers hold, where that is known
-pub record Written : Type 0 where
-  pub output : Option (List ℕ)
-  pub faults : Option (List ℕ)
-
 -- a text went to the output whole, at its status, and behind it the line about refusals and what is said besides to the error writer, or where that failed a front of these
 pub record IsPrinted (printout : Printout) (more : List ℕ) (status : ℕ) (old new : Written) : Type 0 where
   pub status_is : status ≡ status_of_printout printout
@@ -148,12 +88,6 @@ pub record IsCutOff (explaining : Bool) (printout : Printout) (status : ℕ) (ol
   pub status_is : status ≡ 2
   pub front : AppendsFront old.output new.output printout.text
   pub faults : IsSaidOfOutput explaining old.faults new.faults
-
--- the line of a fault went to the error writer, or where that failed a front of it. The output stays as it was
-pub record IsReported (why : Fault) (status : ℕ) (old new : Written) : Type 0 where
-  pub status_is : status ≡ status_of why
-  pub line : AppendsFront old.faults new.faults (line_of_fault why ++ codes "\n")
-  pub output : Keeps old.output new.output
 
 -- the line of a fault and behind it what is said of it went to the error writer, or where that failed a front of these. The output stays as it was
 pub record IsReportedWith (why : Fault) (text : List ℕ) (status : ℕ) (old new : Written) : Type 0 where
@@ -180,41 +114,6 @@ pub record Answers (words : List (List ℕ)) (input : Option (List ℕ)) (status
   pub printed : IsSaidOrReported (explains words) more answer status old new
 
 -- ---- records that are rated as they come
-
--- what is said of a fault to the error writer: its line or a front of it, at its status; of an output that failed what is said of that, at status 2
-abbrev pub IsSaid : Bool → Option Fault → ℕ → Option (List ℕ) → Option (List ℕ) → Type 0
-IsSaid explaining None status old new = (status ≡ 2) × IsSaidOfOutput explaining old new
-IsSaid explaining (Some why) status old new = (status ≡ status_of why) × AppendsFront old new (line_of_fault why ++ codes "\n")
-
--- the line of a failed input or of memory that ran out, or what is said of an output that failed
-abbrev pub IsOfFailure : Bool → Option (List ℕ) → Option (List ℕ) → Type 0
-IsOfFailure explaining old new = IsSaidOfOutput explaining old new ⊎ AppendsFront old new (line_of_fault fault.Device ++ codes "\n") ⊎ AppendsFront old new (line_of_fault (fault.Run run.OutOfMemory) ++ codes "\n")
-
--- all rows were rated and printed: the status says whether all are right, and the summary went to the error writer where it was asked for, or a front of it
-pub record IsRatedInput (wish : RateWish) (text : List ℕ) (status : ℕ) (old new : Written) : Type 0 where
-  pub tally : Tally
-  pub printed : IsRatedWhole wish.differing (rate_input_of wish.names text) tally old.output new.output
-  pub status_is : status ≡ status_of_rating tally
-  pub line : AppendsFront old.faults new.faults (summary_of wish tally)
-
--- the tariff or the header has a fault, which is reported, and the output stays as it was
-pub record IsRatingRefused (wish : RateWish) (text : List ℕ) (status : ℕ) (old new : Written) : Type 0 where
-  pub why : RateFault
-  pub refused : rate_input_of wish.names text ≡ Err why
-  pub fault : Fault
-  pub fault_is : of_rate why ≡ Some fault
-  pub reported : IsReported fault status old new
-
--- the input, memory or the output failed, at status 2: a front of the text was printed, or nothing, and of a line about it a front, or nothing
-pub record IsBroken (explaining : Bool) (wish : RateWish) (text : List ℕ) (status : ℕ) (old new : Written) : Type 0 where
-  pub status_is : status ≡ 2
-  pub front : Keeps old.output new.output ⊎ IsInPart wish.differing (rate_input_of wish.names text) old.output new.output
-  pub line : IsOfFailure explaining old.faults new.faults
-
--- how records that are rated as they come were printed: whole, refused, or broken off
-abbrev pub IsRatedByWish : Bool → RateWish → List ℕ → ℕ → Written → Written → Type 0
-IsRatedByWish explaining wish text status old new =
-    IsRatedInput wish text status old new ⊎ IsRatingRefused wish text status old new ⊎ IsBroken explaining wish text status old new
 
 -- the words ask for records to be rated, and so they were
 pub record RatesAsAsked (words : List (List ℕ)) (input : Option (List ℕ)) (status : ℕ) (old new : Written) : Type 0 where

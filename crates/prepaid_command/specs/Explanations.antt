@@ -1,30 +1,12 @@
--- What is said of a fault behind its line.
-use Rattle.std.specs.Prelude.{◌≡◌, ◌⊎◌, ◌++◌, Bool, true, false, List, ℕ, Option, Some, None, ⊤, IfSome, if◌then◌else◌}
-use Rattle.explanations.specs.Slips.{Explains}
-use Rattle.explanations.specs.declared.slip.Slip.{Slip}
-use Rattle.explanations.specs.declared.slip.Slip.TheVariants as slip
+-- What is said of a fault behind its line, and behind the answer of a run.
+use Rattle.std.specs.Prelude.{◌≡◌, ◌⊎◌, ◌++◌, Bool, true, false, List, ℕ}
 use Rattle.command_words.specs.Arguments.{AsksFor}
 use Rattle.command_words.specs.Wishes.{Wish, Runs, RunsInto}
 use Rattle.run_command.specs.Strangers.{AreStrangersOf}
+use Rattle.table_commands.specs.Explanations.{IsOfWords, IsSaidOfFault}
+use Rattle.table_commands.specs.Printouts.{Printout}
+use Rattle.table_commands.specs.declared.fault.Fault.{Fault}
 use Rattle.prepaid_command.specs.Lists.{strangers_line}
-use Rattle.prepaid_command.specs.Printouts.{Printout}
-use Rattle.prepaid_command.specs.declared.fault.Fault.{Fault}
-use Rattle.prepaid_command.specs.declared.fault.Fault.TheVariants as fault
-use Rattle.prepaid_command.specs.declared.fault.Part.TheVariants as part
-
--- the fault of a table in an input, which has three parts or is that table
-abbrev pub slip_of : Bool → Fault → Option Slip
-slip_of in_parts (fault.Tariff row) = Some (if in_parts then slip.RunTariff row else slip.Tariff row)
-slip_of in_parts (fault.Table part.Reports row) = Some (slip.Reports row)
-slip_of in_parts (fault.Table part.Ops row) = Some (slip.Ops row)
-slip_of in_parts (fault.Table part.Book row) = Some (slip.Book row)
-slip_of in_parts (fault.Table part.Setup row) = Some (slip.Setup row)
-slip_of in_parts (fault.Table part.Script row) = Some (slip.Script row)
-slip_of in_parts why = None
-
--- a text is said of a fault over an input: where a row has the fault, it explains that
-abbrev pub IsSaidOfFault : Bool → List ℕ → Fault → List ℕ → Type 0
-IsSaidOfFault in_parts input why text = IfSome (slip_of in_parts why) (λ slip. Explains input slip text)
 
 -- a text is said of a run over an input, behind its answer: which calls no subscriber makes, and then the line about the events that had no place
 pub record IsSaidBehind (input events_line text : List ℕ) : Type 0 where
@@ -50,12 +32,6 @@ pub record IsAdded (words : List (List ℕ)) (input : List ℕ) (printout : Prin
   pub asked : AsksFor words wish
   pub run : has_parts wish ≡ true
   pub said : IsSaidBehind input printout.unplaced text
-
--- a fault of the words, of which `clap` says what it does
-abbrev pub IsOfWords : Fault → Type 0
-IsOfWords fault.Arguments = ⊤
-IsOfWords fault.Config = ⊤
-IsOfWords why = ⊥
 
 -- what is said of a fault: it explains it over the input, or is about the words
 abbrev pub IsSaidBy : List (List ℕ) → List ℕ → Fault → List ℕ → Type 0

@@ -1,105 +1,19 @@
--- The faults of the program: their lines, their statuses, and how an answer meets its meaning.
-use Rattle.std.specs.Prelude.{◌≡◌, ℕ, List, ◌++◌, Option, Some, None, Result, Ok, Err, ⊤, codes, if◌then◌else◌}
-use Rattle.std.specs.Fmt.{decimal}
+-- The faults of a run, of its files and of the service, as the program's.
+use Rattle.std.specs.Prelude.{Option, Some, None, if◌then◌else◌}
 use Rattle.std.specs.declared.io.ErrorKind.{ErrorKind}
 use Rattle.answer_command.specs.declared.error.ServeError.{ServeError}
 use Rattle.answer_command.specs.declared.error.ServeError.TheVariants as serve
-use Rattle.command_words.specs.declared.fault.WordsFault.{WordsFault}
-use Rattle.command_words.specs.declared.fault.WordsFault.TheVariants as words
-use Rattle.live_answers.specs.Kinds.{line_kind_name as name_of_line}
 use Rattle.live_answers.specs.declared.stage.LiveFault.TheVariants as live
-use Rattle.live_log.specs.Faults.{log_fault_name as name_of_log}
 use Rattle.live_log.specs.declared.fault.LogFault.{LogFault}
 use Rattle.live_log.specs.declared.fault.LogFault.TheVariants as log
 use Rattle.run_command.specs.declared.error.RunError.{RunError}
 use Rattle.run_command.specs.declared.error.RunError.TheVariants as error
-use Rattle.run_texts.specs.declared.input_fault.InputFault.{InputFault}
-use Rattle.run_texts.specs.declared.input_fault.InputFault.TheVariants as input
-use Rattle.rating.specs.declared.fault.RateFault.{RateFault}
-use Rattle.rating.specs.declared.fault.RateFault.TheVariants as rate
-use Rattle.runs_core.specs.RunFaults.{run_fault_name}
 use Rattle.runs_core.specs.declared.run_fault.RunFault.TheVariants as run
-use Rattle.table_core.specs.Faults.{row_fault_text}
-use Rattle.table_core.specs.declared.fault.RowFault.{RowFault}
-use Rattle.table_core.specs.declared.fault.RowKind.TheVariants as kind
-use Rattle.table_core.specs.declared.fault.TableFault.{TableFault}
-use Rattle.table_core.specs.declared.fault.TableFault.TheVariants as table
-use Rattle.tariff_core.specs.TariffFaults.{tariff_fault_text as tariff_text_of}
-use Rattle.prepaid_command.specs.Input.{is_out_of_memory}
-use Rattle.prepaid_command.specs.declared.fault.Fault.{Fault}
-use Rattle.prepaid_command.specs.declared.fault.Fault.TheVariants as fault
-use Rattle.prepaid_command.specs.declared.fault.Part.{Part}
-use Rattle.prepaid_command.specs.declared.fault.Part.TheVariants as part
-
--- the name of a part
-abbrev pub name_of_part : Part → List ℕ
-name_of_part part.Reports = codes "reports"
-name_of_part part.Ops = codes "ops"
-name_of_part part.Setup = codes "setup"
-name_of_part part.Script = codes "script"
-name_of_part part.Book = codes "book"
-name_of_part part.Records = codes "records"
-name_of_part part.Messages = codes "messages"
-
--- the line that says a fault, without its end
-abbrev pub line_of_fault : Fault → List ℕ
-line_of_fault fault.Arguments = codes "prepaid: arguments"
-line_of_fault fault.Config = codes "prepaid: input: Config"
-line_of_fault fault.TooLong = codes "prepaid: input: TooLong"
-line_of_fault fault.Parts = codes "prepaid: input: Parts"
-line_of_fault (fault.Tariff row) = codes "prepaid: tariff " ++ tariff_text_of row
-line_of_fault (fault.Table part row) = codes "prepaid: " ++ (name_of_part part ++ (codes " " ++ row_fault_text row))
-line_of_fault (fault.Log why) = codes "prepaid: log: " ++ name_of_log why
-line_of_fault (fault.LogRow row kind) = codes "prepaid: log row " ++ (decimal row ++ (codes ": " ++ name_of_line kind))
-line_of_fault fault.Into = codes "prepaid: into: Device"
-line_of_fault fault.Device = codes "prepaid: run: Device"
-line_of_fault (fault.Run why) = codes "prepaid: run: " ++ run_fault_name why
-
--- the exit status of a fault
-abbrev pub status_of : Fault → ℕ
-status_of (fault.Log why) = 2
-status_of (fault.LogRow row kind) = 2
-status_of fault.Into = 2
-status_of fault.Device = 2
-status_of (fault.Run why) = 2
-status_of _ = 1
-
--- the fault of a table that is a part of the input
-abbrev pub in_part : Part → TableFault → Fault
-in_part part (table.Row refused) = fault.Table part refused
-in_part part table.Device = fault.Device
-in_part part table.OutOfMemory = fault.Run run.OutOfMemory
-
--- the same, of a table's meaning
-abbrev pub meaning_in : {X : Type 0} → Part → Result X RowFault → Result X Fault
-meaning_in part (Ok x) = Ok x
-meaning_in part (Err refused) = Err (fault.Table part refused)
-
--- the fault of words that have no request
-abbrev pub of_words : WordsFault → Fault
-of_words words.Arguments = fault.Arguments
-of_words words.Config = fault.Config
-of_words words.OutOfMemory = fault.Run run.OutOfMemory
-
--- the fault of the input of a run
-abbrev pub of_run_input : InputFault → Fault
-of_run_input input.Parts = fault.Parts
-of_run_input input.TooLong = fault.TooLong
-of_run_input (input.Tariff row) = fault.Tariff row
-of_run_input (input.Setup row) = fault.Table part.Setup row
-of_run_input (input.Script row) = fault.Table part.Script row
-of_run_input input.Device = fault.Device
-of_run_input input.OutOfMemory = fault.Run run.OutOfMemory
-
--- the fault of a table whose header isn't the one that it must have
-abbrev pub no_header : Part → Fault
-no_header part = fault.Table part (record { row = 1; kind = kind.Header })
-
--- the fault of records that aren't rated to their end; an output that failed has none
-abbrev pub of_rate : RateFault → Option Fault
-of_rate (rate.Input why) = Some (of_run_input why)
-of_rate rate.Header = Some (no_header part.Records)
-of_rate rate.Output = None
+use Rattle.table_commands.specs.Faults.{no_header, of_run_input}
+use Rattle.table_commands.specs.Input.{is_out_of_memory}
+use Rattle.table_commands.specs.declared.fault.Fault.{Fault}
+use Rattle.table_commands.specs.declared.fault.Fault.TheVariants as fault
+use Rattle.table_commands.specs.declared.fault.Part.TheVariants as part
 
 -- the fault of a log; memory that runs out while it is opened is that of the run
 abbrev pub of_log : LogFault → Fault
@@ -122,36 +36,7 @@ of_serve (serve.Live live.Output) = None
 of_serve (serve.Live live.Log) = Some (fault.Log log.Device)
 of_serve (serve.Run why) = Some (fault.Run why)
 
--- what a part of the input of a run means, its faults as the program's
-abbrev pub meaning_of_part : {X : Type 0} → Result X InputFault → Result X Fault
-meaning_of_part (Ok x) = Ok x
-meaning_of_part (Err why) = Err (of_run_input why)
-
 -- the fault of a run that has no text
 abbrev pub of_run : RunError → Fault
 of_run (error.Input why) = of_run_input why
 of_run (error.Run why) = fault.Run why
-
--- the input may fail, and memory run out, at any words and any input
-abbrev pub FaultMayAlwaysCome : Fault → Type 0
-FaultMayAlwaysCome fault.Device = ⊤
-FaultMayAlwaysCome (fault.Run run.OutOfMemory) = ⊤
-FaultMayAlwaysCome _ = ⊥
-
--- a fault of the words or of the input is what these mean, but for one that may always come
-abbrev pub RefusesCommand : {Y : Type 0} → Fault → Result Y Fault → Type 0
-RefusesCommand fault.Device meaning = ⊤
-RefusesCommand (fault.Run run.OutOfMemory) meaning = ⊤
-RefusesCommand why meaning = meaning ≡ Err why
-
--- an answer, seen by `view`, is what is meant
-abbrev pub GivesAnswer : {X Y : Type 0} → (X → Y) → Result X Fault → Result Y Fault → Type 0
-GivesAnswer view (Ok x) meaning = meaning ≡ Ok (view x)
-GivesAnswer view (Err why) meaning = RefusesCommand why meaning
-
--- an answer is one of those that are meant
-abbrev pub GivesOne : {Y : Type 0} → (Result Y Fault → Type 0) → Result Y Fault → Type 0
-GivesOne IsMeant (Ok x) = IsMeant (Ok x)
-GivesOne IsMeant (Err fault.Device) = ⊤
-GivesOne IsMeant (Err (fault.Run run.OutOfMemory)) = ⊤
-GivesOne IsMeant (Err why) = IsMeant (Err why)

@@ -1,17 +1,7 @@
 pub mod Answers
-pub mod AskingOf
-pub mod Asks
 pub mod Explanations
 pub mod Faults
 pub mod Files
-pub mod Input
 pub mod Lists
-pub mod Outputs
-pub mod PriceLines
 pub mod Printouts
-pub mod Quotes
 pub mod Refused
-pub mod ReplayLines
-pub mod Replays
-pub mod Reports
-pub mod Summaries

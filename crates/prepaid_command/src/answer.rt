@@ -1,5 +1,6 @@
 //! What the program prints.
 
+use book_texts::Audit;
 use run_command::{Refusals, UnplacedEvent};
 use std::alloc::Global;
 
@@ -18,7 +19,10 @@ pub(crate) struct Answer {
 
 impl Answer {
     ghost use Rattle.std.specs.Prelude.{◌≡◌, string_bytes};
-    ghost use Rattle.prepaid_command.specs.Printouts.{plain, status_of_printout, printout_of};
+    ghost use Rattle.book_texts.specs.Checks.{audited_by};
+    ghost use Rattle.table_commands.specs.Answers.{printout_of_audit};
+    ghost use Rattle.table_commands.specs.Printouts.{plain, status_of_printout};
+    ghost use Rattle.prepaid_command.specs.Printouts.{printout_of};
 
     /// A text that finds nothing wrong, and of no run that refused anything.
     pub fn plain(alloc: Global, text: String) -> Answer
@@ -27,6 +31,18 @@ impl Answer {
         Answer {
             text,
             passes: true,
+            refusals: Refusals::none(),
+            unplaced: Vec::new(alloc),
+        }
+    }
+
+    /// The lines of an audit, and whether it passes.
+    pub fn of_audit(alloc: Global, audit: Audit) -> Answer
+        ensures { printout_of result ≡ printout_of_audit (audited_by audit) }
+    {
+        Answer {
+            text: audit.lines,
+            passes: audit.passes,
             refusals: Refusals::none(),
             unplaced: Vec::new(alloc),
         }

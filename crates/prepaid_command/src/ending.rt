@@ -1,181 +1,122 @@
-//! An answer, or a fault and what is said of it.
+//! How a command ends: with an answer, or a fault, and what is said behind that.
 
-ghost use Rattle.std.specs.Prelude.{◌≡◌, false, true, Err, None, IfErr, IfNone, IfOk, IfSome, string_bytes};
-ghost use Rattle.prepaid_command.specs.Explanations.{IsOfWords, IsSaidBehind, IsSaidOfFault, slip_of};
-ghost use Rattle.prepaid_command.specs.Faults.{of_words};
+ghost use Rattle.std.specs.Prelude.{◌≡◌, false, true, None, IfErr, IfNone, IfOk, IfSome, string_bytes};
+ghost use Rattle.std.specs.Result.{result_map_both};
+ghost use Rattle.book_texts.specs.Checks.{audited_by};
+ghost use Rattle.table_commands.specs.Answers.{printout_of_audit};
+ghost use Rattle.table_commands.specs.Explanations.{IsSaidOfFault, slip_of};
+ghost use Rattle.table_commands.specs.Printouts.{plain};
+ghost use Rattle.prepaid_command.specs.Explanations.{IsSaidBehind};
 ghost use Rattle.prepaid_command.specs.Lists.{unplaced_line};
 ghost use Rattle.prepaid_command.specs.Printouts.{printout_of};
 
 use crate::answer::Answer;
-use crate::fault::{Fault, Part};
-use crate::input::MAX_INPUT;
 use crate::list_lines::{strangers_line, unplaced_line};
-use command_words::{WordsFault, explain_words};
-use explanations::{Slip, explain, explain_dividers};
+use book_texts::Audit;
 use run_command::{UnplacedEvent, stranger_calls};
 use run_options::RunOptions;
 use std::alloc::{AllocError, Global};
-use std::convert::AsStr;
 use std::io::Error;
+use table_commands::{Ending, Fault};
 
-/// How a command ends: an answer, or a fault, and what is said of that behind its line.
-#[derive(Drop)]
-pub(crate) struct Ending {
-    /// The answer, or the fault.
-    pub answer: Result<Answer, Fault>,
-    /// What is said of the fault.
-    pub more: Option<String>,
-}
-
-impl Ending {
-    /// An answer, or a fault of which nothing is said.
-    pub fn plain(answer: Result<Answer, Fault>) -> Ending
-        ensures answer { result.answer ≡ answer }
-        ensures more { result.more ≡ None }
-    {
-        Ending { answer, more: None }
-    }
-
-    /// An answer, or a fault of which is said what the input shows, if it was kept, and how long it
-    /// may be, where that is asked for. Where memory runs out for that, nothing is said.
-    pub fn over(
-        alloc: Global,
-        explains: bool,
-        in_parts: bool,
-        input: &Option<Vec<u8>>,
-        answer: Result<Answer, Fault>,
-    ) -> Ending
-        ensures answer { result.answer ≡ answer }
-        ensures only { explains ≡ false → result.more ≡ None }
-        ensures plain { IfOk answer (λ _. result.more ≡ None) }
-        ensures none { IfNone input.now (IfErr answer (λ why. IfSome result.more
-            (λ _. slip_of in_parts why ≡ None))) }
-        ensures said { IfSome input.now (λ bytes. IfErr answer (λ why. IfSome result.more
-            (λ more. IsSaidOfFault in_parts bytes.items why (string_bytes more)))) }
-    {
-        let more = match (&answer, input) {
-            (Err(fault), Some(bytes)) if explains => said_of(alloc, in_parts, bytes, *fault),
-            (Err(Fault::TooLong), None) if explains => said_of_length(alloc).ok(),
-            _ => None,
-        };
-        Ending { answer, more }
-    }
-
-    /// What a run comes to: of its fault is said what the input shows, as `over` has it; and of an
-    /// answer which calls the run passed over, since no subscriber has their calling number, and
-    /// which events had no place in it.
-    pub fn of_run(
-        alloc: Global,
-        explains: bool,
-        options: &RunOptions,
-        input: &Option<Vec<u8>>,
-        answer: Result<Answer, Fault>,
-    ) -> Ending
-        ensures answer { result.answer ≡ answer }
-        ensures only { explains ≡ false → result.more ≡ None }
-        ensures none { IfNone input.now (IfErr answer (λ why. IfSome result.more
-            (λ _. slip_of true why ≡ None))) }
-        ensures said { IfSome input.now (λ bytes. IfErr answer (λ why. IfSome result.more
-            (λ more. IsSaidOfFault true bytes.items why (string_bytes more)))) }
-        ensures unread { IfNone input.now (IfOk answer (λ _. result.more ≡ None)) }
-        ensures behind { IfSome input.now (λ bytes. IfOk answer (λ done. IfSome result.more
-            (λ more. IsSaidBehind
-            bytes.items (printout_of done).unplaced (string_bytes more)))) }
-    {
-        match (&answer, input) {
-            (Ok(done), Some(bytes)) if explains => {
-                let more = said_behind(alloc, options, bytes, done.unplaced.as_slice());
-                Ending { answer, more }
-            }
-            (Ok(_), _) => Ending::plain(answer),
-            (Err(_), _) => Ending::over(alloc, explains, true, input, answer),
-        }
-    }
-
-    /// The same of a run whose lines and tables go into files: where these couldn't be written, the
-    /// error is said.
-    pub fn of_files(
-        alloc: Global,
-        explains: bool,
-        options: &RunOptions,
-        input: &Option<Vec<u8>>,
-        failed: &Option<Error>,
-        answer: Result<Answer, Fault>,
-    ) -> Ending
-        ensures answer { result.answer ≡ answer }
-        ensures only { explains ≡ false → result.more ≡ None }
-        ensures none { IfNone input.now (IfErr answer (λ why. IfSome result.more
-            (λ _. slip_of true why ≡ None))) }
-        ensures said { IfSome input.now (λ bytes. IfErr answer (λ why. IfSome result.more
-            (λ more. IsSaidOfFault true bytes.items why (string_bytes more)))) }
-        ensures unread { IfNone input.now (IfOk answer (λ _. result.more ≡ None)) }
-        ensures behind { IfSome input.now (λ bytes. IfOk answer (λ done. IfSome result.more
-            (λ more. IsSaidBehind
-            bytes.items (printout_of done).unplaced (string_bytes more)))) }
-    {
-        match (&answer, failed) {
-            (Err(Fault::Into), Some(error)) if explains => {
-                let more = said_of_files(alloc, error).ok();
-                Ending { answer, more }
-            }
-            _ => Ending::of_run(alloc, explains, options, input, answer),
-        }
-    }
-
-    /// The fault of words, and what is said of them where that is asked for: what `clap` says, or
-    /// which time is out of its range.
-    pub fn of_words<S: AsStr>(alloc: Global, explains: bool, words: &[S], why: WordsFault) -> Ending
-        ensures answer { result.answer ≡ Err (of_words why) }
-        ensures only { explains ≡ false → result.more ≡ None }
-        ensures words { IfSome result.more (λ more. IsOfWords (of_words why)) }
-    {
-        let more = match why {
-            WordsFault::Arguments | WordsFault::Config if explains => {
-                said_of_words(alloc, words)
-            }
-            _ => None,
-        };
-        Ending {
-            answer: Err(Fault::from(why)),
+/// The ending whose answer is a text.
+pub(crate) fn text_ending(alloc: Global, ending: Ending<String>) -> Ending<Answer>
+    ensures answer { result_map_both printout_of (λ fault. fault) result.answer
+        ≡ result_map_both (λ lines. plain (string_bytes lines)) (λ fault. fault) ending.answer }
+    ensures more { result.more ≡ ending.more }
+{
+    let Ending { answer, more } = ending;
+    match answer {
+        Ok(text) => Ending {
+            answer: Ok(Answer::plain(alloc, text)),
             more,
+        },
+        Err(fault) => Ending {
+            answer: Err(fault),
+            more,
+        },
+    }
+}
+
+/// The ending whose answer is an audit.
+pub(crate) fn audit_ending(alloc: Global, ending: Ending<Audit>) -> Ending<Answer>
+    ensures answer { result_map_both printout_of (λ fault. fault) result.answer
+        ≡ result_map_both (λ audit. printout_of_audit (audited_by audit)) (λ fault. fault)
+        ending.answer }
+    ensures more { result.more ≡ ending.more }
+{
+    let Ending { answer, more } = ending;
+    match answer {
+        Ok(audit) => Ending {
+            answer: Ok(Answer::of_audit(alloc, audit)),
+            more,
+        },
+        Err(fault) => Ending {
+            answer: Err(fault),
+            more,
+        },
+    }
+}
+
+/// What a run comes to: of its fault is said what the input shows, as `Ending::over` has it; and of
+/// an answer which calls the run passed over, since no subscriber has their calling number, and
+/// which events had no place in it.
+pub(crate) fn run_ending(
+    alloc: Global,
+    explains: bool,
+    options: &RunOptions,
+    input: &Option<Vec<u8>>,
+    answer: Result<Answer, Fault>,
+) -> Ending<Answer>
+    ensures answer { result.answer ≡ answer }
+    ensures only { explains ≡ false → result.more ≡ None }
+    ensures none { IfNone input.now (IfErr answer (λ why. IfSome result.more
+        (λ _. slip_of true why ≡ None))) }
+    ensures said { IfSome input.now (λ bytes. IfErr answer (λ why. IfSome result.more
+        (λ more. IsSaidOfFault true bytes.items why (string_bytes more)))) }
+    ensures unread { IfNone input.now (IfOk answer (λ _. result.more ≡ None)) }
+    ensures behind { IfSome input.now (λ bytes. IfOk answer (λ done. IfSome result.more
+        (λ more. IsSaidBehind
+        bytes.items (printout_of done).unplaced (string_bytes more)))) }
+{
+    match (&answer, input) {
+        (Ok(done), Some(bytes)) if explains => {
+            let more = said_behind(alloc, options, bytes, done.unplaced.as_slice());
+            Ending { answer, more }
         }
+        (Ok(_), _) => Ending::plain(answer),
+        (Err(_), _) => Ending::over(alloc, explains, true, input, answer),
     }
 }
 
-/// What is said of words, without empty lines; nothing where memory runs out.
-fn said_of_words<S: AsStr>(alloc: Global, words: &[S]) -> Option<String> {
-    match explain_words(alloc, words) {
-        Ok(said) => full_lines(alloc, said.as_str()).ok(),
-        Err(_) => None,
-    }
-}
-
-/// The lines of a text that aren't empty. Where nothing is said, another option has a value out of
-/// its range.
-fn full_lines(alloc: Global, said: &str) -> Result<String, AllocError> {
-    let mut text = String::new(alloc);
-    if said.is_empty() {
-        writeln!(
-            text,
-            "an option has a value that it doesn't take: see prepaid help COMMAND"
-        )?;
-    }
-    for line in said.split('\n') {
-        if !line.is_empty() {
-            writeln!(text, "{line}")?;
+/// The same of a run whose lines and tables go into files: where these couldn't be written, the
+/// error is said.
+pub(crate) fn files_ending(
+    alloc: Global,
+    explains: bool,
+    options: &RunOptions,
+    input: &Option<Vec<u8>>,
+    failed: &Option<Error>,
+    answer: Result<Answer, Fault>,
+) -> Ending<Answer>
+    ensures answer { result.answer ≡ answer }
+    ensures only { explains ≡ false → result.more ≡ None }
+    ensures none { IfNone input.now (IfErr answer (λ why. IfSome result.more
+        (λ _. slip_of true why ≡ None))) }
+    ensures said { IfSome input.now (λ bytes. IfErr answer (λ why. IfSome result.more
+        (λ more. IsSaidOfFault true bytes.items why (string_bytes more)))) }
+    ensures unread { IfNone input.now (IfOk answer (λ _. result.more ≡ None)) }
+    ensures behind { IfSome input.now (λ bytes. IfOk answer (λ done. IfSome result.more
+        (λ more. IsSaidBehind
+        bytes.items (printout_of done).unplaced (string_bytes more)))) }
+{
+    match (&answer, failed) {
+        (Err(Fault::Into), Some(error)) if explains => {
+            let more = said_of_files(alloc, error).ok();
+            Ending { answer, more }
         }
+        _ => run_ending(alloc, explains, options, input, answer),
     }
-    Ok(text)
-}
-
-/// How long an input may be.
-fn said_of_length(alloc: Global) -> Result<String, AllocError> {
-    let mut text = String::new(alloc);
-    writeln!(
-        text,
-        "at most {MAX_INPUT} bytes; docs/SCALING.md has larger loads"
-    )?;
-    Ok(text)
 }
 
 /// Why files couldn't be written.
@@ -201,39 +142,4 @@ fn said_behind(
     let events = unplaced_line(alloc, unplaced).ok()?;
     more.push_str(events.as_str()).ok()?;
     Some(more)
-}
-
-/// What is said of a fault over an input; nothing where memory runs out.
-fn said_of(alloc: Global, in_parts: bool, input: &Vec<u8>, fault: Fault) -> Option<String>
-    ensures { IfSome result (λ more.
-        IsSaidOfFault in_parts input.now.items fault (string_bytes more)) }
-{
-    match slip_of(in_parts, fault) {
-        Some(slip) => explain(alloc, input.as_slice(), slip).ok(),
-        None => dividers_of(alloc, input.as_slice(), fault),
-    }
-}
-
-/// What is said of the lines that divide an input, where these are wrong.
-fn dividers_of(alloc: Global, input: &[u8], fault: Fault) -> Option<String> {
-    match fault {
-        Fault::Parts => explain_dividers(alloc, input, 2).ok(),
-        _ => None,
-    }
-}
-
-/// The fault of a table in an input, which has three parts or is that table.
-fn slip_of(in_parts: bool, fault: Fault) -> Option<Slip>
-    ensures { result ≡ slip_of in_parts fault }
-{
-    match fault {
-        Fault::Tariff(fault) if in_parts => Some(Slip::RunTariff(fault)),
-        Fault::Tariff(fault) => Some(Slip::Tariff(fault)),
-        Fault::Table(Part::Reports, fault) => Some(Slip::Reports(fault)),
-        Fault::Table(Part::Ops, fault) => Some(Slip::Ops(fault)),
-        Fault::Table(Part::Book, fault) => Some(Slip::Book(fault)),
-        Fault::Table(Part::Setup, fault) => Some(Slip::Setup(fault)),
-        Fault::Table(Part::Script, fault) => Some(Slip::Script(fault)),
-        _ => None,
-    }
 }

@@ -3,24 +3,14 @@
 
 mod answer;
 mod ending;
-mod error_lines;
-mod fault;
+mod faults;
 mod files;
-mod input;
 mod list_lines;
-mod noting;
-mod price_lines;
 mod program;
-mod quoting;
-mod rating_rows;
-mod replaying;
-mod reports;
+mod refused_line;
 mod running;
 mod serving;
 mod terminal;
 
-pub use fault::{Fault, Part};
-pub use input::MAX_INPUT;
-pub use noting::Noting;
 pub use program::command;
 pub use terminal::Terminal;

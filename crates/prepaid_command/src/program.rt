@@ -1,43 +1,31 @@
 //! The program, from words and bytes to bytes.
 
-ghost use Rattle.std.specs.Prelude.{◌≡◌, ◌⊎◌, ◌++◌, None, map, option_map, IfSome, string_bytes};
+ghost use Rattle.std.specs.Prelude.{◌≡◌, ◌⊎◌, ◌++◌, map, option_map, string_bytes};
 ghost use Rattle.std.specs.Io.KnownBytes.{Keeps};
 ghost use Rattle.std.specs.Result.{result_map_both};
-ghost use Rattle.tariff_core.specs.RatesOf.{rates_of};
-ghost use Rattle.command_words.specs.QuoteWishes.{quote_wish_of};
-ghost use Rattle.run_options.specs.Options.{ask_of};
-ghost use Rattle.prepaid_command.specs.Answers.{Answers, IsCutOff, IsPrinted, IsSaidOrReported, IsAuditOfInput, IsAuditOfTable, IsQuoteOfInput, RatesAsAsked, ServesAsAsked, price_of_input, replay_of_input};
-ghost use Rattle.prepaid_command.specs.Faults.{GivesAnswer, GivesOne};
 ghost use Rattle.rating.specs.Fronts.{AppendsFront};
-ghost use Rattle.prepaid_command.specs.Refused.{refused_line};
+ghost use Rattle.prepaid_command.specs.Answers.{Answers, IsCutOff, IsPrinted, IsSaidOrReported, RatesAsAsked, ServesAsAsked};
 ghost use Rattle.prepaid_command.specs.Printouts.{printout_of};
+ghost use Rattle.prepaid_command.specs.Refused.{refused_line};
 
 use crate::answer::Answer;
-use crate::ending::Ending;
-use crate::error_lines::{refused_line, report, report_with, tell_output, write_both};
-use crate::fault::{Fault, Part};
-use crate::input::read_input;
-use crate::noting::Noting;
-use crate::price_lines::print_reports;
-use crate::quoting::print_quote;
-use crate::rating_rows::rate_input;
-use crate::replaying::replay;
-use crate::reports::read_reports;
-use crate::running::{Folder, run_into_folder, run_script};
+use crate::ending::{audit_ending, text_ending};
+use crate::refused_line::refused_line;
+use crate::running::{run_input, run_input_into};
 use crate::serving::serve_messages;
-use book_texts::{AuditAsk, BookSize, audit_books};
-use command_words::{Opening, QuoteAsk, Request, explains, read_words};
+use command_words::{Request, explains, read_words};
 use rating::write_text;
 use run_command::{Refusals, Watch};
-use run_texts::read_tariff;
-use std::alloc::Global;
 use std::convert::AsStr;
 use std::fs::File;
-use std::io::{BufRead, Read, Write};
+use std::io::{BufRead, Write};
 use std::rt::Files;
 use std::sync::Wait;
 use std::thread::Threads;
-use tariff_core::Plan;
+use table_commands::{
+    Ending, Noting, audit_input, price_input, quote_input, rate_input, replay_input, report,
+    report_output, report_with, write_both,
+};
 
 /// Runs the program over the words after its name, and gives the exit status:
 ///
@@ -79,100 +67,34 @@ where
 {
     let alloc = rt.alloc();
     let explains = explains(words);
-    let mut kept = None;
-    match read_words(alloc, words) {
-        Ok(Request::Help(text)) => {
-            tell(
-                output,
-                faults,
-                explains,
-                Ending::plain(Ok(Answer::plain(alloc, text))),
-            )
-        }
-        Ok(Request::Version(text)) => {
-            tell(
-                output,
-                faults,
-                explains,
-                Ending::plain(Ok(Answer::plain(alloc, text))),
-            )
-        }
-        Ok(Request::Price(plan)) => {
-            let answer = price_reports(alloc, &plan, input, &mut kept);
-            tell(
-                output,
-                faults,
-                explains,
-                Ending::over(alloc, explains, false, &kept, answer),
-            )
-        }
+    let ending = match read_words(alloc, words) {
+        Ok(Request::Help(text)) => Ending::plain(Ok(Answer::plain(alloc, text))),
+        Ok(Request::Version(text)) => Ending::plain(Ok(Answer::plain(alloc, text))),
+        Ok(Request::Price(plan)) => text_ending(alloc, price_input(alloc, explains, &plan, input)),
         Ok(Request::Replay(account)) => {
-            let answer = replay_operations(alloc, account, input, &mut kept);
-            tell(
-                output,
-                faults,
-                explains,
-                Ending::over(alloc, explains, false, &kept, answer),
-            )
+            text_ending(alloc, replay_input(alloc, explains, account, input))
         }
-        Ok(Request::Run(options)) => {
-            let answer = run_script(rt, alloc, &options, input, &mut kept, watch);
-            tell(
-                output,
-                faults,
-                explains,
-                Ending::of_run(alloc, explains, &options, &kept, answer),
-            )
-        }
+        Ok(Request::Audit(ask)) => audit_ending(alloc, audit_input(alloc, explains, ask, input)),
+        Ok(Request::Quote(ask)) => text_ending(alloc, quote_input(alloc, explains, &ask, input)),
+        Ok(Request::Run(options)) => run_input(rt, alloc, explains, &options, input, watch),
         Ok(Request::RunInto(options, folder)) => {
-            let mut failed = None;
-            let into = Folder {
-                path: folder,
-                failed: &mut failed,
-            };
-            let answer = run_into_folder(rt, alloc, &options, into, input, &mut kept, watch);
-            tell(
-                output,
-                faults,
-                explains,
-                Ending::of_files(alloc, explains, &options, &kept, &failed, answer),
-            )
+            run_input_into(rt, alloc, explains, &options, folder, input, watch)
         }
-        Ok(Request::Audit(ask)) => {
-            let answer = audit_input(alloc, ask, input, &mut kept);
-            tell(
-                output,
-                faults,
-                explains,
-                Ending::over(alloc, explains, false, &kept, answer),
-            )
-        }
-        Ok(Request::Quote(ask)) => {
-            let answer = quote_input(alloc, &ask, input, &mut kept);
-            tell(
-                output,
-                faults,
-                explains,
-                Ending::over(alloc, explains, false, &kept, answer),
-            )
-        }
-        Ok(Request::Rate(ask)) => rate_input(alloc, &ask, input, output, faults, explains),
+        Ok(Request::Rate(ask)) => return rate_input(alloc, &ask, input, output, faults, explains),
         Ok(Request::Serve(options, log)) => {
-            serve_messages(rt, alloc, &options, log, input, output, faults, explains)
+            return serve_messages(rt, alloc, &options, log, input, output, faults, explains);
         }
-        Err(why) => {
-            let ending = Ending::of_words(alloc, explains, words, why);
-            tell(output, faults, explains, ending)
-        }
-    }
+        Err(why) => Ending::of_words(alloc, explains, words, why),
+    };
+    say(output, faults, explains, ending)
 }
 
 /// Prints an answer, or reports a fault, with what is said of it, and gives the status.
-fn tell<O: Write, E: Write>(
+fn say<O: Write, E: Write>(
     output: &mut Noting<O>,
     faults: &mut E,
     explains: bool,
-    ending: Ending,
+    ending: Ending<Answer>,
 ) -> u8
     ensures printed { IsSaidOrReported explains (option_map string_bytes ending.more)
         (result_map_both printout_of (λ fault. fault) ending.answer) result
@@ -187,117 +109,6 @@ fn tell<O: Write, E: Write>(
         (Err(fault), None) => report(faults, fault),
         (Err(fault), Some(more)) => report_with(faults, fault, more.as_bytes()),
     }
-}
-
-/// The lines of `price` for the reports in the input.
-fn price_reports<I: Read + Drop>(
-    alloc: Global,
-    plan: &Plan,
-    input: I,
-    kept: &mut Option<Vec<u8>>,
-) -> Result<Answer, Fault>
-    requires { kept.old ≡ None }
-    ensures answer { IfSome (I.remaining input) (λ text.
-        GivesAnswer printout_of result (price_of_input (rates_of plan.now) text)) }
-    ensures kept { IfSome (I.remaining input) (λ text.
-        IfSome kept.new (λ bytes. bytes.items ≡ text)) }
-{
-    let bytes = read_input(alloc, input)?;
-    match read_reports(alloc, plan, bytes.as_slice()) {
-        Ok(reports) => Ok(Answer::plain(alloc, print_reports(alloc, plan, &reports)?)),
-        Err(fault) => {
-            *kept = Some(bytes);
-            Err(Fault::in_part(Part::Reports, fault))
-        }
-    }
-}
-
-/// The lines of `replay` for the operations in the input.
-fn replay_operations<I: Read + Drop>(
-    alloc: Global,
-    account: Opening,
-    input: I,
-    kept: &mut Option<Vec<u8>>,
-) -> Result<Answer, Fault>
-    requires { kept.old ≡ None }
-    ensures kept { IfSome (I.remaining input) (λ text.
-        IfSome kept.new (λ bytes. bytes.items ≡ text)) }
-    ensures answer { IfSome (I.remaining input) (λ text.
-        GivesAnswer printout_of result (replay_of_input account.opening account.limit text)) }
-{
-    let bytes = read_input(alloc, input)?;
-    match replay(alloc, account.opening, account.limit, bytes.as_slice()) {
-        Ok(text) => Ok(Answer::plain(alloc, text)),
-        Err(fault) => {
-            *kept = Some(bytes);
-            Err(Fault::in_part(Part::Ops, fault))
-        }
-    }
-}
-
-/// The lines of `audit` for the books in the input. A long table is read row by row and never kept.
-fn audit_input<I: Read + Drop>(
-    alloc: Global,
-    ask: AuditAsk,
-    input: I,
-    kept: &mut Option<Vec<u8>>,
-) -> Result<Answer, Fault>
-    requires { kept.old ≡ None }
-    ensures kept { IfSome (I.remaining input) (λ text.
-        IfSome kept.new (λ bytes. bytes.items ≡ text)) }
-    ensures answer { IfSome (I.remaining input) (λ text. GivesOne (IsAuditOfInput ask text)
-        (result_map_both printout_of (λ fault. fault) result)) }
-{
-    match ask.size {
-        BookSize::Short => {
-            let bytes = read_input(alloc, input)?;
-            let answer = audit_table(alloc, ask, bytes.as_slice());
-            *kept = Some(bytes);
-            answer
-        }
-        BookSize::Long => audit_table(alloc, ask, input),
-    }
-}
-
-/// The lines of `audit` for a table of books.
-fn audit_table<I: Read + Drop>(alloc: Global, ask: AuditAsk, table: I) -> Result<Answer, Fault>
-    ensures { IfSome (I.remaining table) (λ text. GivesOne (IsAuditOfTable ask text)
-        (result_map_both printout_of (λ fault. fault) result)) }
-{
-    match audit_books(alloc, table, ask) {
-        Ok(audit) => Ok(Answer {
-            text: audit.lines,
-            passes: audit.passes,
-            refusals: Refusals::none(),
-            unplaced: Vec::new(alloc),
-        }),
-        Err(fault) => Err(Fault::in_part(Part::Book, fault)),
-    }
-}
-
-/// The lines of `quote` for the tariff in the input.
-fn quote_input<I: Read + Drop>(
-    alloc: Global,
-    ask: &QuoteAsk,
-    input: I,
-    kept: &mut Option<Vec<u8>>,
-) -> Result<Answer, Fault>
-    requires { kept.old ≡ None }
-    ensures kept { IfSome (I.remaining input) (λ text.
-        IfSome kept.new (λ bytes. bytes.items ≡ text)) }
-    ensures answer { IfSome (I.remaining input) (λ text. GivesOne
-        (IsQuoteOfInput (quote_wish_of ask.now) text)
-        (result_map_both printout_of (λ fault. fault) result)) }
-{
-    let bytes = read_input(alloc, input)?;
-    let tariff = match read_tariff(alloc, bytes.as_slice()) {
-        Ok(tariff) => tariff,
-        Err(fault) => {
-            *kept = Some(bytes);
-            return Err(Fault::of_run_input(fault));
-        }
-    };
-    Ok(Answer::plain(alloc, print_quote(alloc, &tariff, ask)?))
 }
 
 /// The status of an answer: its own where the whole text went to the output, and then the line
@@ -317,16 +128,16 @@ fn print<O: Write, E: Write>(
         (record { output = O.contents output.new.inner; faults = E.contents faults.new }) }
 {
     if write_text(output, answer.text.as_bytes()) && output.flush().is_ok() {
-        tell_refusals(faults, &answer.refusals, more);
+        write_refusals(faults, &answer.refusals, more);
         answer.status()
     } else {
-        tell_output(faults, explains, output.failed);
+        report_output(faults, explains, output.failed);
         2
     }
 }
 
 /// Writes the line about refusals, where there are any, and what is said besides behind it.
-fn tell_refusals<E: Write>(faults: &mut E, refusals: &Refusals, more: &[u8])
+fn write_refusals<E: Write>(faults: &mut E, refusals: &Refusals, more: &[u8])
     ensures { AppendsFront (E.contents faults.old) (E.contents faults.new)
         (refused_line refusals.now ++ more.now) }
 {

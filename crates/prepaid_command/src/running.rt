@@ -1,16 +1,18 @@
 //! The command `run`.
 
-ghost use Rattle.std.specs.Prelude.{◌≡◌, None, IfSome};
+ghost use Rattle.std.specs.Prelude.{◌≡◌, true, None, IfOk, IfSome, option_map, string_bytes};
 ghost use Rattle.std.specs.Result.{result_map_both};
 ghost use Rattle.run_options.specs.Options.{ask_of};
+ghost use Rattle.table_commands.specs.Explanations.{IsSaidOfAnswer};
+ghost use Rattle.table_commands.specs.Faults.{GivesOne};
 ghost use Rattle.prepaid_command.specs.Answers.{IsFiledRunOfInput, IsRunOfInput};
-ghost use Rattle.prepaid_command.specs.Faults.{GivesOne};
+ghost use Rattle.prepaid_command.specs.Explanations.{IsSaidBehind};
 ghost use Rattle.prepaid_command.specs.Printouts.{printout_of};
 
 use crate::answer::Answer;
-use crate::fault::Fault;
+use crate::ending::{files_ending, run_ending};
+use crate::faults::{fault_of_files, fault_of_run};
 use crate::files::write_tables;
-use crate::input::read_input;
 use run_command::{Ran, RunTables, Watch, run, run_tables};
 use run_options::RunOptions;
 use std::alloc::Global;
@@ -19,9 +21,65 @@ use std::io::{Error, Read};
 use std::rt::Files;
 use std::sync::Wait;
 use std::thread::Threads;
+use table_commands::{Ending, Fault, read_input};
 
-/// What is printed of a run of the script in the input.
-pub(crate) fn run_script<R: Wait + Threads + Sync, I: Read + Drop, W: Watch + Sync>(
+/// What is printed of a run of the script in the input, or the first fault, and what is said behind
+/// that where it is asked for.
+pub(crate) fn run_input<R: Wait + Threads + Sync, I: Read + Drop, W: Watch + Sync>(
+    rt: &R,
+    alloc: Global,
+    explains: bool,
+    options: &RunOptions,
+    input: I,
+    watch: &W,
+) -> Ending<Answer>
+    ensures answer { IfSome (I.remaining input) (λ text.
+        GivesOne (IsRunOfInput (ask_of options.now) text)
+        (result_map_both printout_of (λ fault. fault) result.answer)) }
+    ensures more { IsSaidOfAnswer explains true (I.remaining input) result.answer
+        (option_map string_bytes result.more) }
+    ensures behind { IfSome (I.remaining input) (λ text. IfOk result.answer
+        (λ done. IfSome result.more (λ more. IsSaidBehind
+        text (printout_of done).unplaced (string_bytes more)))) }
+{
+    let mut kept = None;
+    let answer = run_script(rt, alloc, options, input, &mut kept, watch);
+    run_ending(alloc, explains, options, &kept, answer)
+}
+
+/// The same of a run whose lines and tables go into files of the folder at this path: nothing of it
+/// is printed.
+pub(crate) fn run_input_into<R, I: Read + Drop, W: Watch>(
+    rt: &R,
+    alloc: Global,
+    explains: bool,
+    options: &RunOptions,
+    folder: &str,
+    input: I,
+    watch: &W,
+) -> Ending<Answer>
+where
+    R: Wait + Threads + Sync + Files<File = File>,
+    ensures answer { IfSome (I.remaining input) (λ text.
+        GivesOne (IsFiledRunOfInput (ask_of options.now) text)
+        (result_map_both printout_of (λ fault. fault) result.answer)) }
+    ensures more { IsSaidOfAnswer explains true (I.remaining input) result.answer
+        (option_map string_bytes result.more) }
+    ensures behind { IfSome (I.remaining input) (λ text. IfOk result.answer
+        (λ done. IfSome result.more (λ more. IsSaidBehind
+        text (printout_of done).unplaced (string_bytes more)))) }
+{
+    let (mut kept, mut failed) = (None, None);
+    let folder = Folder {
+        path: folder,
+        failed: &mut failed,
+    };
+    let answer = run_into_folder(rt, alloc, options, folder, input, &mut kept, watch);
+    files_ending(alloc, explains, options, &kept, &failed, answer)
+}
+
+/// What is printed of a run of the script in the input, which is kept.
+fn run_script<R: Wait + Threads + Sync, I: Read + Drop, W: Watch + Sync>(
     rt: &R,
     alloc: Global,
     options: &RunOptions,
@@ -43,7 +101,10 @@ pub(crate) fn run_script<R: Wait + Threads + Sync, I: Read + Drop, W: Watch + Sy
         text,
         refusals,
         unplaced,
-    } = ran?;
+    } = match ran {
+        Ok(ran) => ran,
+        Err(error) => return Err(fault_of_run(error)),
+    };
     Ok(Answer {
         text,
         passes: true,
@@ -54,15 +115,15 @@ pub(crate) fn run_script<R: Wait + Threads + Sync, I: Read + Drop, W: Watch + Sy
 
 /// A folder that files go into.
 #[derive(Drop)]
-pub(crate) struct Folder<'a> {
+struct Folder<'a> {
     /// Its path.
-    pub path: &'a str,
+    path: &'a str,
     /// Why they couldn't be written.
-    pub failed: &'a mut Option<Error>,
+    failed: &'a mut Option<Error>,
 }
 
 /// The same of a run whose lines and tables go into files of a folder: nothing of it is printed.
-pub(crate) fn run_into_folder<R, I: Read + Drop, W: Watch>(
+fn run_into_folder<R, I: Read + Drop, W: Watch>(
     rt: &R,
     alloc: Global,
     options: &RunOptions,
@@ -83,9 +144,12 @@ where
     let bytes = read_input(alloc, input)?;
     let tables = run_tables(rt, alloc, options, bytes.as_slice(), watch);
     *kept = Some(bytes);
-    let tables = tables?;
+    let tables = match tables {
+        Ok(tables) => tables,
+        Err(error) => return Err(fault_of_run(error)),
+    };
     if let Err(error) = write_tables(rt, alloc, folder.path, &tables) {
-        let fault = Fault::of_files(&error);
+        let fault = fault_of_files(&error);
         *folder.failed = Some(error);
         return Err(fault);
     }

@@ -6,9 +6,7 @@ ghost use Rattle.run_options.specs.Logs.{log_wish_of};
 ghost use Rattle.run_options.specs.Options.{live_ask_of};
 ghost use Rattle.prepaid_command.specs.Answers.{IsServeEnd, IsServedInput};
 
-use crate::error_lines::report_end;
-use crate::fault::Fault;
-use crate::noting::Noting;
+use crate::faults::fault_of_serve;
 use answer_command::{ServeError, serve_input};
 use run_options::{LiveOptions, LogAsk};
 use std::alloc::Global;
@@ -17,6 +15,7 @@ use std::io::{BufRead, Error, Write};
 use std::rt::Files;
 use std::sync::Wait;
 use std::thread::Threads;
+use table_commands::{Noting, report_end};
 
 /// Answers the messages in the input as they come, and gives the status: 0 where the input has
 /// ended and all was printed; 1 for a fault of what is in front of the messages, and then nothing
@@ -33,19 +32,19 @@ pub(crate) fn serve_messages<R, I: BufRead + Drop, O: Write, E: Write>(
 ) -> u8
 where
     R: Wait + Threads + Sync + Files<File = File>,
-    ensures served { IsServedInput explains (live_ask_of options.now) (option_map log_wish_of log.entry)
-        (I.remaining input) result
+    ensures served { IsServedInput explains (live_ask_of options.now)
+        (option_map log_wish_of log.entry) (I.remaining input) result
         (record { output = O.contents output.old.inner; faults = E.contents faults.old })
         (record { output = O.contents output.new.inner; faults = E.contents faults.new }) }
     ensures silent { result ≡ 1
         → Keeps (O.contents output.old.inner) (O.contents output.new.inner) }
 {
     let ended = serve_input(rt, alloc, options, log, input, output);
-    tell_end(faults, explains, ended, output.failed)
+    report_served(faults, explains, ended, output.failed)
 }
 
 /// Reports why an input wasn't served to its end, and gives the status.
-fn tell_end<E: Write>(
+fn report_served<E: Write>(
     faults: &mut E,
     explains: bool,
     ended: Result<(), ServeError>,
@@ -55,6 +54,6 @@ fn tell_end<E: Write>(
 {
     match ended {
         Ok(()) => 0,
-        Err(why) => report_end(faults, explains, Fault::of_serve(why), failed),
+        Err(why) => report_end(faults, explains, fault_of_serve(why), failed),
     }
 }

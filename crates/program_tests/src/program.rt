@@ -1,6 +1,6 @@
 //! The program over words and a text.
 
-use prepaid_command::{Noting, command};
+use prepaid_command::command;
 use run_command::Unwatched;
 use std::alloc::{AllocError, Global};
 use std::fs::File;
@@ -10,6 +10,7 @@ use std::rt::Files;
 use std::sync::Wait;
 use std::test::Fail;
 use std::thread::Threads;
+use table_commands::Noting;
 
 /// What `price` takes in most tests.
 pub(crate) const PRICE: &str = "price --fee 50 --before 1000";

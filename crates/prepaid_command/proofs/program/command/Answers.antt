@@ -1,5 +1,6 @@
-use Rattle.std.proofs.Common.{Global, inl, inr, refl, ℕ, string_bytes}
-use Rattle.std.specs.Prelude.{Vec, option_map}
+use Rattle.std.proofs.Common.{inl, inr, refl, string_bytes}
+use Rattle.std.specs.Prelude.{option_map}
+use Rattle.book_texts.specs.Checks.{audited_by}
 use Rattle.tariff_core.specs.RatesOf.{rates_of}
 use Rattle.command_words.specs.Arguments.{AsksFor}
 use Rattle.command_words.specs.QuoteWishes.{quote_wish_of}
@@ -7,84 +8,79 @@ use Rattle.command_words.specs.Wishes.{Wish, Audits, Prices, Quotes, Replays, Ru
 use Rattle.rating.specs.SaidOf.{rate_wish_of as rate_wish_of}
 use Rattle.run_options.specs.Logs.{log_wish_of}
 use Rattle.run_options.specs.Options.{ask_of, live_ask_of}
-use Rattle.prepaid_command.proofs.AnswerLemmas.{audit_of, filed_of, gives_known, helped_plainly, none_added, price_wished, quote_of, refused_words_printed, replay_wished, run_added, run_of, wished}
-use Rattle.prepaid_command.specs.Answers.{price_of_input, replay_of_input}
+use Rattle.table_commands.specs.Answers.{price_of_input, printout_of_audit, replay_of_input}
+use Rattle.table_commands.specs.Printouts.{plain}
 use Rattle.prepaid_command.specs.Printouts.{printout_of}
+use Rattle.prepaid_command.proofs.AnswerLemmas.{audit_of, filed_of, gives_known, helped_plainly, none_added, price_wished, quote_of, refused_words_printed, replay_wished, run_added, run_of, wished}
+use Rattle.prepaid_command.proofs.program.command.Goals.{in-Ok-Help, in-Ok-Version, in-Ok-Price, in-Ok-Replay, in-Ok-Audit, in-Ok-Quote, in-Ok-Run, in-Ok-RunInto, in-Err}
 use Rattle.prepaid_command.proofs.program.command.Goals as goal
 
-pub returns-in-Ok-Help-clause-answers : goal.returns-in-Ok-Help-clause-answers
-returns-in-Ok-Help-clause-answers g c =
-    inl (helped_plainly string_bytes printout_of _ _ _ _ (g.I.Read.remaining c.args.input) c.plain-in-Ok-Help.result.more c.plain-in-Ok-Help.result.answer c.explains-explains.result c.plain.result _
-    (inl (rw c.in-Ok-Help.field-0-is at c.in-Ok-Help.ensures)) c.plain.ensures c.explains-explains.ensures c.plain-in-Ok-Help.ensures.answer c.plain-in-Ok-Help.ensures.more c.tell.ensures.printed)
-
-pub returns-in-Ok-Version-clause-answers : goal.returns-in-Ok-Version-clause-answers
-returns-in-Ok-Version-clause-answers g c =
-    inl (helped_plainly string_bytes printout_of _ _ _ _ (g.I.Read.remaining c.args.input) c.plain-in-Ok-Version-2.result.more c.plain-in-Ok-Version-2.result.answer
-    c.explains-explains.result c.plain-in-Ok-Version.result _ (inr (rw c.in-Ok-Version.field-0-is at c.in-Ok-Version.ensures)) c.plain-in-Ok-Version.ensures c.explains-explains.ensures c.plain-in-Ok-Version-2.ensures.answer
-    c.plain-in-Ok-Version-2.ensures.more c.tell-in-Ok-Version.ensures.printed)
-
-pub returns-in-Err-clause-answers : goal.returns-in-Err-clause-answers
-returns-in-Err-clause-answers g c =
-    inl (refused_words_printed string_bytes printout_of _ _ _ _ (g.I.Read.remaining c.args.input) c.of_words-ending.result.more c.of_words-ending.result.answer c.explains-explains.result c.in-Err.why
-    c.in-Err.ensures c.of_words-ending.ensures.answer c.explains-explains.ensures c.of_words-ending.ensures.only c.of_words-ending.ensures.words c.tell-in-Err.ensures.printed)
-
-pub returns-in-Ok-Price-clause-answers : goal.returns-in-Ok-Price-clause-answers
-returns-in-Ok-Price-clause-answers g c =
-    inl (wished (λ (bytes : Vec ℕ Global). bytes.items) string_bytes printout_of _ _ _ _ (g.I.Read.remaining c.args.input) c.price_reports-answer.new.kept c.over.result.more c.over.result.answer
-    c.price_reports-answer.result c.explains-explains.result (Prices (rates_of c.in-Ok-Price.plan)) (price_wished (rates_of c.in-Ok-Price.plan)) (rw c.in-Ok-Price.field-0-is at c.in-Ok-Price.ensures)
-    (gives_known printout_of (g.I.Read.remaining c.args.input) c.price_reports-answer.result (price_of_input (rates_of c.in-Ok-Price.plan)) c.price_reports-answer.ensures.answer) c.over.ensures.answer c.explains-explains.ensures
-    c.over.ensures.only c.price_reports-answer.ensures.kept c.over.ensures.none c.over.ensures.said
-    (none_added _ string_bytes printout_of (g.I.Read.remaining c.args.input) c.over.result.more c.price_reports-answer.result c.over.ensures.plain) c.tell-in-Ok-Price.ensures.printed)
-
-pub returns-in-Ok-Replay-clause-answers : goal.returns-in-Ok-Replay-clause-answers
-returns-in-Ok-Replay-clause-answers g c =
-    inl (wished (λ (bytes : Vec ℕ Global). bytes.items) string_bytes printout_of _ _ _ _ (g.I.Read.remaining c.args.input) c.replay_operations-answer.new.kept c.over-in-Ok-Replay.result.more c.over-in-Ok-Replay.result.answer
-    c.replay_operations-answer.result c.explains-explains.result (Replays c.in-Ok-Replay.account.opening c.in-Ok-Replay.account.limit) (replay_wished c.in-Ok-Replay.account.opening c.in-Ok-Replay.account.limit) (rw c.in-Ok-Replay.field-0-is at c.in-Ok-Replay.ensures)
-    (gives_known printout_of (g.I.Read.remaining c.args.input) c.replay_operations-answer.result (replay_of_input c.in-Ok-Replay.account.opening c.in-Ok-Replay.account.limit) c.replay_operations-answer.ensures.answer) c.over-in-Ok-Replay.ensures.answer c.explains-explains.ensures
-    c.over-in-Ok-Replay.ensures.only c.replay_operations-answer.ensures.kept c.over-in-Ok-Replay.ensures.none c.over-in-Ok-Replay.ensures.said
-    (none_added _ string_bytes printout_of (g.I.Read.remaining c.args.input) c.over-in-Ok-Replay.result.more c.replay_operations-answer.result c.over-in-Ok-Replay.ensures.plain) c.tell-in-Ok-Replay.ensures.printed)
-
-pub returns-in-Ok-Run-clause-answers : goal.returns-in-Ok-Run-clause-answers
-returns-in-Ok-Run-clause-answers g c =
-    let wish : Wish = Runs (ask_of c.in-Ok-Run.options) in
-    let asked : AsksFor _ wish = rw c.in-Ok-Run.field-0-is at c.in-Ok-Run.ensures in
-    let ending = c.of_run in
-    let ran = c.run_script-answer in
-    inl (wished (λ (bytes : Vec ℕ Global). bytes.items) string_bytes printout_of _ _ _ _ (g.I.Read.remaining c.args.input) ran.new.kept ending.result.more ending.result.answer
-    ran.result c.explains-explains.result wish (run_of (ask_of c.in-Ok-Run.options)) asked
-    ran.ensures.answer ending.ensures.answer c.explains-explains.ensures
-    ending.ensures.only ran.ensures.kept ending.ensures.none ending.ensures.said
-    (run_added _ (λ (bytes : Vec ℕ Global). bytes.items) string_bytes printout_of (g.I.Read.remaining c.args.input) ran.new.kept ending.result.more ran.result wish asked refl
-    ran.ensures.kept ending.ensures.unread ending.ensures.behind) c.tell-in-Ok-Run.ensures.printed)
-
-pub returns-in-Ok-RunInto-clause-answers : goal.returns-in-Ok-RunInto-clause-answers
-returns-in-Ok-RunInto-clause-answers g c =
-    let wish : Wish = RunsInto (ask_of c.in-Ok-RunInto.options) c.in-Ok-RunInto.folder.now in
-    let asked : AsksFor _ wish = rw c.in-Ok-RunInto.field-0-is at c.in-Ok-RunInto.ensures in
-    let ending = c.of_files in
-    let ran = c.run_into_folder-answer in
-    inl (wished (λ (bytes : Vec ℕ Global). bytes.items) string_bytes printout_of _ _ _ _ (g.I.Read.remaining c.args.input) ran.new.kept ending.result.more ending.result.answer
-    ran.result c.explains-explains.result wish (filed_of (ask_of c.in-Ok-RunInto.options) c.in-Ok-RunInto.folder.now) asked
-    ran.ensures.answer ending.ensures.answer c.explains-explains.ensures
-    ending.ensures.only ran.ensures.kept ending.ensures.none ending.ensures.said
-    (run_added _ (λ (bytes : Vec ℕ Global). bytes.items) string_bytes printout_of (g.I.Read.remaining c.args.input) ran.new.kept ending.result.more ran.result wish asked refl
-    ran.ensures.kept ending.ensures.unread ending.ensures.behind) c.tell-in-Ok-RunInto.ensures.printed)
-
-pub returns-in-Ok-Audit-clause-answers : goal.returns-in-Ok-Audit-clause-answers
-returns-in-Ok-Audit-clause-answers g c =
-    inl (wished (λ (bytes : Vec ℕ Global). bytes.items) string_bytes printout_of _ _ _ _ (g.I.Read.remaining c.args.input) c.audit_input-answer.new.kept c.over-in-Ok-Audit.result.more c.over-in-Ok-Audit.result.answer
-    c.audit_input-answer.result c.explains-explains.result (Audits c.in-Ok-Audit.ask) (audit_of c.in-Ok-Audit.ask) (rw c.in-Ok-Audit.field-0-is at c.in-Ok-Audit.ensures)
-    c.audit_input-answer.ensures.answer c.over-in-Ok-Audit.ensures.answer c.explains-explains.ensures
-    c.over-in-Ok-Audit.ensures.only c.audit_input-answer.ensures.kept c.over-in-Ok-Audit.ensures.none c.over-in-Ok-Audit.ensures.said
-    (none_added _ string_bytes printout_of (g.I.Read.remaining c.args.input) c.over-in-Ok-Audit.result.more c.audit_input-answer.result c.over-in-Ok-Audit.ensures.plain) c.tell-in-Ok-Audit.ensures.printed)
-
-pub returns-in-Ok-Quote-clause-answers : goal.returns-in-Ok-Quote-clause-answers
-returns-in-Ok-Quote-clause-answers g c =
-    inl (wished (λ (bytes : Vec ℕ Global). bytes.items) string_bytes printout_of _ _ _ _ (g.I.Read.remaining c.args.input) c.quote_input-answer.new.kept c.over-in-Ok-Quote.result.more c.over-in-Ok-Quote.result.answer
-    c.quote_input-answer.result c.explains-explains.result (Quotes (quote_wish_of c.in-Ok-Quote.ask)) (quote_of (quote_wish_of c.in-Ok-Quote.ask)) (rw c.in-Ok-Quote.field-0-is at c.in-Ok-Quote.ensures)
-    c.quote_input-answer.ensures.answer c.over-in-Ok-Quote.ensures.answer c.explains-explains.ensures
-    c.over-in-Ok-Quote.ensures.only c.quote_input-answer.ensures.kept c.over-in-Ok-Quote.ensures.none c.over-in-Ok-Quote.ensures.said
-    (none_added _ string_bytes printout_of (g.I.Read.remaining c.args.input) c.over-in-Ok-Quote.result.more c.quote_input-answer.result c.over-in-Ok-Quote.ensures.plain) c.tell-in-Ok-Quote.ensures.printed)
+pub returns-clause-answers : goal.returns-clause-answers
+returns-clause-answers g c =
+    let known = g.I.Read.remaining c.args.input in
+    let explaining = c.explains-explains.result in
+    let printed = c.say.ensures.printed in
+    inl (elim c.match-read_words.branch [
+      | in-Ok-Help w ↦
+          helped_plainly string_bytes printout_of _ _ _ _ known w.plain-ending.result.more w.plain-ending.result.answer explaining w.plain.result _
+          (inl (rw w.in-Ok-Help.field-0-is at w.in-Ok-Help.ensures)) w.plain.ensures c.explains-explains.ensures w.plain-ending.ensures.answer w.plain-ending.ensures.more (rw w.ending-is at printed)
+      | in-Ok-Version w ↦
+          let ending = w.plain-ending-in-Ok-Version in
+          helped_plainly string_bytes printout_of _ _ _ _ known ending.result.more ending.result.answer explaining w.plain-in-Ok-Version.result _
+          (inr (rw w.in-Ok-Version.field-0-is at w.in-Ok-Version.ensures)) w.plain-in-Ok-Version.ensures c.explains-explains.ensures ending.ensures.answer ending.ensures.more (rw w.ending-is at printed)
+      | in-Ok-Price w ↦
+          let made = w.price_input in
+          let ending = w.text_ending-ending in
+          let plan = rates_of w.in-Ok-Price.plan in
+          wished (λ lines. plain (string_bytes lines)) _ _ _ _ known (option_map string_bytes made.result.more) made.result.answer explaining (Prices plan) (price_wished plan)
+          (rw w.in-Ok-Price.field-0-is at w.in-Ok-Price.ensures) (gives_known (λ lines. plain (string_bytes lines)) known made.result.answer (price_of_input plan) made.ensures.answer)
+          c.explains-explains.ensures made.ensures.more (none_added _ string_bytes (λ lines. plain (string_bytes lines)) known made.result.more made.result.answer made.ensures.nothing)
+          (rw (w.ending-is, ending.ensures.answer, ending.ensures.more) at printed)
+      | in-Ok-Replay w ↦
+          let made = w.replay_input in
+          let ending = w.text_ending-ending-in-Ok-Replay in
+          let account = w.in-Ok-Replay.account in
+          wished (λ lines. plain (string_bytes lines)) _ _ _ _ known (option_map string_bytes made.result.more) made.result.answer explaining (Replays account.opening account.limit)
+          (replay_wished account.opening account.limit) (rw w.in-Ok-Replay.field-0-is at w.in-Ok-Replay.ensures)
+          (gives_known (λ lines. plain (string_bytes lines)) known made.result.answer (replay_of_input account.opening account.limit) made.ensures.answer)
+          c.explains-explains.ensures made.ensures.more (none_added _ string_bytes (λ lines. plain (string_bytes lines)) known made.result.more made.result.answer made.ensures.nothing)
+          (rw (w.ending-is, ending.ensures.answer, ending.ensures.more) at printed)
+      | in-Ok-Audit w ↦
+          let made = w.audit_input in
+          let ending = w.audit_ending-ending in
+          let ask = w.in-Ok-Audit.ask in
+          wished (λ audit. printout_of_audit (audited_by audit)) _ _ _ _ known (option_map string_bytes made.result.more) made.result.answer explaining (Audits ask) (audit_of ask)
+          (rw w.in-Ok-Audit.field-0-is at w.in-Ok-Audit.ensures) made.ensures.answer c.explains-explains.ensures made.ensures.more
+          (none_added _ string_bytes (λ audit. printout_of_audit (audited_by audit)) known made.result.more made.result.answer made.ensures.nothing)
+          (rw (w.ending-is, ending.ensures.answer, ending.ensures.more) at printed)
+      | in-Ok-Quote w ↦
+          let made = w.quote_input in
+          let ending = w.text_ending-ending-in-Ok-Quote in
+          let wish = quote_wish_of w.in-Ok-Quote.ask in
+          wished (λ lines. plain (string_bytes lines)) _ _ _ _ known (option_map string_bytes made.result.more) made.result.answer explaining (Quotes wish) (quote_of wish)
+          (rw w.in-Ok-Quote.field-0-is at w.in-Ok-Quote.ensures) made.ensures.answer c.explains-explains.ensures made.ensures.more
+          (none_added _ string_bytes (λ lines. plain (string_bytes lines)) known made.result.more made.result.answer made.ensures.nothing)
+          (rw (w.ending-is, ending.ensures.answer, ending.ensures.more) at printed)
+      | in-Ok-Run w ↦
+          let ending = w.run_input-ending in
+          let wish : Wish = Runs (ask_of w.in-Ok-Run.options) in
+          let asked : AsksFor _ wish = rw w.in-Ok-Run.field-0-is at w.in-Ok-Run.ensures in
+          wished printout_of _ _ _ _ known (option_map string_bytes ending.result.more) ending.result.answer explaining wish (run_of (ask_of w.in-Ok-Run.options)) asked
+          ending.ensures.answer c.explains-explains.ensures ending.ensures.more
+          (run_added _ string_bytes printout_of known ending.result.more ending.result.answer wish asked refl ending.ensures.behind) (rw w.ending-is at printed)
+      | in-Ok-RunInto w ↦
+          let ending = w.run_input_into-ending in
+          let folder = w.in-Ok-RunInto.folder.now in
+          let wish : Wish = RunsInto (ask_of w.in-Ok-RunInto.options) folder in
+          let asked : AsksFor _ wish = rw w.in-Ok-RunInto.field-0-is at w.in-Ok-RunInto.ensures in
+          wished printout_of _ _ _ _ known (option_map string_bytes ending.result.more) ending.result.answer explaining wish (filed_of (ask_of w.in-Ok-RunInto.options) folder) asked
+          ending.ensures.answer c.explains-explains.ensures ending.ensures.more
+          (run_added _ string_bytes printout_of known ending.result.more ending.result.answer wish asked refl ending.ensures.behind) (rw w.ending-is at printed)
+      | in-Err w ↦
+          let ending = w.of_words-ending in
+          refused_words_printed string_bytes printout_of _ _ _ _ known ending.result.more ending.result.answer explaining w.in-Err.why
+          w.in-Err.ensures ending.ensures.answer c.explains-explains.ensures ending.ensures.only ending.ensures.words (rw w.ending-is at printed)
+    ])
 
 pub returns-in-Ok-Rate-clause-answers : goal.returns-in-Ok-Rate-clause-answers
 returns-in-Ok-Rate-clause-answers g c = inr (inl (record {

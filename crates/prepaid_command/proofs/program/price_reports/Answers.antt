@@ -1,5 +1,0 @@
-use Rattle.prepaid_command.proofs.ReportLemmas.{in_order}
-use Rattle.prepaid_command.proofs.program.price_reports.Goals as goal
-
-pub print_reports-requires : goal.print_reports-requires
-print_reports-requires g c = rw c.deref.ensures.value (in_order _ _ _ c.in-Ok.ensures)

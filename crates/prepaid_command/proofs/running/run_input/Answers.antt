@@ -1,0 +1,18 @@
+use Rattle.std.proofs.Common.{Global, true, ℕ, string_bytes}
+use Rattle.std.specs.Prelude.{Vec}
+use Rattle.table_commands.proofs.SaidLemmas.{said_of_kept}
+use Rattle.prepaid_command.proofs.RunLemmas.{behind_kept}
+use Rattle.prepaid_command.specs.Printouts.{printout_of}
+use Rattle.prepaid_command.proofs.running.run_input.Goals as goal
+
+pub returns-clause-more : goal.returns-clause-more
+returns-clause-more g c =
+    rw c.run_ending.ensures.answer
+    (said_of_kept c.args.explains true (λ (bytes : Vec ℕ Global). bytes.items) string_bytes (g.I.Read.remaining c.args.input) c.run_script-answer.new.kept c.run_ending.result.more
+    c.run_script-answer.result c.run_ending.ensures.only c.run_script-answer.ensures.kept c.run_ending.ensures.none c.run_ending.ensures.said)
+
+pub returns-clause-behind : goal.returns-clause-behind
+returns-clause-behind g c =
+    rw c.run_ending.ensures.answer
+    (behind_kept (λ (bytes : Vec ℕ Global). bytes.items) string_bytes printout_of (g.I.Read.remaining c.args.input) c.run_script-answer.new.kept c.run_ending.result.more
+    c.run_script-answer.result c.run_script-answer.ensures.kept c.run_ending.ensures.unread c.run_ending.ensures.behind)

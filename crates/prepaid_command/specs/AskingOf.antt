@@ -1,8 +1,0 @@
--- What an ask of the code says.
-use Rattle.account_core.specs.Events.{asked_of}
-use Rattle.prepaid_command.specs.Asks.{SeatAsk}
-use Rattle.prepaid_command.specs.declared.replaying.Ask.{Ask}
-
--- the seat and what it asks
-abbrev pub asking_of : Ask → SeatAsk
-asking_of ask = record { seat = ask.seat; asked = asked_of ask.op }

@@ -1,0 +1,64 @@
+-- An input of which one byte more than the most was asked for.
+use Rattle.std.proofs.Common.{◌≡◌, ℕ, Bool, true, false, ◌<◌, ◌≤◌, List, [], ◌++◌, length, min, take, Option, Some, None, ap, ◌∙◌, arith, length-take}
+use Rattle.std.specs.Prelude.{IfSome, Result, Ok, Err, option_map, if◌then◌else◌}
+use Rattle.std.specs.declared.io.ErrorKind.{ErrorKind}
+use Rattle.std.proofs.lemmas.Bool.Decides.{nat_tests}
+use Rattle.std.proofs.lemmas.List.{take_all}
+use Rattle.runs_core.specs.declared.run_fault.RunFault.TheVariants as run
+use Rattle.table_commands.specs.Faults.{FaultMayAlwaysCome, RefusesCommand}
+use Rattle.table_commands.specs.Input.{failed_input, is_out_of_memory, sized}
+use Rattle.table_commands.specs.declared.fault.Fault.{Fault}
+use Rattle.table_commands.specs.declared.fault.Fault.TheVariants as fault
+
+-- what was read of an input that is known: all of it up to the limit
+pub too_long : (known : Option (List ℕ)) (bytes : List ℕ) → IfSome (option_map (take 16777217) known) (λ text. bytes ≡ [] ++ text)
+    → 16777216 < length bytes → IfSome known (λ text. sized text ≡ Err fault.TooLong)
+too_long None bytes read long = tt
+too_long (Some text) bytes read long =
+    let count : length bytes ≡ min 16777217 (length text) = ap length read ∙ length-take 16777217 text in
+    let more : 16777216 < length text = omega arith in
+    grind (arith, nat_tests)
+
+pub fits : (known : Option (List ℕ)) (bytes : List ℕ) → IfSome (option_map (take 16777217) known) (λ text. bytes ≡ [] ++ text)
+    → length bytes ≤ 16777216 → IfSome known (λ text. sized text ≡ Ok bytes)
+fits None bytes read short = tt
+fits (Some text) bytes read short =
+    let count : length bytes ≡ min 16777217 (length text) = ap length read ∙ length-take 16777217 text in
+    let within : length text ≤ 16777216 = omega arith in
+    let all : bytes ≡ text = read ∙ take_all 16777217 text (omega arith) in
+    rw all (grind (arith, nat_tests))
+
+-- what was read then is the input
+pub same_bytes : (known : Option (List ℕ)) (bytes : List ℕ) → IfSome (option_map (take 16777217) known) (λ text. bytes ≡ [] ++ text)
+    → length bytes ≤ 16777216 → IfSome known (λ text. bytes ≡ text)
+same_bytes None bytes read short = tt
+same_bytes (Some text) bytes read short =
+    let count : length bytes ≡ min 16777217 (length text) = ap length read ∙ length-take 16777217 text in
+    read ∙ take_all 16777217 text (omega arith)
+
+-- a fault that may always come may come at any meaning
+pub run_fault : {Y : Type 0} (why : Fault) (meaning : Result Y Fault) → FaultMayAlwaysCome why → RefusesCommand why meaning
+run_fault fault.Arguments meaning is = absurd is
+run_fault fault.Config meaning is = absurd is
+run_fault fault.TooLong meaning is = absurd is
+run_fault fault.Parts meaning is = absurd is
+run_fault (fault.Tariff row) meaning is = absurd is
+run_fault (fault.Table part row) meaning is = absurd is
+run_fault (fault.Log why) meaning is = absurd is
+run_fault (fault.LogRow row kind) meaning is = absurd is
+run_fault fault.Into meaning is = absurd is
+run_fault fault.Device meaning is = tt
+run_fault (fault.Run run.OutOfMemory) meaning is = tt
+run_fault (fault.Run run.Workers) meaning is = absurd is
+run_fault (fault.Run run.GateClosed) meaning is = absurd is
+run_fault (fault.Run run.Mismatch) meaning is = absurd is
+run_fault (fault.Run run.Channel) meaning is = absurd is
+run_fault (fault.Run run.Thread) meaning is = absurd is
+
+either_may_come : (is : Bool) → FaultMayAlwaysCome (if is then fault.Run run.OutOfMemory else fault.Device)
+either_may_come true = tt
+either_may_come false = tt
+
+-- what says that an input failed may come at any input
+pub failed_may_come : (why : ErrorKind) (ending : Fault) → ending ≡ failed_input why → FaultMayAlwaysCome ending
+failed_may_come why ending is = rw is (either_may_come (is_out_of_memory why))

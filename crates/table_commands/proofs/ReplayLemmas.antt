@@ -1,0 +1,117 @@
+-- The lines so far are those of the asks so far.
+use Rattle.std.proofs.Common.{◌≡◌, ◌<◌, ℕ, zero, suc, length, arith, None, Option, List, [], ◌∷◌, ◌++◌, Result, Ok, Err, refl, sym, ap, ◌∙◌, append_assoc, append-nil, inl, inr, reverse}
+use Rattle.std.specs.Prelude.{◌≢◌, IfErr, IfOk, OnErr, OnOk}
+use Rattle.std.proofs.lemmas.List.{reverse-append}
+use Rattle.account_core.specs.Asked.{Asked}
+use Rattle.account_core.specs.Events.{EntryData}
+use Rattle.account_core.specs.Ledger.{IsRefusal, Ledger, answer_of, event_by, refusal_of}
+use Rattle.account_core.specs.Tellers.{IsTellerOf, entered}
+use Rattle.account_core.specs.declared.account.Teller.{Teller}
+use Rattle.account_core.specs.declared.entry.Reply.{Reply}
+use Rattle.account_core.specs.declared.fault.AccountFault.{AccountFault}
+use Rattle.account_core.specs.declared.fault.AccountFault.TheVariants as fault
+use Rattle.entry_rows.specs.Columns.{HasOperation}
+use Rattle.entry_rows.specs.Versions.{version_at}
+use Rattle.table_core.specs.Rows.{Fields}
+use Rattle.table_core.specs.Tables.{width_at}
+use Rattle.table_commands.specs.Asks.{SeatAsk, asks_headers}
+use Rattle.table_commands.specs.ReplayLines.{response_line}
+use Rattle.table_commands.specs.Replays.{history_after, line_of_ask, replay_lines}
+
+-- a row that is as wide as its header has the columns of the header's version
+pub has_operation : (header : ℕ) (fields : Fields) → header < length asks_headers → length fields ≡ width_at asks_headers header
+    → HasOperation (version_at header) fields 1
+has_operation zero fields one wide = (omega (arith, wide), λ later. absurd (later refl), λ later. absurd (later refl), λ four. cc)
+has_operation (suc zero) fields one wide = (omega (arith, wide), λ two. omega (arith, wide), λ later other. absurd (other refl), λ four. cc)
+has_operation (suc (suc zero)) fields one wide = (omega (arith, wide), λ two. omega (arith, wide), λ later other. omega (arith, wide), λ four. cc)
+has_operation (suc (suc (suc zero))) fields one wide =
+    (omega (arith, wide), λ two. omega (arith, wide), λ later other. omega (arith, wide), λ four. omega (arith, wide))
+has_operation (suc (suc (suc (suc header)))) fields one wide = absurd (omega (arith, one))
+
+-- ---- one more ask
+
+-- the history after some asks, newest first
+unfoldable pub history_of : ℕ → Option ℕ → ℕ → List EntryData → List SeatAsk → List EntryData
+history_of opening until limit h [] = h
+history_of opening until limit h (ask ∷ asks) = history_of opening until limit (history_after opening until limit h ask) asks
+
+pub history_more : (opening : ℕ) (until : Option ℕ) (limit : ℕ) (h : List EntryData) (asks : List SeatAsk) (ask : SeatAsk)
+    → history_of opening until limit h (asks ++ ask ∷ []) ≡ history_after opening until limit (history_of opening until limit h asks) ask
+unfolding history_of
+history_more opening until limit h [] ask = refl
+history_more opening until limit h (first ∷ asks) ask = history_more opening until limit (history_after opening until limit h first) asks ask
+
+pub lines_more : (opening : ℕ) (until : Option ℕ) (limit : ℕ) (h : List EntryData) (asks : List SeatAsk) (ask : SeatAsk)
+    → replay_lines opening until limit h (asks ++ ask ∷ []) ≡ replay_lines opening until limit h asks ++ line_of_ask opening until limit (history_of opening until limit h asks) ask
+unfolding history_of replay_lines
+lines_more opening until limit h [] ask = append-nil (line_of_ask opening until limit h ask)
+lines_more opening until limit h (first ∷ asks) ask =
+    rw (lines_more opening until limit (history_after opening until limit h first) asks ask) (sym (append_assoc (line_of_ask opening until limit h first) _ _))
+
+-- what was replayed so far: these asks, whose lines were printed, and whose history the ledger has
+pub record IsReplayed (opening : ℕ) (until : Option ℕ) (limit : ℕ) (text : List ℕ) (ledger : Ledger) (asks : List SeatAsk) : Type 0 where
+  pub opened : ledger.opening ≡ opening
+  pub lasting : ledger.until ≡ until
+  pub limited : ledger.limit ≡ limit
+  pub lines : replay_lines opening until limit [] asks ≡ text
+  pub history : history_of opening until limit [] asks ≡ reverse ledger.history
+
+pub none_replayed : (opening : ℕ) (until : Option ℕ) (limit : ℕ)
+    → IsReplayed opening until limit [] (record { opening = opening; until = until; limit = limit; history = [] }) []
+unfolding history_of replay_lines
+none_replayed opening until limit = record { opened = refl; lasting = refl; limited = refl; lines = refl; history = refl }
+
+-- ---- one operation
+
+-- what the answer to an ask does to the lines and to the history
+pub record IsStep (old new : Ledger) (ask : SeatAsk) (response : Result Reply AccountFault) : Type 0 where
+  pub line : response_line response ≡ line_of_ask old.opening old.until old.limit (reverse old.history) ask
+  pub history : reverse new.history ≡ history_after old.opening old.until old.limit (reverse old.history) ask
+  pub opening : new.opening ≡ old.opening
+  pub until : new.until ≡ old.until
+  pub limit : new.limit ≡ old.limit
+
+-- the ledger after an answer
+abbrev pub ledger_after : Ledger → ℕ → Asked → Result Reply AccountFault → Ledger
+ledger_after ledger seat asked (Ok reply) = entered ledger (event_by seat asked reply)
+ledger_after ledger seat asked (Err why) = ledger
+
+refused_step : (ledger : Ledger) (seat : ℕ) (asked : Asked) (why : AccountFault) → IsRefusal ledger asked why → why ≢ fault.OutOfMemory
+    → IsStep ledger ledger (record { seat = seat; asked = asked }) (Err why)
+refused_step ledger seat asked why (inl refused) memory = record { line = rw refused refl; history = rw refused refl; opening = refl; until = refl; limit = refl }
+refused_step ledger seat asked why (inr refused) memory = absurd (memory refused.1)
+
+module _ (old new : Teller) (ledger : Ledger) (is : IsTellerOf ledger old) (seat : ℕ) (asked : Asked) where
+  pub step : (response : Result Reply AccountFault)
+      → IfOk response (λ reply. (l : Ledger) → IsTellerOf l old → reply ≡ answer_of l asked)
+      → OnOk response ((l : Ledger) → IsTellerOf l old → refusal_of l asked ≡ None)
+      → IfErr response (λ why. (l : Ledger) → IsTellerOf l old → IsRefusal l asked why)
+      → response ≢ Err fault.OutOfMemory → IsStep ledger (ledger_after ledger seat asked response) (record { seat = seat; asked = asked }) response
+  step (Ok reply) answered admitted refused memory =
+      let none : refusal_of ledger asked ≡ None = admitted ledger is in
+      let right : reply ≡ answer_of ledger asked = answered ledger is in
+      record {
+        line = rw (none, right) refl;
+        history = rw (none, ← right) (reverse-append ledger.history (event_by seat asked reply ∷ []));
+        opening = refl;
+        until = refl;
+        limit = refl;
+      }
+  step (Err why) answered admitted refused memory = refused_step ledger seat asked why (refused ledger is) (λ same. memory (ap Err same))
+
+  pub teller_after : (response : Result Reply AccountFault)
+      → IfOk response (λ reply. (l : Ledger) → IsTellerOf l old → IsTellerOf (entered l (event_by seat asked reply)) new)
+      → OnErr response ((l : Ledger) → IsTellerOf l old → IsTellerOf l new)
+      → IsTellerOf (ledger_after ledger seat asked response) new
+  teller_after (Ok reply) entered kept = entered ledger is
+  teller_after (Err why) entered kept = kept ledger is
+
+pub one_replayed : (opening : ℕ) (until : Option ℕ) (limit : ℕ) (text : List ℕ) (old new : Ledger) (asks : List SeatAsk) (ask : SeatAsk) (response : Result Reply AccountFault)
+    → IsReplayed opening until limit text old asks → IsStep old new ask response → IsReplayed opening until limit (text ++ response_line response) new (asks ++ ask ∷ [])
+one_replayed opening until limit text old new asks ask response was step = record {
+  opened = step.opening ∙ was.opened;
+  lasting = step.until ∙ was.lasting;
+  limited = step.limit ∙ was.limited;
+  lines = lines_more opening until limit [] asks ask ∙ rw (was.lines, was.history, step.line, was.opened, was.lasting, was.limited) refl;
+  history = history_more opening until limit [] asks ask ∙ rw (was.history, step.history, was.opened, was.lasting, was.limited) refl;
+}

@@ -1,0 +1,8 @@
+-- What an ask of the code says.
+use Rattle.account_core.specs.Events.{asked_of}
+use Rattle.table_commands.specs.Asks.{SeatAsk}
+use Rattle.table_commands.specs.declared.replaying.Ask.{Ask}
+
+-- the seat and what it asks
+abbrev pub asking_of : Ask → SeatAsk
+asking_of ask = record { seat = ask.seat; asked = asked_of ask.op }

@@ -1,0 +1,46 @@
+-- What `rate` prints of records as they come, and how that ends.
+use Rattle.std.specs.Prelude.{◌≡◌, ◌⊎◌, ◌++◌, ℕ, Bool, List, Option, Some, Err, codes}
+use Rattle.std.specs.Io.KnownBytes.{Keeps}
+use Rattle.rating.specs.Asks.{RateWish}
+use Rattle.rating.specs.Ends.{IsInPart, IsRatedWhole as IsRatedWhole}
+use Rattle.rating.specs.Fronts.{AppendsFront}
+use Rattle.rating.specs.Texts.{rate_input_of}
+use Rattle.rating.specs.declared.fault.RateFault.{RateFault}
+use Rattle.rating.specs.declared.tally.Tally.{Tally}
+use Rattle.runs_core.specs.declared.run_fault.RunFault.TheVariants as run
+use Rattle.table_commands.specs.Faults.{line_of_fault, of_rate}
+use Rattle.table_commands.specs.Outputs.{IsSaidOfOutput}
+use Rattle.table_commands.specs.Summaries.{status_of_rating, summary_of}
+use Rattle.table_commands.specs.Writers.{IsReported, Written}
+use Rattle.table_commands.specs.declared.fault.Fault.{Fault}
+use Rattle.table_commands.specs.declared.fault.Fault.TheVariants as fault
+
+-- the line of a failed input or of memory that ran out, or what is said of an output that failed
+abbrev pub IsOfFailure : Bool → Option (List ℕ) → Option (List ℕ) → Type 0
+IsOfFailure explaining old new = IsSaidOfOutput explaining old new ⊎ AppendsFront old new (line_of_fault fault.Device ++ codes "\n") ⊎ AppendsFront old new (line_of_fault (fault.Run run.OutOfMemory) ++ codes "\n")
+
+-- all rows were rated and printed: the status says whether all are right, and the summary went to the error writer where it was asked for, or a front of it
+pub record IsRatedInput (wish : RateWish) (text : List ℕ) (status : ℕ) (old new : Written) : Type 0 where
+  pub tally : Tally
+  pub printed : IsRatedWhole wish.differing (rate_input_of wish.names text) tally old.output new.output
+  pub status_is : status ≡ status_of_rating tally
+  pub line : AppendsFront old.faults new.faults (summary_of wish tally)
+
+-- the tariff or the header has a fault, which is reported, and the output stays as it was
+pub record IsRatingRefused (wish : RateWish) (text : List ℕ) (status : ℕ) (old new : Written) : Type 0 where
+  pub why : RateFault
+  pub refused : rate_input_of wish.names text ≡ Err why
+  pub fault : Fault
+  pub fault_is : of_rate why ≡ Some fault
+  pub reported : IsReported fault status old new
+
+-- the input, memory or the output failed, at status 2: a front of the text was printed, or nothing, and of a line about it a front, or nothing
+pub record IsBroken (explaining : Bool) (wish : RateWish) (text : List ℕ) (status : ℕ) (old new : Written) : Type 0 where
+  pub status_is : status ≡ 2
+  pub front : Keeps old.output new.output ⊎ IsInPart wish.differing (rate_input_of wish.names text) old.output new.output
+  pub line : IsOfFailure explaining old.faults new.faults
+
+-- how records that are rated as they come were printed: whole, refused, or broken off
+abbrev pub IsRatedByWish : Bool → RateWish → List ℕ → ℕ → Written → Written → Type 0
+IsRatedByWish explaining wish text status old new =
+    IsRatedInput wish text status old new ⊎ IsRatingRefused wish text status old new ⊎ IsBroken explaining wish text status old new

@@ -1,0 +1,215 @@
+//! The commands that print once their input is read: `price`, `replay`, `audit` and `quote`.
+
+ghost use Rattle.std.specs.Prelude.{◌≡◌, false, None, IfOk, IfSome, option_map, string_bytes};
+ghost use Rattle.std.specs.Result.{result_map_both};
+ghost use Rattle.book_texts.specs.Checks.{audited_by};
+ghost use Rattle.command_words.specs.QuoteWishes.{quote_wish_of};
+ghost use Rattle.table_commands.specs.Answers.{IsAuditOfInput, IsAuditOfTable, IsQuoteOfInput, price_of_input, printout_of_audit, replay_of_input};
+ghost use Rattle.table_commands.specs.Explanations.{IsSaidOfAnswer};
+ghost use Rattle.table_commands.specs.Faults.{GivesAnswer, GivesOne};
+ghost use Rattle.table_commands.specs.Printouts.{plain};
+ghost use Rattle.tariff_core.specs.RatesOf.{rates_of};
+
+use crate::ending::Ending;
+use crate::fault::{Fault, Part};
+use crate::input::read_input;
+use crate::price_lines::print_reports;
+use crate::quoting::print_quote;
+use crate::replaying::replay;
+use crate::reports::read_reports;
+use book_texts::{Audit, AuditAsk, BookSize, audit_books};
+use command_words::{Opening, QuoteAsk};
+use run_texts::read_tariff;
+use std::alloc::Global;
+use std::io::Read;
+use tariff_core::Plan;
+
+/// The lines of `price` for the reports in the input, or their first fault, and what is said of it
+/// where that is asked for.
+pub fn price_input<I: Read + Drop>(
+    alloc: Global,
+    explains: bool,
+    plan: &Plan,
+    input: I,
+) -> Ending<String>
+    ensures answer { IfSome (I.remaining input) (λ text.
+        GivesAnswer (λ lines. plain (string_bytes lines)) result.answer
+        (price_of_input (rates_of plan.now) text)) }
+    ensures more { IsSaidOfAnswer explains false (I.remaining input) result.answer
+        (option_map string_bytes result.more) }
+    ensures nothing { IfOk result.answer (λ _. result.more ≡ None) }
+{
+    let mut kept = None;
+    let answer = price_reports(alloc, plan, input, &mut kept);
+    Ending::over(alloc, explains, false, &kept, answer)
+}
+
+/// The lines of `replay` for the operations in the input, or their first fault, and what is said of
+/// it where that is asked for.
+pub fn replay_input<I: Read + Drop>(
+    alloc: Global,
+    explains: bool,
+    account: Opening,
+    input: I,
+) -> Ending<String>
+    ensures answer { IfSome (I.remaining input) (λ text.
+        GivesAnswer (λ lines. plain (string_bytes lines)) result.answer
+        (replay_of_input account.opening account.limit text)) }
+    ensures more { IsSaidOfAnswer explains false (I.remaining input) result.answer
+        (option_map string_bytes result.more) }
+    ensures nothing { IfOk result.answer (λ _. result.more ≡ None) }
+{
+    let mut kept = None;
+    let answer = replay_operations(alloc, account, input, &mut kept);
+    Ending::over(alloc, explains, false, &kept, answer)
+}
+
+/// The audit of the books in the input, or their first fault, and what is said of it where that is
+/// asked for. A long table is read row by row and never kept, and nothing is said of its fault.
+pub fn audit_input<I: Read + Drop>(
+    alloc: Global,
+    explains: bool,
+    ask: AuditAsk,
+    input: I,
+) -> Ending<Audit>
+    ensures answer { IfSome (I.remaining input) (λ text. GivesOne (IsAuditOfInput ask text)
+        (result_map_both (λ audit. printout_of_audit (audited_by audit)) (λ fault. fault)
+        result.answer)) }
+    ensures more { IsSaidOfAnswer explains false (I.remaining input) result.answer
+        (option_map string_bytes result.more) }
+    ensures nothing { IfOk result.answer (λ _. result.more ≡ None) }
+{
+    let mut kept = None;
+    let answer = audit_book(alloc, ask, input, &mut kept);
+    Ending::over(alloc, explains, false, &kept, answer)
+}
+
+/// The lines of `quote` for the tariff in the input, or its first fault, and what is said of it
+/// where that is asked for.
+pub fn quote_input<I: Read + Drop>(
+    alloc: Global,
+    explains: bool,
+    ask: &QuoteAsk,
+    input: I,
+) -> Ending<String>
+    ensures answer { IfSome (I.remaining input) (λ text. GivesOne
+        (IsQuoteOfInput (quote_wish_of ask.now) text)
+        (result_map_both (λ lines. plain (string_bytes lines)) (λ fault. fault) result.answer)) }
+    ensures more { IsSaidOfAnswer explains false (I.remaining input) result.answer
+        (option_map string_bytes result.more) }
+    ensures nothing { IfOk result.answer (λ _. result.more ≡ None) }
+{
+    let mut kept = None;
+    let answer = quote_tariff(alloc, ask, input, &mut kept);
+    Ending::over(alloc, explains, false, &kept, answer)
+}
+
+/// The lines of `price`. The input is kept where it has a fault.
+fn price_reports<I: Read + Drop>(
+    alloc: Global,
+    plan: &Plan,
+    input: I,
+    kept: &mut Option<Vec<u8>>,
+) -> Result<String, Fault>
+    requires { kept.old ≡ None }
+    ensures answer { IfSome (I.remaining input) (λ text.
+        GivesAnswer (λ lines. plain (string_bytes lines)) result
+        (price_of_input (rates_of plan.now) text)) }
+    ensures kept { IfSome (I.remaining input) (λ text.
+        IfSome kept.new (λ bytes. bytes.items ≡ text)) }
+{
+    let bytes = read_input(alloc, input)?;
+    match read_reports(alloc, plan, bytes.as_slice()) {
+        Ok(reports) => Ok(print_reports(alloc, plan, &reports)?),
+        Err(fault) => {
+            *kept = Some(bytes);
+            Err(Fault::in_part(Part::Reports, fault))
+        }
+    }
+}
+
+/// The lines of `replay`. The input is kept where it has a fault.
+fn replay_operations<I: Read + Drop>(
+    alloc: Global,
+    account: Opening,
+    input: I,
+    kept: &mut Option<Vec<u8>>,
+) -> Result<String, Fault>
+    requires { kept.old ≡ None }
+    ensures kept { IfSome (I.remaining input) (λ text.
+        IfSome kept.new (λ bytes. bytes.items ≡ text)) }
+    ensures answer { IfSome (I.remaining input) (λ text.
+        GivesAnswer (λ lines. plain (string_bytes lines)) result
+        (replay_of_input account.opening account.limit text)) }
+{
+    let bytes = read_input(alloc, input)?;
+    match replay(alloc, account.opening, account.limit, bytes.as_slice()) {
+        Ok(text) => Ok(text),
+        Err(fault) => {
+            *kept = Some(bytes);
+            Err(Fault::in_part(Part::Ops, fault))
+        }
+    }
+}
+
+/// The audit of the books in the input, which is kept where it may not be long.
+fn audit_book<I: Read + Drop>(
+    alloc: Global,
+    ask: AuditAsk,
+    input: I,
+    kept: &mut Option<Vec<u8>>,
+) -> Result<Audit, Fault>
+    requires { kept.old ≡ None }
+    ensures kept { IfSome (I.remaining input) (λ text.
+        IfSome kept.new (λ bytes. bytes.items ≡ text)) }
+    ensures answer { IfSome (I.remaining input) (λ text. GivesOne (IsAuditOfInput ask text)
+        (result_map_both (λ audit. printout_of_audit (audited_by audit)) (λ fault. fault)
+        result)) }
+{
+    match ask.size {
+        BookSize::Short => {
+            let bytes = read_input(alloc, input)?;
+            let audit = audit_table(alloc, ask, bytes.as_slice());
+            *kept = Some(bytes);
+            audit
+        }
+        BookSize::Long => audit_table(alloc, ask, input),
+    }
+}
+
+/// The audit of a table of books.
+fn audit_table<I: Read + Drop>(alloc: Global, ask: AuditAsk, table: I) -> Result<Audit, Fault>
+    ensures { IfSome (I.remaining table) (λ text. GivesOne (IsAuditOfTable ask text)
+        (result_map_both (λ audit. printout_of_audit (audited_by audit)) (λ fault. fault)
+        result)) }
+{
+    match audit_books(alloc, table, ask) {
+        Ok(audit) => Ok(audit),
+        Err(fault) => Err(Fault::in_part(Part::Book, fault)),
+    }
+}
+
+/// The lines of `quote`. The input is kept where it has a fault.
+fn quote_tariff<I: Read + Drop>(
+    alloc: Global,
+    ask: &QuoteAsk,
+    input: I,
+    kept: &mut Option<Vec<u8>>,
+) -> Result<String, Fault>
+    requires { kept.old ≡ None }
+    ensures kept { IfSome (I.remaining input) (λ text.
+        IfSome kept.new (λ bytes. bytes.items ≡ text)) }
+    ensures answer { IfSome (I.remaining input) (λ text. GivesOne
+        (IsQuoteOfInput (quote_wish_of ask.now) text)
+        (result_map_both (λ lines. plain (string_bytes lines)) (λ fault. fault) result)) }
+{
+    let bytes = read_input(alloc, input)?;
+    let tariff = match read_tariff(alloc, bytes.as_slice()) {
+        Ok(tariff) => tariff,
+        Err(fault) => {
+            *kept = Some(bytes);
+            return Err(Fault::of_run_input(fault));
+        }
+    };
+    Ok(print_quote(alloc, &tariff, ask)?)
+}

@@ -1,0 +1,151 @@
+//! An answer, or a fault and what is said of it.
+
+ghost use Rattle.std.specs.Prelude.{◌≡◌, false, Err, None, IfErr, IfNone, IfOk, IfSome, string_bytes};
+ghost use Rattle.table_commands.specs.Explanations.{IsOfWords, IsSaidOfFault, slip_of};
+ghost use Rattle.table_commands.specs.Faults.{of_words};
+
+use crate::fault::{Fault, Part};
+use crate::input::MAX_INPUT;
+use command_words::{WordsFault, explain_words};
+use explanations::{Slip, explain, explain_dividers};
+use std::alloc::{AllocError, Global};
+use std::convert::AsStr;
+
+/// How a command ends: an answer, or a fault, and what is said behind that.
+#[derive(Drop)]
+pub struct Ending<A> {
+    /// The answer, or the fault.
+    pub answer: Result<A, Fault>,
+    /// What is said of the fault, or behind the answer.
+    pub more: Option<String>,
+}
+
+impl<A: Drop> Ending<A> {
+    /// An answer, or a fault of which nothing is said.
+    pub fn plain(answer: Result<A, Fault>) -> Ending<A>
+        ensures answer { result.answer ≡ answer }
+        ensures more { result.more ≡ None }
+    {
+        Ending { answer, more: None }
+    }
+
+    /// An answer, or a fault of which is said what the input shows, if it was kept, and how long it
+    /// may be, where that is asked for. Where memory runs out for that, nothing is said.
+    pub fn over(
+        alloc: Global,
+        explains: bool,
+        in_parts: bool,
+        input: &Option<Vec<u8>>,
+        answer: Result<A, Fault>,
+    ) -> Ending<A>
+        ensures answer { result.answer ≡ answer }
+        ensures only { explains ≡ false → result.more ≡ None }
+        ensures plain { IfOk answer (λ _. result.more ≡ None) }
+        ensures none { IfNone input.now (IfErr answer (λ why. IfSome result.more
+            (λ _. slip_of in_parts why ≡ None))) }
+        ensures said { IfSome input.now (λ bytes. IfErr answer (λ why. IfSome result.more
+            (λ more. IsSaidOfFault in_parts bytes.items why (string_bytes more)))) }
+    {
+        let more = match (&answer, input) {
+            (Err(fault), Some(bytes)) if explains => said_of(alloc, in_parts, bytes, *fault),
+            (Err(Fault::TooLong), None) if explains => said_of_length(alloc).ok(),
+            _ => None,
+        };
+        Ending { answer, more }
+    }
+
+    /// The fault of words, and what is said of them where that is asked for: what `clap` says, or
+    /// which time is out of its range.
+    pub fn of_words<S: AsStr>(
+        alloc: Global,
+        explains: bool,
+        words: &[S],
+        why: WordsFault,
+    ) -> Ending<A>
+        ensures answer { result.answer ≡ Err (of_words why) }
+        ensures only { explains ≡ false → result.more ≡ None }
+        ensures words { IfSome result.more (λ more. IsOfWords (of_words why)) }
+    {
+        let more = match why {
+            WordsFault::Arguments | WordsFault::Config if explains => {
+                said_of_words(alloc, words)
+            }
+            _ => None,
+        };
+        Ending {
+            answer: Err(Fault::from(why)),
+            more,
+        }
+    }
+}
+
+/// What is said of words, without empty lines; nothing where memory runs out.
+fn said_of_words<S: AsStr>(alloc: Global, words: &[S]) -> Option<String> {
+    match explain_words(alloc, words) {
+        Ok(said) => full_lines(alloc, said.as_str()).ok(),
+        Err(_) => None,
+    }
+}
+
+/// The lines of a text that aren't empty. Where nothing is said, another option has a value out of
+/// its range.
+fn full_lines(alloc: Global, said: &str) -> Result<String, AllocError> {
+    let mut text = String::new(alloc);
+    if said.is_empty() {
+        writeln!(
+            text,
+            "an option has a value that it doesn't take: see prepaid help COMMAND"
+        )?;
+    }
+    for line in said.split('\n') {
+        if !line.is_empty() {
+            writeln!(text, "{line}")?;
+        }
+    }
+    Ok(text)
+}
+
+/// How long an input may be.
+fn said_of_length(alloc: Global) -> Result<String, AllocError> {
+    let mut text = String::new(alloc);
+    writeln!(
+        text,
+        "at most {MAX_INPUT} bytes; docs/SCALING.md has larger loads"
+    )?;
+    Ok(text)
+}
+
+/// What is said of a fault over an input; nothing where memory runs out.
+fn said_of(alloc: Global, in_parts: bool, input: &Vec<u8>, fault: Fault) -> Option<String>
+    ensures { IfSome result (λ more.
+        IsSaidOfFault in_parts input.now.items fault (string_bytes more)) }
+{
+    match slip_of(in_parts, fault) {
+        Some(slip) => explain(alloc, input.as_slice(), slip).ok(),
+        None => dividers_of(alloc, input.as_slice(), fault),
+    }
+}
+
+/// What is said of the lines that divide an input, where these are wrong.
+fn dividers_of(alloc: Global, input: &[u8], fault: Fault) -> Option<String> {
+    match fault {
+        Fault::Parts => explain_dividers(alloc, input, 2).ok(),
+        _ => None,
+    }
+}
+
+/// The fault of a table in an input, which has three parts or is that table.
+fn slip_of(in_parts: bool, fault: Fault) -> Option<Slip>
+    ensures { result ≡ slip_of in_parts fault }
+{
+    match fault {
+        Fault::Tariff(fault) if in_parts => Some(Slip::RunTariff(fault)),
+        Fault::Tariff(fault) => Some(Slip::Tariff(fault)),
+        Fault::Table(Part::Reports, fault) => Some(Slip::Reports(fault)),
+        Fault::Table(Part::Ops, fault) => Some(Slip::Ops(fault)),
+        Fault::Table(Part::Book, fault) => Some(Slip::Book(fault)),
+        Fault::Table(Part::Setup, fault) => Some(Slip::Setup(fault)),
+        Fault::Table(Part::Script, fault) => Some(Slip::Script(fault)),
+        _ => None,
+    }
+}

@@ -1,0 +1,197 @@
+//! What a run of the program may have to refuse.
+
+ghost use Rattle.std.specs.Prelude.{◌≡◌, Some};
+ghost use Rattle.runs_core.specs.declared.run_fault.RunFault.TheVariants as run;
+ghost use Rattle.table_commands.specs.Faults.{line_of_fault, name_of_part, of_words};
+ghost use Rattle.table_commands.specs.declared.fault.Fault.TheVariants as out;
+
+use command_words::WordsFault;
+use live_answers::LineKind;
+use live_log::LogFault;
+use rating::RateFault;
+use run_texts::InputFault;
+use runs_core::RunFault;
+use std::alloc::{AllocError, AllocFailed};
+use std::{error, fmt};
+use table_core::{RowFault, RowKind, TableFault};
+use tariff_core::TariffFault;
+
+/// A part of the input that is a table.
+#[derive(Clone, Copy, Debug)]
+pub enum Part {
+    /// The reports of `price`.
+    Reports,
+    /// The operations of `replay`.
+    Ops,
+    /// The accounts and the subscribers of `run`.
+    Setup,
+    /// What happens in a `run`.
+    Script,
+    /// The books of `audit`.
+    Book,
+    /// The records of `rate`.
+    Records,
+    /// The messages of `serve`.
+    Messages,
+}
+
+impl fmt::Display for Part {
+    ghost output = { λ part. Some (name_of_part part) };
+
+    fn fmt<W: fmt::Write>(&self, f: &mut fmt::Formatter<W>) -> fmt::Result {
+        match self {
+            Part::Reports => f.write_str("reports"),
+            Part::Ops => f.write_str("ops"),
+            Part::Setup => f.write_str("setup"),
+            Part::Script => f.write_str("script"),
+            Part::Book => f.write_str("book"),
+            Part::Records => f.write_str("records"),
+            Part::Messages => f.write_str("messages"),
+        }
+    }
+}
+
+/// Why the program prints no answer.
+#[derive(Clone, Copy, Debug)]
+pub enum Fault {
+    /// The words ask for nothing that the program does.
+    Arguments,
+    /// A time that `run` or `serve` is asked for is out of its range.
+    Config,
+    /// The input has more than `MAX_INPUT` bytes; of `rate` and `serve`, a part in front of a
+    /// divider has more than `MAX_PART`.
+    TooLong,
+    /// The input of `run` doesn't have three parts, or that of `rate` or `serve` has too few
+    /// dividers.
+    Parts,
+    /// A row of the tariff has a fault.
+    Tariff(TariffFault),
+    /// A row of another table has a fault.
+    Table(Part, RowFault),
+    /// The log of `serve` can't be used.
+    Log(LogFault),
+    /// A line of the log of `serve` isn't accepted: its row, where the header in front of the lines
+    /// is row 1, and what is wrong with it.
+    LogRow(u64, LineKind),
+    /// The files of a run couldn't be written.
+    Into,
+    /// Standard input failed.
+    Device,
+    /// A run failed; also where memory ran out anywhere.
+    Run(RunFault),
+}
+
+impl Fault {
+    ghost use Rattle.table_commands.specs.Faults.{in_part, no_header, of_rate, of_run_input, status_of};
+
+    /// The exit status: 1 for a fault of the words or the input, 2 where the run itself, its log or
+    /// its files failed.
+    pub fn status(self) -> u8
+        ensures { result ≡ status_of self }
+    {
+        match self {
+            Fault::Log(_) | Fault::LogRow(_, _) | Fault::Into | Fault::Device | Fault::Run(_) => 2,
+            _ => 1,
+        }
+    }
+
+    /// The fault of the input of a run.
+    pub fn of_run_input(fault: InputFault) -> Fault
+        ensures { result ≡ of_run_input fault }
+    {
+        match fault {
+            InputFault::Parts => Fault::Parts,
+            InputFault::TooLong => Fault::TooLong,
+            InputFault::Tariff(fault) => Fault::Tariff(fault),
+            InputFault::Setup(fault) => Fault::Table(Part::Setup, fault),
+            InputFault::Script(fault) => Fault::Table(Part::Script, fault),
+            InputFault::Device => Fault::Device,
+            InputFault::OutOfMemory => Fault::Run(RunFault::OutOfMemory),
+        }
+    }
+
+    /// The fault of records that weren't rated to their end; none where the output failed.
+    pub fn of_rate(fault: RateFault) -> Option<Fault>
+        ensures { result ≡ of_rate fault }
+    {
+        match fault {
+            RateFault::Input(fault) => Some(Fault::of_run_input(fault)),
+            RateFault::Header => Some(Fault::no_header(Part::Records)),
+            RateFault::Output => None,
+        }
+    }
+
+    /// The fault of a table whose header isn't the one that it must have.
+    pub fn no_header(part: Part) -> Fault
+        ensures { result ≡ no_header part }
+    {
+        Fault::Table(
+            part,
+            RowFault {
+                row: 1,
+                kind: RowKind::Header,
+            },
+        )
+    }
+
+    /// The fault of a table that is this part of the input.
+    pub fn in_part(part: Part, fault: TableFault) -> Fault
+        ensures { result ≡ in_part part fault }
+    {
+        match fault {
+            TableFault::Row(fault) => Fault::Table(part, fault),
+            TableFault::Device => Fault::Device,
+            TableFault::OutOfMemory => Fault::Run(RunFault::OutOfMemory),
+        }
+    }
+}
+
+impl fmt::Display for Fault {
+    ghost output = { λ fault. Some (line_of_fault fault) };
+
+    fn fmt<W: fmt::Write>(&self, f: &mut fmt::Formatter<W>) -> fmt::Result {
+        match self {
+            Fault::Arguments => f.write_str("prepaid: arguments"),
+            Fault::Config => f.write_str("prepaid: input: Config"),
+            Fault::TooLong => f.write_str("prepaid: input: TooLong"),
+            Fault::Parts => f.write_str("prepaid: input: Parts"),
+            Fault::Tariff(fault) => write!(f, "prepaid: tariff {fault}"),
+            Fault::Table(part, fault) => write!(f, "prepaid: {part} {fault}"),
+            Fault::Log(fault) => write!(f, "prepaid: log: {fault}"),
+            Fault::LogRow(row, kind) => write!(f, "prepaid: log row {row}: {kind}"),
+            Fault::Into => f.write_str("prepaid: into: Device"),
+            Fault::Device => f.write_str("prepaid: run: Device"),
+            Fault::Run(fault) => write!(f, "prepaid: run: {fault}"),
+        }
+    }
+}
+
+impl error::Error for Fault {}
+
+impl From<WordsFault> for Fault {
+    ghost from_gives = { λ why fault. fault ≡ of_words why };
+
+    fn from(why: WordsFault) -> Fault {
+        match why {
+            WordsFault::Arguments => Fault::Arguments,
+            WordsFault::Config => Fault::Config,
+            WordsFault::OutOfMemory => Fault::Run(RunFault::OutOfMemory),
+        }
+    }
+}
+
+impl From<AllocError> for Fault {
+    ghost from_gives = { λ _ fault. fault ≡ out.Run run.OutOfMemory };
+
+    fn from(_error: AllocError) -> Fault {
+        Fault::Run(RunFault::OutOfMemory)
+    }
+}
+
+impl<T: Drop> From<AllocFailed<T>> for Fault {
+    ghost from_gives = { λ _ fault. fault ≡ out.Run run.OutOfMemory };
+
+    fn from(_error: AllocFailed<T>) -> Fault {
+        Fault::Run(RunFault::OutOfMemory)
+    }
+}

@@ -1,0 +1,111 @@
+//! The lines that `quote` prints.
+
+ghost use Rattle.std.specs.Prelude.{◌≡◌, ◌+◌, ◌++◌, ◌≤◌, ◌<◌, IfOk, IfSome, OnOk, string_bytes};
+ghost use Rattle.tariff_core.specs.RatesOf.{rates_of};
+ghost use Rattle.command_words.specs.QuoteWishes.{quote_wish_of};
+ghost use Rattle.table_commands.specs.Quotes.{IsQuoteText, afford_line, band_line, plan_text, prefix_text, price_line, quote_lines, steps_text, switch_line};
+
+use command_words::QuoteAsk;
+use moment_texts::{Clock, MomentField, TimeOfDay};
+use rating::{Charge, charge_call};
+use std::alloc::{AllocError, Global};
+use table_core::write_digits;
+use tariff_core::{DAY, HORIZON, MAX_MOMENT, Plan, Quote, Route, Tariff, Times, afford};
+
+/// What a call to a number costs at a moment: the band and the switch, and the price of a call and
+/// the units that a credit affords where they are asked for; `no route` where no prefix fits.
+pub(crate) fn print_quote(
+    alloc: Global,
+    tariff: &Tariff,
+    ask: &QuoteAsk,
+) -> Result<String, AllocError>
+    ensures { IfOk result (λ text.
+        IsQuoteText tariff.now (quote_wish_of ask.now) (string_bytes text)) }
+{
+    let mut text = String::new(alloc);
+    let Some(quote) = tariff.quote(ask.called.as_bytes(), ask.at) else {
+        writeln!(text, "no route")?;
+        return Ok(text);
+    };
+    write_quote(&mut text, ask, &quote)?;
+    Ok(text)
+}
+
+/// Adds the lines of a quote.
+fn write_quote(text: &mut String, ask: &QuoteAsk, quote: &Quote<'_>) -> Result<(), AllocError>
+    requires { IfSome quote.now.route.switch_at (λ at. (ask.now.at < at)
+        × (at ≤ ask.now.at + DAY)) }
+    ensures { OnOk result (string_bytes text.new ≡ string_bytes text.old
+        ++ quote_lines (quote_wish_of ask.now) quote.now.prefix.now quote.now.start
+        quote.now.route) }
+{
+    let plan = &quote.route.plan;
+    write_band(text, quote.prefix, quote.start, plan)?;
+    write_switch(text, ask.clock, &quote.route)?;
+    if let Some(talk) = ask.talk {
+        let Charge { price, .. } = charge_call(&quote.route, ask.at, talk);
+        writeln!(text, "price {price}")?;
+    }
+    if let Some(credit) = ask.credit {
+        let units = afford(plan, Times::ZERO, DAY, credit);
+        writeln!(text, "afford {units}")?;
+    }
+    Ok(())
+}
+
+/// Adds the line of a band.
+fn write_band(text: &mut String, prefix: &[u8], start: u32, plan: &Plan) -> Result<(), AllocError>
+    ensures { OnOk result (string_bytes text.new ≡ string_bytes text.old
+        ++ band_line prefix.now start (rates_of plan.now)) }
+{
+    write!(text, "prefix ")?;
+    write_prefix(text, prefix)?;
+    let start = TimeOfDay(start);
+    write!(text, " from {start}")?;
+    let Plan {
+        fee,
+        before,
+        free,
+        ..
+    } = plan;
+    write!(text, " fee {fee} rate {before} free {free}")?;
+    write_steps(text, plan)?;
+    writeln!(text)
+}
+
+/// Adds the billing steps of a plan, where it has any.
+fn write_steps(text: &mut String, plan: &Plan) -> Result<(), AllocError>
+    ensures { OnOk result (string_bytes text.new ≡ string_bytes text.old
+        ++ steps_text (rates_of plan.now)) }
+{
+    if !plan.has_steps() {
+        return Ok(());
+    }
+    let Plan { first, step, .. } = plan;
+    write!(text, " first {first} step {step}")
+}
+
+/// Adds the digits of a prefix, or `-` where it has none.
+fn write_prefix(text: &mut String, prefix: &[u8]) -> Result<(), AllocError>
+    ensures { OnOk result (string_bytes text.new ≡ string_bytes text.old
+        ++ prefix_text prefix.now) }
+{
+    if prefix.is_empty() {
+        return write!(text, "-");
+    }
+    write_digits(text, prefix)
+}
+
+/// Adds the line of a switch, where there is one.
+fn write_switch(text: &mut String, clock: Clock, route: &Route) -> Result<(), AllocError>
+    ensures { OnOk result (string_bytes text.new ≡ string_bytes text.old
+        ++ switch_line clock route.now.switch_at route.now.plan.after) }
+{
+    match (route.switch_at, route.plan.after) {
+        (Some(at), Some(rate)) => {
+            let at = MomentField(clock, Some(at));
+            writeln!(text, "switch {at} rate {rate}")
+        }
+        _ => Ok(()),
+    }
+}

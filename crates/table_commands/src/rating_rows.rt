@@ -1,0 +1,101 @@
+//! The command `rate`.
+
+ghost use Rattle.std.specs.Prelude.{◌≡◌, ◌++◌, ◌⊎◌, [], IfOk, IfSome, OnOk, if◌then◌else◌};
+ghost use Rattle.std.specs.Io.KnownBytes.{Keeps};
+ghost use Rattle.rating.specs.Fronts.{AppendsFront};
+ghost use Rattle.rating.specs.SaidOf.{rate_wish_of};
+ghost use Rattle.rating.specs.Tallies.{IsBoundedTally};
+ghost use Rattle.table_commands.specs.Ratings.{IsRatedByWish};
+ghost use Rattle.table_commands.specs.Summaries.{counts_text, status_of_rating, sums_text, summary_line};
+
+use crate::error_lines::report_end;
+use crate::fault::Fault;
+use crate::noting::Noting;
+use arrayvec::ArrayString;
+use rating::{RateAsk, Tally, rate, write_text};
+use std::alloc::Global;
+use std::fmt::{self, Write as WriteText};
+use std::io::{Read, Write};
+
+/// The most bytes of a summary: more than any has.
+const MOST_BYTES: usize = 384;
+
+/// Rates the records in the input as they come, and gives the status: 0 where no row differs or has
+/// a fault, else 3; 1 for a fault of the tariff or the header, and then nothing is printed; 2 where
+/// the input, memory or the output failed, and then the output has a front of the text.
+pub fn rate_input<I: Read + Drop, O: Write, E: Write>(
+    alloc: Global,
+    ask: &RateAsk<'_>,
+    input: I,
+    output: &mut Noting<O>,
+    faults: &mut E,
+    explains: bool,
+) -> u8
+    ensures rated { IfSome (I.remaining input) (λ text.
+        IsRatedByWish explains (rate_wish_of ask.now) text result
+        (record { output = O.contents output.old.inner; faults = E.contents faults.old })
+        (record { output = O.contents output.new.inner; faults = E.contents faults.new })) }
+    ensures silent { result ≡ 1
+        → Keeps (O.contents output.old.inner) (O.contents output.new.inner) }
+{
+    match rate(alloc, ask, input, output) {
+        Ok(tally) => report_rated(faults, ask.summary, &tally),
+        Err(why) => report_end(faults, explains, Fault::of_rate(why), output.failed),
+    }
+}
+
+/// Writes the summary, where it is wanted, and gives the status of rows that were all printed.
+fn report_rated<E: Write>(faults: &mut E, summary: bool, tally: &Tally) -> u8
+    requires { IsBoundedTally tally.now }
+    ensures status { result ≡ status_of_rating tally.now }
+    ensures line { AppendsFront (E.contents faults.old) (E.contents faults.new)
+        (if summary then summary_line tally.now else []) }
+{
+    if summary {
+        write_summary(faults, tally);
+    }
+    if tally.passes() { 0 } else { 3 }
+}
+
+/// Writes the summary.
+fn write_summary<E: Write>(faults: &mut E, tally: &Tally)
+    ensures { AppendsFront (E.contents faults.old) (E.contents faults.new)
+        (summary_line tally.now) }
+{
+    if let Ok(line) = summary_line(tally) {
+        write_text(faults, line.as_str().as_bytes());
+    }
+}
+
+/// The line of the summary. It takes no memory.
+fn summary_line(tally: &Tally) -> Result<ArrayString<MOST_BYTES>, fmt::Error>
+    ensures { IfOk result (λ line. line.bytes ≡ summary_line tally.now) }
+{
+    let mut line = ArrayString::new();
+    add_counts(&mut line, tally)?;
+    add_sums(&mut line, tally)?;
+    Ok(line)
+}
+
+/// Adds how many rows there were.
+fn add_counts(line: &mut ArrayString<MOST_BYTES>, tally: &Tally) -> fmt::Result
+    ensures { OnOk result (line.new.bytes ≡ line.old.bytes ++ counts_text tally.now) }
+{
+    let (rows, differing, faults) = (tally.rows, tally.differing, tally.faults);
+    write!(
+        line,
+        "prepaid: rated: {rows} rows, {differing} differ, {faults} faults, "
+    )
+}
+
+/// Adds what they come to, and the end of the line.
+fn add_sums(line: &mut ArrayString<MOST_BYTES>, tally: &Tally) -> fmt::Result
+    ensures { OnOk result (line.new.bytes ≡ line.old.bytes ++ sums_text tally.now) }
+{
+    let (paid, price) = (tally.paid, tally.price);
+    let (over, under) = (tally.over, tally.under);
+    writeln!(
+        line,
+        "charged {paid}, by the tariff {price}, over {over}, under {under}"
+    )
+}

@@ -1,0 +1,102 @@
+//! `replay`: a sequential account answers the operations of a table.
+
+ghost use Rattle.std.specs.Prelude.{◌≡◌, ◌≢◌, ◌++◌, ◌≤◌, Err, IfErr, IfSome, OnOk, string_bytes};
+ghost use Rattle.std.specs.Result.{result_map_both};
+ghost use Rattle.table_commands.specs.ReplayLines.{response_line};
+ghost use Rattle.table_commands.specs.Replays.{replayed};
+ghost use Rattle.table_commands.specs.Asks.{seat_ask_in};
+ghost use Rattle.table_commands.specs.AskingOf.{asking_of};
+ghost use Rattle.table_core.specs.Faults.{GivesTable};
+ghost use Rattle.table_core.specs.Rows.{rows_of};
+ghost use Rattle.csv.specs.Records.{fields_of};
+ghost use Rattle.entry_rows.specs.Columns.{HasOperation};
+ghost use Rattle.table_core.specs.declared.fault.TableFault.TheVariants as out;
+
+use crate::input::MAX_ROWS;
+use account_core::{AccountFault, Op, Reply, Teller};
+use csv::ByteRecord;
+use entry_rows::{Version, is_op_blank, read_op, read_op_word, read_seat, write_response};
+use std::alloc::Global;
+use std::io::Read;
+use table_core::{RowKind, Table, TableFault};
+use tariff_core::MAX_MONEY;
+
+/// Where the seat is in a row.
+const SEAT: usize = 0;
+
+/// Where the columns of the operation begin in a row.
+const OP: usize = 1;
+
+/// One line a row: the account's reply, or the fault that refused the operation. The account opens
+/// with this credit and no last moment, and its history may have as many entries as `limit`.
+pub fn replay<I: Read + Drop>(
+    alloc: Global,
+    opening: u64,
+    limit: u32,
+    reader: I,
+) -> Result<String, TableFault>
+    requires { opening ≤ MAX_MONEY }
+    ensures { IfSome (I.remaining reader) (λ text.
+        GivesTable string_bytes result (replayed opening limit (rows_of text))) }
+{
+    let headers: &[&[&str]] = &[
+        &["seat", "op", "call", "x1", "x2", "x3", "x4", "x5"],
+        &["seat", "op", "call", "x1", "x2", "x3", "x4", "x5", "x6"],
+        &[
+            "seat", "op", "call", "x1", "x2", "x3", "x4", "x5", "x6", "x7",
+        ],
+        &[
+            "seat", "op", "call", "x1", "x2", "x3", "x4", "x5", "x6", "x7", "x8", "x9",
+        ],
+    ];
+    let mut table = Table::open(alloc, reader, headers, MAX_ROWS)?;
+    let mut teller = Teller::new(alloc, opening, None, limit);
+    let mut text = String::new(alloc);
+    while table.next_row()? {
+        let ask = match read_ask(table.row(), Version::at(table.header())) {
+            Ok(ask) => ask,
+            Err(kind) => return Err(table.fault(kind)),
+        };
+        write_answer(&mut text, teller.apply(ask.seat, ask.op))?;
+    }
+    Ok(text)
+}
+
+/// Adds the line of an answer. Memory that runs out has no line: it ends the replay.
+fn write_answer(text: &mut String, answer: Result<Reply, AccountFault>) -> Result<(), TableFault>
+    ensures line { OnOk result (string_bytes text.new ≡ string_bytes text.old
+        ++ response_line answer) }
+    ensures known { OnOk result (answer ≢ Err AccountFault.OutOfMemory) }
+    ensures fault { IfErr result (λ fault. fault ≡ out.OutOfMemory) }
+{
+    if let Err(AccountFault::OutOfMemory) = answer {
+        return Err(TableFault::OutOfMemory);
+    }
+    write_response(text, answer)?;
+    Ok(text.push('\n')?)
+}
+
+/// What a seat asks.
+#[derive(Clone, Copy)]
+struct Ask {
+    /// The seat, 0 to 15.
+    seat: u32,
+    /// What it asks.
+    op: Op,
+}
+
+/// What a row of a table of this version asks.
+#[tactic(auto, unfolding(crate::specs::Asks::asking_in))]
+fn read_ask(row: &ByteRecord, version: Version) -> Result<Ask, RowKind>
+    requires { HasOperation version (fields_of row.now) 1 }
+    ensures { result_map_both asking_of (λ kind. kind) result
+        ≡ seat_ask_in version (fields_of row.now) }
+{
+    let word = read_op_word(row, OP)?;
+    let seat = read_seat(row, SEAT)?;
+    let op = read_op(row, OP, version, word)?;
+    if !is_op_blank(row, OP, version, word) {
+        return Err(RowKind::Empty);
+    }
+    Ok(Ask { seat, op })
+}
