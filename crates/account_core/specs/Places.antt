@@ -3,7 +3,7 @@ use Rattle.std.specs.Prelude.{◌≡◌, ◌+◌, ◌&&◌, ℕ, Bool, true, Opt
 use Rattle.account_core.specs.Asked.{Asked, Credits, Reserves, Settles, Returns, call_of}
 use Rattle.account_core.specs.Available.{calls}
 use Rattle.account_core.specs.Answers.{inadmissible_for}
-use Rattle.account_core.specs.Events.{EntryData}
+use Rattle.account_core.specs.Entries.{EntryData}
 use Rattle.account_core.specs.Known.{CallFacts, is_open, known}
 use Rattle.account_core.specs.declared.fault.AccountFault.{AccountFault}
 use Rattle.account_core.specs.declared.fault.AccountFault.TheVariants as fault

@@ -5,10 +5,10 @@ ghost use Rattle.account_core.specs.Admitting.{IsAdmitted};
 ghost use Rattle.account_core.specs.Answers.{IsLegal};
 ghost use Rattle.account_core.specs.Asked.{IsCredit, IsOfCall};
 ghost use Rattle.account_core.specs.Available.{available};
-ghost use Rattle.account_core.specs.Events.{asked_of, entry_data};
+ghost use Rattle.account_core.specs.Entries.{asked_of, entry_data};
 ghost use Rattle.account_core.specs.Kept.{known_of};
 ghost use Rattle.account_core.specs.Known.{known, known_asked, paid_if_granted};
-ghost use Rattle.account_core.specs.Ledger.{IsRefusal, Ledger, answer_of, event_by, refusal_of};
+ghost use Rattle.account_core.specs.Ledger.{IsRefusal, Ledger, answer_of, entry_by, refusal_of};
 ghost use Rattle.account_core.specs.Places.{IsClosing, needed_by};
 ghost use Rattle.account_core.specs.Sums.{AreSums};
 ghost use Rattle.account_core.specs.Tellers.{Admits, IsAnsweredByTeller, IsTellerOf, entered};
@@ -37,7 +37,7 @@ pub struct Account {
 impl Model for Account {
     ghost use Rattle.std.specs.Prelude.{map};
     ghost use Rattle.std.specs.Vec.{vec_capacity};
-    ghost use Rattle.account_core.specs.Events.{entry_data};
+    ghost use Rattle.account_core.specs.Entries.{entry_data};
     ghost use Rattle.account_core.specs.Ledger.{Ledger};
     ghost use Rattle.account_core.specs.Tellers.{IsKeptTeller};
 
@@ -85,7 +85,7 @@ impl Account {
         ensures answered { IfOk result (λ reply. reply ≡ answer_of self.old (asked_of op)) }
         ensures entered { IfOk result (λ reply. self.new ≡
             record self.old {
-              history = self.old.history ++ event_by seat (asked_of op) reply
+              history = self.old.history ++ entry_by seat (asked_of op) reply
                   ∷ [];
             }) }
         ensures admitted { OnOk result (refusal_of self.old (asked_of op) ≡ None) }
@@ -122,7 +122,7 @@ impl Account {
         ensures answered { IfOk result (λ reply. reply
             ≡ answer_of self.old (asked_of admitted.op)) }
         ensures entered { IfOk result (λ reply. self.new ≡ record self.old {
-          history = self.old.history ++ event_by seat (asked_of admitted.op) reply ∷ [];
+          history = self.old.history ++ entry_by seat (asked_of admitted.op) reply ∷ [];
         }) }
         ensures kept { OnErr result (self.new ≡ self.old) }
         ensures closing { IsClosing (reverse self.old.history) (asked_of admitted.op)
@@ -233,7 +233,7 @@ impl Teller {
         ensures answered { IfOk result (λ reply. (ledger : Ledger) → IsTellerOf ledger self.old →
             reply ≡ answer_of ledger (asked_of op)) }
         ensures entered { IfOk result (λ reply. (ledger : Ledger) → IsTellerOf ledger self.old →
-            IsTellerOf (entered ledger (event_by seat (asked_of op) reply)) self.new) }
+            IsTellerOf (entered ledger (entry_by seat (asked_of op) reply)) self.new) }
         ensures admitted { OnOk result ((ledger : Ledger) → IsTellerOf ledger self.old →
             refusal_of ledger (asked_of op) ≡ None) }
         ensures kept { OnErr result ((ledger : Ledger) → IsTellerOf ledger self.old →
@@ -287,7 +287,7 @@ impl Teller {
     fn enter(&mut self, seat: u32, admitted: Admitted) -> Result<Entry, AllocError>
         requires { (ledger : Ledger) × Admits ledger self.old admitted }
         ensures entry { IfOk result (λ entry. (ledger : Ledger) →
-            Admits ledger self.old admitted → entry_data entry ≡ event_by seat
+            Admits ledger self.old admitted → entry_data entry ≡ entry_by seat
             (asked_of admitted.op) (answer_of ledger (asked_of admitted.op))) }
         ensures entered { IfOk result (λ entry. (ledger : Ledger) →
             Admits ledger self.old admitted →

@@ -3,7 +3,7 @@
 ghost use Rattle.std.specs.Prelude.{◌≡◌, ◌≤◌, ℕ, Option, [], IfOk, OnOk};
 ghost use Rattle.std.specs.Result.{result_err};
 ghost use Rattle.account_core.specs.Checked.{IsCheckOf};
-ghost use Rattle.account_core.specs.Events.{entry_data};
+ghost use Rattle.account_core.specs.Entries.{entry_data};
 ghost use Rattle.book_texts.specs.Books.{Books, entered_in_books, opened, account_so_far};
 ghost use Rattle.book_texts.specs.Checks.{AreChecks, Comes, HaveChecks, IsHeard, ListComes, checks_by_account};
 ghost use Rattle.rising_map.specs.Rising.{AreRising};

@@ -2,7 +2,7 @@
 
 ghost use Rattle.std.specs.Prelude.{◌≡◌, ◌++◌, ℕ, List, IfOk, IfSome, Ok, OnOk, map, string_bytes};
 ghost use Rattle.std.specs.Result.{result_map_both};
-ghost use Rattle.account_core.specs.Events.{entry_data};
+ghost use Rattle.account_core.specs.Entries.{entry_data};
 ghost use Rattle.book_texts.specs.Audits.{AreVerdicts, GivesAudit, IsSummedUp, audited, verdict_lines, yes_or_no};
 ghost use Rattle.book_texts.specs.BookRows.{Enters, HasBookColumns, columns_in, row_said_in};
 ghost use Rattle.book_texts.specs.Books.{Books, books_of, entered_in_books, book_row_at, account_so_far};

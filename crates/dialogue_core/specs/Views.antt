@@ -1,6 +1,6 @@
 -- What a dialogue of the code stands for.
 use Rattle.std.specs.Prelude.{◌≡◌, Result, Ok, Err}
-use Rattle.account_core.specs.Events.{asked_of}
+use Rattle.account_core.specs.Entries.{asked_of}
 use Rattle.cap_values.specs.Orders.{orders_of}
 use Rattle.tariff_core.specs.RatesOf.{rates_of}
 use Rattle.dialogue_core.specs.Phases.{Conditions, Phase, Says, Sequel}

@@ -4,7 +4,7 @@ ghost use Rattle.std.specs.Prelude.{◌≡◌, ◌+◌, ◌<◌, ◌≤◌, leng
 ghost use Rattle.std.specs.Result.{result_map_both};
 ghost use Rattle.csv.specs.Records.{fields_of};
 ghost use Rattle.table_core.specs.Fields.{field_in};
-ghost use Rattle.account_core.specs.Events.{asked_of};
+ghost use Rattle.account_core.specs.Entries.{asked_of};
 ghost use Rattle.tariff_core.specs.RatesOf.{rates_of};
 ghost use Rattle.entry_rows.specs.Column.{interval_of, units_of};
 ghost use Rattle.entry_rows.specs.Columns.{HasOperation, first_operation_at, operation_at, x6_at, x7_at, x8_at, x9_at};

@@ -4,7 +4,7 @@ use Rattle.std.specs.Map.{keys_of}
 use Rattle.std.specs.Prelude.{◌==◌, if◌then◌else◌, reverse, slice_index_or}
 use Rattle.std.proofs.lemmas.Grind.{flat_map-append}
 use Rattle.account_core.specs.Asked.{Asked, Returns, Settles}
-use Rattle.account_core.specs.Events.{EntryData}
+use Rattle.account_core.specs.Entries.{EntryData}
 use Rattle.account_core.specs.Places.{IsClosing}
 use Rattle.account_core.specs.declared.entry.Reply.TheVariants.{Returned}
 use Rattle.account_core.specs.declared.fault.AccountFault.{AccountFault}

@@ -8,7 +8,7 @@ use Rattle.std.proofs.lemmas.Bool.Decides.{nat_tests}
 use Rattle.std.proofs.lemmas.Nat.{mod_below}
 use Rattle.account_core.specs.Answers.{IsLegal, IsLegalPast, answer, inadmissible}
 use Rattle.account_core.specs.Asked.{Asked, Credits, IsOfCall, Reserves, Returns, Settles}
-use Rattle.account_core.specs.Events.{EntryData}
+use Rattle.account_core.specs.Entries.{EntryData}
 use Rattle.account_core.specs.Known.{CallFacts, known}
 use Rattle.account_core.specs.Laws.{AnswersFitTheirOperations}
 use Rattle.account_core.specs.Standing.{FitsCall}
@@ -190,20 +190,20 @@ honest_fit facts (Settles call number info) (Forfeit p a) fits = tt
 honest_fit facts (Returns call) (Returned p a) fits = tt
 honest_fit facts asked reply fits = absurd fits
 
-honest_or : (call : ℕ) (b : Bool) (event : EntryData) (rest : List EntryData) → (b ≡ true → IsHonestEntry event) → All IsHonestEntry rest → All IsHonestEntry (if b then event ∷ rest else rest)
-honest_or call true event rest here all = All-cons IsHonestEntry event rest (here refl) all
-honest_or call false event rest here all = all
+honest_or : (call : ℕ) (b : Bool) (entry : EntryData) (rest : List EntryData) → (b ≡ true → IsHonestEntry entry) → All IsHonestEntry rest → All IsHonestEntry (if b then entry ∷ rest else rest)
+honest_or call true entry rest here all = All-cons IsHonestEntry entry rest (here refl) all
+honest_or call false entry rest here all = all
 
 honest_past : AnswersFitTheirOperations → (opening : ℕ) (until : Option ℕ) (call : ℕ) (h : List EntryData) → opening ≤ MAX_MONEY → IsLegalPast opening until h → All IsHonestEntry (of_call call h)
 honest_past kindly opening until call [] small legal = All-nil IsHonestEntry
-honest_past kindly opening until call (event ∷ h) small legal =
+honest_past kindly opening until call (entry ∷ h) small legal =
     let before : IsLegal opening until (reverse h) = subst (IsLegalPast opening until) (sym (reverse-reverse h)) legal.0 in
-    let admissible : inadmissible (reverse (reverse h)) event.asked ≡ None = subst (λ (l : List EntryData). inadmissible l event.asked ≡ None) (sym (reverse-reverse h)) legal.1.admissible in
-    honest_or call (asks_of_call call event.asked) event (of_call call h)
+    let admissible : inadmissible (reverse (reverse h)) entry.asked ≡ None = subst (λ (l : List EntryData). inadmissible l entry.asked ≡ None) (sym (reverse-reverse h)) legal.1.admissible in
+    honest_or call (asks_of_call call entry.asked) entry (of_call call h)
     (λ is.
-    let kind = kindly opening until (reverse h) call event.asked small before admissible (of_its call event.asked is) in
-    let given = honest_fit (known call (reverse (reverse h))) event.asked (answer opening until (reverse (reverse h)) event.asked) kind.1 in
-    subst (λ (r : Reply). IsHonest event.asked r) (sym (legal.1.answered ∙ ap (λ (l : List EntryData). answer opening until l event.asked) (sym (reverse-reverse h)))) given)
+    let kind = kindly opening until (reverse h) call entry.asked small before admissible (of_its call entry.asked is) in
+    let given = honest_fit (known call (reverse (reverse h))) entry.asked (answer opening until (reverse (reverse h)) entry.asked) kind.1 in
+    subst (λ (r : Reply). IsHonest entry.asked r) (sym (legal.1.answered ∙ ap (λ (l : List EntryData). answer opening until l entry.asked) (sym (reverse-reverse h)))) given)
     (honest_past kindly opening until call h small legal.0)
 
 turned : (xs : List EntryData) → All IsHonestEntry (reverse xs) → All IsHonestEntry xs
@@ -215,7 +215,7 @@ turned (x ∷ xs) all =
 honest_book : AnswersFitTheirOperations → (book : Closed) (call : ℕ) → book.opening ≤ MAX_MONEY → IsLegal book.opening book.until book.history → All IsHonestEntry (of_call call book.history)
 honest_book kindly book call small legal =
     turned (of_call call book.history)
-    (subst (All IsHonestEntry) (filter_reverse (λ (event : EntryData). asks_of_call call event.asked) book.history) (honest_past kindly book.opening book.until call (reverse book.history) small legal))
+    (subst (All IsHonestEntry) (filter_reverse (λ (entry : EntryData). asks_of_call call entry.asked) book.history) (honest_past kindly book.opening book.until call (reverse book.history) small legal))
 
 pub run_left : AnswersFitTheirOperations → RunClosingIsNeverRefused → RunCallsAreOfOneWorker StoodIn → CallsOfOneSeatAreAlone → RunCallsThatEndAreReturned
 run_left kindly closing one alone setup workers given answers books account place book call some run at small =

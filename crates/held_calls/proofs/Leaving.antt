@@ -5,9 +5,9 @@ use Rattle.std.proofs.lemmas.Bool.Decides.{nat_tests}
 use Rattle.std.proofs.lemmas.Grind.{flat_map-append}
 use Rattle.std.proofs.lemmas.List.Elements.{All-head}
 use Rattle.account_core.specs.Asked.{Asked, Credits, IsOfCall, Reserves, Returns, Settles}
-use Rattle.account_core.specs.Events.{EntryData}
+use Rattle.account_core.specs.Entries.{EntryData}
 use Rattle.account_core.specs.Known.{is_open, known}
-use Rattle.account_core.specs.Ledger.{event_by}
+use Rattle.account_core.specs.Ledger.{entry_by}
 use Rattle.account_core.specs.declared.entry.Reply.{Reply}
 use Rattle.account_core.specs.declared.entry.Reply.TheVariants.{Granted, Denied, Settled, Forfeit, Returned}
 use Rattle.account_core.specs.declared.fault.AccountFault.{AccountFault}
@@ -120,7 +120,7 @@ fair_got : (Shows : ℕ → Showing) (call place seat : ℕ) (mine : List EntryD
     → (asked : Asked) → said ≡ Asks asked → IsFair asked got
 fair_got Shows call place seat mine (Asks asked) to (Ok reply) never of stands right honest other is =
     let same : asked ≡ other = cc in
-    subst (λ (a : Asked). IsFair a (Ok reply)) same (All-head IsHonestEntry (event_by seat asked reply) [] honest)
+    subst (λ (a : Asked). IsFair a (Ok reply)) same (All-head IsHonestEntry (entry_by seat asked reply) [] honest)
 fair_got Shows call place seat mine (Asks asked) to (Err fault) never of stands right honest other is =
     let same : asked ≡ other = cc in
     subst (λ (a : Asked). IsFair a (Err fault)) same (fair_refusal Shows call place mine asked to fault never of stands.0 stands.1 right)

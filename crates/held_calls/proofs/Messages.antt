@@ -3,7 +3,7 @@ use Rattle.std.proofs.Common.{All, ◌≡◌, ◌<◌, ◌++◌, ◌∙◌, ℕ,
 use Rattle.std.specs.Map.{keys_of}
 use Rattle.std.specs.Prelude.{◌==◌, if◌then◌else◌, slice_index_or}
 use Rattle.account_core.specs.Asked.{Returns, Settles}
-use Rattle.account_core.specs.Events.{EntryData}
+use Rattle.account_core.specs.Entries.{EntryData}
 use Rattle.account_core.specs.declared.entry.Reply.TheVariants.{Granted, Denied}
 use Rattle.cap_values.specs.Orders.{Order, Release}
 use Rattle.cap_values.specs.declared.event.Event.TheVariants as event

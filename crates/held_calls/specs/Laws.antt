@@ -1,6 +1,6 @@
 -- What a worker enters of its calls, whatever its accounts refuse.
 use Rattle.std.specs.Prelude.{◌≡◌, ◌==◌, ◌++◌, ℕ, Bool, true, Some, List, [], ◌∷◌, if◌then◌else◌, map, slice_index_or}
-use Rattle.account_core.specs.Events.{EntryData}
+use Rattle.account_core.specs.Entries.{EntryData}
 use Rattle.cap_values.specs.declared.message.SsfMsg.{SsfMsg}
 use Rattle.cap_values.specs.declared.message.SsfMsg.TheVariants.{ChargingReport}
 use Rattle.held_calls.specs.Going.{ended_at, taken_at}

@@ -6,7 +6,7 @@ use Rattle.account_core.specs.Answers.{accepted_times}
 use Rattle.account_core.specs.Asked.{Asked, Credits, Reserves, Settles, Returns, IsOfCall, call_of}
 use Rattle.account_core.specs.Known.{CallFacts, EntryDeed, deed, deed_of, known_after, nothing_known, plan_in_force}
 use Rattle.account_core.specs.Known as known
-use Rattle.account_core.specs.Ledger.{event_by}
+use Rattle.account_core.specs.Ledger.{entry_by}
 use Rattle.account_core.specs.Standing.{IsGrant, FitsCall}
 use Rattle.account_core.specs.declared.entry.Reply.{Reply}
 use Rattle.account_core.specs.declared.entry.Reply.TheVariants.{Credited, CreditOver, Granted, Denied, Settled, Forfeit, Returned}
@@ -24,7 +24,7 @@ use Rattle.one_call.specs.declared.counts.Counts.{Counts}
 
 -- ---- what an entry does to a call that it is of
 
-pub deed_is : (call : ℕ) (asked : Asked) (reply : Reply) → call_of asked ≡ call → deed call (event_by 0 asked reply) ≡ deed_of asked reply
+pub deed_is : (call : ℕ) (asked : Asked) (reply : Reply) → call_of asked ≡ call → deed call (entry_by 0 asked reply) ≡ deed_of asked reply
 unfolding deed
 deed_is call asked reply same = rw (eq-eqb (call_of asked) call same) refl
 

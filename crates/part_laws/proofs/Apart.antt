@@ -4,7 +4,7 @@ use Rattle.std.specs.Prelude.{filter, if◌then◌else◌, slice_index_or}
 use Rattle.std.proofs.lemmas.List.{length-map}
 use Rattle.std.proofs.lemmas.List.Elements.{All-head, All-tail}
 use Rattle.account_core.specs.Answers.{IsLegal}
-use Rattle.account_core.specs.Events.{EntryData}
+use Rattle.account_core.specs.Entries.{EntryData}
 use Rattle.live_recovery.proofs.Alike.{GoAlike, goes_itself}
 use Rattle.live_recovery.proofs.Alone.{answers_all, are_legal, as_many, histories_of, none_is_fault, opening_at, own_lists, shares_all, until_at}
 use Rattle.live_recovery.proofs.Chains.{NoFault, chains_alike}

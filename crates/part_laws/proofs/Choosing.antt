@@ -3,7 +3,7 @@ use Rattle.std.proofs.Common.{◌≡◌, ◌∙◌, ℕ, zero, suc, Bool, true, 
 use Rattle.std.specs.Prelude.{◌==◌, filter, if◌then◌else◌, option_and_then, slice_index_or}
 use Rattle.std.specs.Option.{ForSome}
 use Rattle.std.proofs.lemmas.Bool.Decides.{nat_tests}
-use Rattle.account_core.specs.Events.{EntryData}
+use Rattle.account_core.specs.Entries.{EntryData}
 use Rattle.part_laws.proofs.Plain.{AllShown, done_shown}
 use Rattle.part_laws.specs.Chosen.{Choice, IsByAccount, is_chosen}
 use Rattle.run_values.specs.Openings.{no_credit}

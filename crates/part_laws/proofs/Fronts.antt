@@ -1,7 +1,7 @@
 -- Two runs that are given the same at first.
 use Rattle.std.proofs.Common.{◌≡◌, ◌∙◌, ◌++◌, ◌+◌, ℕ, Option, List, [], ◌∷◌, length, map, take, refl, sym, ap, subst, arith}
 use Rattle.std.proofs.lemmas.List.{length-map}
-use Rattle.account_core.specs.Events.{EntryData}
+use Rattle.account_core.specs.Entries.{EntryData}
 use Rattle.live_recovery.proofs.Alike.{ItemsAlike, SpeakAlike, speaks_itself}
 use Rattle.live_recovery.proofs.Alone.{answers_all, are_legal, as_many, none_is_fault, numbered_many, numbered_more, opening_at, own_lists, shares_all, until_at}
 use Rattle.live_recovery.proofs.Chains.{NoFault, chain_begins, once_alike}

@@ -3,7 +3,7 @@ use Rattle.std.proofs.Common.{◌≡◌, ◌∙◌, ◌++◌, ℕ, zero, suc, Bo
 use Rattle.std.specs.Prelude.{if◌then◌else◌, slice_index_or}
 use Rattle.std.proofs.lemmas.List.{map-append}
 use Rattle.account_core.specs.Asked.{Credits}
-use Rattle.account_core.specs.Events.{EntryData}
+use Rattle.account_core.specs.Entries.{EntryData}
 use Rattle.account_core.specs.declared.entry.Reply.{Reply}
 use Rattle.account_core.specs.declared.entry.Reply.TheVariants.{Granted, Denied, Settled, Forfeit, Returned}
 use Rattle.cap_values.specs.declared.event.Event.TheVariants as event

@@ -9,7 +9,7 @@ use Rattle.std.proofs.lemmas.Bool.Decides.{nat_tests}
 use Rattle.std.proofs.lemmas.List.Elements.{All-cons, All-head, All-nil, All-tail}
 use Rattle.std.proofs.lemmas.List.Kept.{IsStrictlySortedBy-filter}
 use Rattle.account_core.specs.Asked.{Asked, Credits, Reserves, Settles, Returns, call_of}
-use Rattle.account_core.specs.Events.{EntryData}
+use Rattle.account_core.specs.Entries.{EntryData}
 use Rattle.account_core.specs.Known.{CallFacts, known, paid_if_granted}
 use Rattle.account_core.specs.declared.entry.Reply.{Reply}
 use Rattle.call_records.specs.Calls.{end_by, first_said, report_by, call_reports_of, start_by, start_of, message_of_call}

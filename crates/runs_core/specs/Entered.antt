@@ -47,7 +47,7 @@ abbrev pub ReservesAreInTheBooks : (Closed → ℕ → Knowing) → Type 0
 ReservesAreInTheBooks Stood =
     (setup : Setup) (workers : ℕ) (given : List (ℕ × Body)) (answers : List Answer) (books : List Closed) (worker account place : ℕ) (book : Closed)
     → (is : IsAnsweredBy Stood setup workers given answers books worker) → IsBookAt setup books account place book
-    → All (λ event. IsOnTerms setup place is.posts event.asked) (own worker book.history)
+    → All (λ entry. IsOnTerms setup place is.posts entry.asked) (own worker book.history)
 
 -- in the books of a run each entry of a call is by one worker, that of the call's remainder
 abbrev pub RunCallsAreOfOneWorker : (Closed → ℕ → Knowing) → Type 0

@@ -274,7 +274,7 @@ fn close_accounts<S: Shared>(
     ensures legal { IfOk result
         (λ books. All (λ book. IsLegal book.opening book.until book.history) books.items) }
     ensures owned { IfOk result (λ books. All (λ book.
-        All (λ event. event.seat < length left.items) book.history) books.items) }
+        All (λ entry. entry.seat < length left.items) book.history) books.items) }
     ensures shown { IfOk result (λ books. (worker : ℕ) → worker < length left.items
         → IsInBooks S.reads S.was S.stood books.items worker
         (slice_index_or (map (λ team. team.items) left.items) worker [])) }

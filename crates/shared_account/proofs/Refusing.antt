@@ -3,7 +3,7 @@ use Rattle.std.proofs.Common.{◌≡◌, ◌≢◌, ◌∙◌, ap, ℕ, Bool, tr
 use Rattle.std.specs.Prelude.{◌+◌, ◌⊎◌, if◌then◌else◌, length, nat_lt, reverse, IfErr, IsOk}
 use Rattle.account_core.specs.Answers.{misplaced}
 use Rattle.account_core.specs.Asked.{Asked, Credits, Reserves, Returns, Settles, call_of, is_in_range}
-use Rattle.account_core.specs.Events.{EntryData}
+use Rattle.account_core.specs.Entries.{EntryData}
 use Rattle.account_core.specs.Known.{CallFacts, is_open, known}
 use Rattle.account_core.specs.Ledger.{IsRefusal, Ledger, answer_of}
 use Rattle.account_core.specs.Places.{IsClosing, needed_by, or_else, over_limit, owed, refusal}

@@ -2,7 +2,7 @@
 use Rattle.std.specs.Prelude.{◌≡◌, ℕ, List, reverse}
 use Rattle.account_core.specs.Answers.{IsLegal}
 use Rattle.account_core.specs.Asked.{Asked}
-use Rattle.account_core.specs.Events.{EntryData}
+use Rattle.account_core.specs.Entries.{EntryData}
 use Rattle.account_core.specs.Ledger.{IsRefusal, Ledger}
 use Rattle.account_core.specs.Places.{IsClosing}
 use Rattle.account_core.specs.declared.fault.AccountFault.{AccountFault}

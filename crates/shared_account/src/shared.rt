@@ -32,8 +32,8 @@ pub trait Shared: Sync + Drop {
     ghost use Rattle.std.specs.Prelude.{◌≡◌, ◌≤◌, ◌↔◌, ◌⊎◌, ◌++◌, ◌∷◌, ℕ, List, [], true, false, Result, map, reverse, All, MatchResult, IfOk, IfErr};
     ghost use Rattle.std.specs.Coded.{Coded};
     ghost use Rattle.account_core.specs.Asked.{Asked, call_of};
-    ghost use Rattle.account_core.specs.Events.{EntryData, asked_of};
-    ghost use Rattle.account_core.specs.Ledger.{event_by};
+    ghost use Rattle.account_core.specs.Entries.{EntryData, asked_of};
+    ghost use Rattle.account_core.specs.Ledger.{entry_by};
     ghost use Rattle.account_core.specs.Places.{IsClosing};
     ghost use Rattle.account_core.specs.declared.entry.Reply.{Reply};
     ghost use Rattle.account_core.specs.declared.fault.AccountFault.{AccountFault};
@@ -113,7 +113,7 @@ pub trait Shared: Sync + Drop {
         ensures same_number { reads.number seat.new ≡ reads.number seat.old }
         ensures mine { MatchResult result
             (λ reply. reads.mine seat.new
-            ≡ reads.mine seat.old ++ event_by (reads.number seat.old) (asked_of op) reply ∷ [])
+            ≡ reads.mine seat.old ++ entry_by (reads.number seat.old) (asked_of op) reply ∷ [])
             (λ _. reads.mine seat.new ≡ reads.mine seat.old) }
         ensures kind { IfOk result (λ reply. IsReplyTo (asked_of op) reply) }
         ensures called { calls seat.old (asked_of op) result seat.new }

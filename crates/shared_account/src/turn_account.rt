@@ -11,8 +11,8 @@ ghost use Rattle.shared_account.specs.TurnViews.{IsSameSeat, fresh_turn_seats, o
 ghost use Rattle.shared_account.specs.Sitting.{IsAt};
 ghost use Rattle.shared_account.specs.Views.{IsServing, seeing};
 ghost use Rattle.account_core.specs.Answers.{IsLegal};
-ghost use Rattle.account_core.specs.Events.{EntryData, asked_of};
-ghost use Rattle.account_core.specs.Ledger.{IsRefusal, event_by};
+ghost use Rattle.account_core.specs.Entries.{EntryData, asked_of};
+ghost use Rattle.account_core.specs.Ledger.{IsRefusal, entry_by};
 ghost use Rattle.account_core.specs.Places.{IsClosing};
 ghost use Rattle.shared_account.specs.declared.fault.CloseFault.TheVariants as close;
 
@@ -125,10 +125,10 @@ impl TurnAccount {
         ensures legal { IsLegal seat.new.view.opening seat.new.view.until seat.new.view.history }
         ensures begins { IsPrefix seat.old.view.history seat.new.view.history }
         ensures ends { IfOk result (λ reply. EndsWithEntry seat.old.view.history
-            (event_by seat.old.number (asked_of op) reply) seat.new.view.history) }
+            (entry_by seat.old.number (asked_of op) reply) seat.new.view.history) }
         ensures own { MatchResult result
             (λ reply. own_of seat.new
-            ≡ own_of seat.old ++ event_by seat.old.number (asked_of op) reply ∷ [])
+            ≡ own_of seat.old ++ entry_by seat.old.number (asked_of op) reply ∷ [])
             (λ _. own_of seat.new ≡ own_of seat.old) }
         ensures refused { IfErr result (λ fault. (fault ≡ AccountFault.GateClosed)
             ⊎ IsRefusal seat.new.view (asked_of op) fault) }
@@ -210,7 +210,7 @@ fn enter<G: Gate>(
     ensures table { chair.new.table_id ≡ chair.old.table_id }
     ensures hands { chair.new.me.1 ≡ (0, Some chair.new.me.0.seen) ∷ [] }
     ensures entered { IfOk result (λ reply. chair.new.me.0 ≡ seeing chair.old.me.0
-        (with_entry chair.old.me.0.seen (event_by seat (asked_of op) reply))) }
+        (with_entry chair.old.me.0.seen (entry_by seat (asked_of op) reply))) }
     ensures kept { OnErr result (chair.new.me.0 ≡ chair.old.me.0) }
     ensures refused { IfErr result (λ fault. (fault ≡ AccountFault.GateClosed)
         ⊎ IsRefusal chair.old.me.0.seen (asked_of op) fault) }

@@ -1,7 +1,7 @@
 -- What shows that an account refused a worker.
 use Rattle.std.specs.Prelude.{◌≡◌, ◌<◌, ℕ, List, length, reverse, slice_index_or}
 use Rattle.account_core.specs.Asked.{Asked, call_of}
-use Rattle.account_core.specs.Events.{EntryData}
+use Rattle.account_core.specs.Entries.{EntryData}
 use Rattle.account_core.specs.Places.{IsClosing}
 use Rattle.account_core.specs.declared.fault.AccountFault.{AccountFault}
 use Rattle.shared_account.specs.Refusals.{IsAlone, IsRefusedAt, Knowing, Refusal}

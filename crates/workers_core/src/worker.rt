@@ -2,7 +2,7 @@
 
 ghost use Rattle.std.specs.Prelude.{◌≡◌, ◌++◌, ◌∷◌, ◌≤◌, ◌<◌, [], ℕ, List, None, Option, true, map, All, IfErr, IfOk, IfSome, OnOk, IfNone, length};
 ghost use Rattle.std.specs.Map.{keys_of};
-ghost use Rattle.account_core.specs.Events.{EntryData};
+ghost use Rattle.account_core.specs.Entries.{EntryData};
 ghost use Rattle.shared_account.specs.Refusals.{Refusal};
 ghost use Rattle.workers_core.specs.Handled.{IsRecharged, IsRightlyHandled, answer_view};
 ghost use Rattle.workers_core.specs.Refusals.{RefusesAt, WasAt};

@@ -3,7 +3,7 @@ use Rattle.std.proofs.lemmas.List.{reverse-append}
 use Rattle.std.proofs.lemmas.Option.{IfSome_then}
 use Rattle.std.specs.BTreeMap.{is_at}
 use Rattle.std.specs.Ordering.{nat_cmp}
-use Rattle.account_core.specs.Events.{entry_data}
+use Rattle.account_core.specs.Entries.{entry_data}
 use Rattle.book_texts.proofs.CheckLemmas.{checks_set, found, heard_by, is_found, not_found}
 use Rattle.rising_map.proofs.RisingLemmas.{absent, present, set_there}
 use Rattle.book_texts.proofs.account_checks.enter_list.Goals as goal
@@ -34,12 +34,12 @@ returns-clause-comes c = λ books are.
     let there = rw c.as_slice.ensures.value at c.in-Some.ensures.found in
     let (booked, is, heard) = is_found _ _ item.1 (found (is_at (nat_cmp c.args.account)) books c.args.list.now.items are)
     (present c.args.account c.args.list.now.items c.in-Some.place item c.requires.rising there c.index_mut.ensures.value) in
-    let event = entry_data c.args.entry in
+    let entry = entry_data c.args.entry in
     let after = c.in_ok-hear.ensures.heard booked.opening booked.until (reverse booked.history) heard in
     let set_is = set_there c.args.account c.args.list.now.items c.in-Some.place item c.hear.new.self c.requires.rising there c.index_mut.ensures.value in
     rw (is, ← set_is)
-    (checks_set (is_at (nat_cmp c.args.account)) (record booked { history = booked.history ++ event ∷ [] }) c.hear.new.self
-    (rw (reverse-append booked.history (event ∷ [])) after) books c.args.list.now.items are)
+    (checks_set (is_at (nat_cmp c.args.account)) (record booked { history = booked.history ++ entry ∷ [] }) c.hear.new.self
+    (rw (reverse-append booked.history (entry ∷ [])) after) books c.args.list.now.items are)
 
 pub returns-clause-heard : goal.returns-clause-heard
 returns-clause-heard c = λ books are.

@@ -3,7 +3,7 @@ use Rattle.std.proofs.lemmas.List.{reverse-append}
 use Rattle.std.proofs.lemmas.Option.{IfSome_then}
 use Rattle.std.specs.BTreeMap.{is_at}
 use Rattle.std.specs.Ordering.{nat_cmp}
-use Rattle.account_core.specs.Events.{entry_data}
+use Rattle.account_core.specs.Entries.{entry_data}
 use Rattle.book_texts.proofs.CheckLemmas.{checks_set, found, heard_by, is_found, not_found}
 use Rattle.book_texts.proofs.account_checks.enter_map.Goals as goal
 
@@ -25,11 +25,11 @@ hear-requires c =
 pub returns-clause-comes : goal.returns-clause-comes
 returns-clause-comes c = λ books are.
     let (booked, is, heard) = is_found _ _ c.in-Some.check.now (found (is_at (nat_cmp c.args.account)) books c.args.map.now.entries are) (sym c.in-Some.ensures.value) in
-    let event = entry_data c.args.entry in
+    let entry = entry_data c.args.entry in
     let after = c.in_ok-hear.ensures.heard booked.opening booked.until (reverse booked.history) heard in
     rw (is, (c.get_mut.follows.holds c.hear.new.self).0)
-    (checks_set (is_at (nat_cmp c.args.account)) (record booked { history = booked.history ++ event ∷ [] }) c.hear.new.self
-    (rw (reverse-append booked.history (event ∷ [])) after) books c.args.map.now.entries are)
+    (checks_set (is_at (nat_cmp c.args.account)) (record booked { history = booked.history ++ entry ∷ [] }) c.hear.new.self
+    (rw (reverse-append booked.history (entry ∷ [])) after) books c.args.map.now.entries are)
 
 pub returns-clause-heard : goal.returns-clause-heard
 returns-clause-heard c = λ books are.

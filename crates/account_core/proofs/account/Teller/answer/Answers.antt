@@ -1,6 +1,6 @@
 use Rattle.std.proofs.Common.{refl, reverse, ◌∙◌}
 use Rattle.account_core.specs.Asked.{call_of}
-use Rattle.account_core.specs.Events.{asked_of}
+use Rattle.account_core.specs.Entries.{asked_of}
 use Rattle.account_core.specs.Kept.{known_of}
 use Rattle.account_core.specs.Known.{known}
 use Rattle.account_core.proofs.Answering.{funds_kept, reply_is_answer}

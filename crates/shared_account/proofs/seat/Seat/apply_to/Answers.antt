@@ -1,7 +1,7 @@
 use Rattle.std.proofs.Common.{◌≡◌, reverse, rules}
 use Rattle.std.proofs.lemmas.Result.{IfOk-weaker}
 use Rattle.std.specs.Prelude.{IfErr, IfOk, IsOk}
-use Rattle.account_core.specs.Events.{asked_of}
+use Rattle.account_core.specs.Entries.{asked_of}
 use Rattle.account_core.specs.Ledger.{IsRefusal, answer_of}
 use Rattle.account_core.specs.Places.{IsClosing}
 use Rattle.shared_account.proofs.Owning.{closing_alike}

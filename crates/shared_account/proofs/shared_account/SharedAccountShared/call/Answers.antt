@@ -1,5 +1,5 @@
 use Rattle.account_core.specs.Asked.{call_of}
-use Rattle.account_core.specs.Events.{asked_of}
+use Rattle.account_core.specs.Entries.{asked_of}
 use Rattle.shared_account.proofs.Seeing.{none_alone}
 use Rattle.shared_account.proofs.shared_account.SharedAccountShared.call.Goals as goal
 

@@ -1,7 +1,7 @@
 use Rattle.std.proofs.Common.{◌≡◌, ◌∷◌, ◌++◌, [], List, ap, sym, subst}
 use Rattle.std.specs.Prelude.{MatchResult}
-use Rattle.account_core.specs.Events.{EntryData, asked_of}
-use Rattle.account_core.specs.Ledger.{event_by}
+use Rattle.account_core.specs.Entries.{EntryData, asked_of}
+use Rattle.account_core.specs.Ledger.{entry_by}
 use Rattle.shared_account.specs.Own.{own}
 use Rattle.shared_account.specs.Plays.{Sitter}
 use Rattle.shared_account.specs.Prefixes.{IsPrefix}
@@ -12,7 +12,7 @@ use Rattle.shared_account.proofs.turn_account.TurnAccount.call.Goals as goal
 
 went : (g : Over) (c : goal.After-drop-door g) → HasGone c.seat.inside.chair.me.0 c.enter-result.new.chair.me.0
 went g c =
-    gone c.seat.inside.chair.me.0 c.take_turn.new.chair.me.0 c.take_turn.ensures.later c.enter-result.new.chair.me.0 (event_by c.seat.inside.number (asked_of c.args.op))
+    gone c.seat.inside.chair.me.0 c.take_turn.new.chair.me.0 c.take_turn.ensures.later c.enter-result.new.chair.me.0 (entry_by c.seat.inside.number (asked_of c.args.op))
     c.enter-result.result c.enter-result.ensures.entered c.enter-result.ensures.kept
 
 seen : (g : Over) (c : goal.After-drop-door g) → c.enter-result.new.chair.me.0.seen.history ≡ c.hand_on.new.chair.me.0.seen.history
@@ -34,8 +34,8 @@ returns-clause-own g c =
     let asked = asked_of c.args.op in
     let response = c.enter-result.result in
     let before : List EntryData = own number c.seat.inside.chair.me.0.seen.history in
-    let O : List EntryData → Type 0 = λ h. MatchResult response (λ reply. own number h ≡ before ++ event_by number asked reply ∷ []) (λ _. own number h ≡ before) in
+    let O : List EntryData → Type 0 = λ h. MatchResult response (λ reply. own number h ≡ before ++ entry_by number asked reply ∷ []) (λ _. own number h ≡ before) in
     let S : TurnSeatView → Type 0 = λ s. let now = own number c.hand_on.new.chair.me.0.seen.history in
-    MatchResult response (λ reply. now ≡ own_of s ++ event_by s.number asked reply ∷ []) (λ _. now ≡ own_of s) in
+    MatchResult response (λ reply. now ≡ own_of s ++ entry_by s.number asked reply ∷ []) (λ _. now ≡ own_of s) in
     subst S c.seat.view_is (subst O (seen g c) (owns c.seat.inside.chair.me.0 c.take_turn.new.chair.me.0 c.take_turn.ensures.later c.enter-result.new.chair.me.0 asked number response
     c.seat.invariant.number c.enter-result.ensures.entered c.enter-result.ensures.kept))

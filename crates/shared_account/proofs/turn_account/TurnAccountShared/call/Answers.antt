@@ -1,6 +1,6 @@
-use Rattle.account_core.specs.Events.{asked_of}
+use Rattle.account_core.specs.Entries.{asked_of}
 use Rattle.shared_account.proofs.Calls.{ends_kindly}
-use Rattle.account_core.specs.Ledger.{event_by}
+use Rattle.account_core.specs.Ledger.{entry_by}
 use Rattle.shared_account.specs.TurnViews.{own_of}
 use Rattle.shared_account.proofs.Seeing.{closes_alone}
 use Rattle.shared_account.proofs.Refusing.{returned_by}
@@ -14,4 +14,4 @@ returns-clause-returning g c return closing = returned_by c.call.new.seat.view (
 
 pub returns-clause-closing : goal.returns-clause-closing
 returns-clause-closing g c alone closes =
-    closes_alone c.call.new.seat (own_of c.args.seat.now) (event_by c.args.seat.now.number (asked_of c.args.op)) (asked_of c.args.op) c.call.result c.call.ensures.own c.call.ensures.closing alone closes
+    closes_alone c.call.new.seat (own_of c.args.seat.now) (entry_by c.args.seat.now.number (asked_of c.args.op)) (asked_of c.args.op) c.call.result c.call.ensures.own c.call.ensures.closing alone closes
