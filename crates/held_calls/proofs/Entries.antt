@@ -13,7 +13,7 @@ use Rattle.account_core.specs.declared.entry.Reply.{Reply}
 use Rattle.dialogue_core.specs.Phases.{Phase, Says, Asks, Sends, Finished}
 use Rattle.dialogue_core.specs.Runs.{IsHonest}
 use Rattle.dialogue_core.specs.Talks.{Got, after_got, is_ask, talked}
-use Rattle.held_calls.proofs.Tables.{Stands, facts_after, got_stands}
+use Rattle.held_calls.proofs.Rules.{Stands, facts_after, got_stands}
 use Rattle.held_calls.specs.Held.{entries_at, facts_at}
 use Rattle.shared_account.proofs.Knowing.{known_here}
 use Rattle.shared_account.proofs.Owning.{known_alike}

@@ -9,7 +9,7 @@ use Rattle.account_core.specs.Entries.{EntryData}
 use Rattle.cap_values.specs.declared.message.SsfMsg.{SsfMsg}
 use Rattle.cap_values.specs.declared.message.SsfMsg.TheVariants as msg
 use Rattle.dialogue_core.specs.Phases.{Phase, FirstAsk, Running, Settling, MoreAsk, Returning, Ending, Closed, Asks}
-use Rattle.dialogue_core.specs.Table.{Step, on_begin}
+use Rattle.dialogue_core.specs.Rules.{Step, on_begin}
 use Rattle.held_calls.proofs.Entries.{IsHonestEntry, credit_entry, grown_apart}
 use Rattle.held_calls.proofs.Holding.{AreKept, IsUnmoved, SameEntries, first_kept, kept_once, same_lists, talk_apart}
 use Rattle.held_calls.proofs.Messages.{own_step}

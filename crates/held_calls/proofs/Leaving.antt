@@ -15,12 +15,12 @@ use Rattle.cap_values.specs.Orders.{Pay}
 use Rattle.dialogue_core.specs.Phases as phase
 use Rattle.dialogue_core.specs.Phases.{Conditions, Phase, Says, Sequel, FirstAsk, Running, Settling, MoreAsk, Returning, Ending, Closed, Asks, Sends, Finished}
 use Rattle.dialogue_core.specs.Runs.{IsHonest}
-use Rattle.dialogue_core.specs.Table.{are_units, on_reply, sequel}
+use Rattle.dialogue_core.specs.Rules.{are_units, on_reply, sequel}
 use Rattle.dialogue_core.specs.Talks.{Got, after_got, is_ask, or_done, talked}
 use Rattle.dialogue_core.specs.declared.fault.DialogueFault.TheVariants.{Unexpected}
 use Rattle.held_calls.proofs.Entries.{IsHonestEntry, talk_stands}
 use Rattle.held_calls.proofs.Steps.{is_running}
-use Rattle.held_calls.proofs.Tables.{Awaits, Fits, Stands}
+use Rattle.held_calls.proofs.Rules.{Awaits, Fits, Stands}
 use Rattle.held_calls.specs.Held.{IsShown}
 use Rattle.runs_core.proofs.Listed.{all_first, all_later}
 use Rattle.tariff_core.specs.declared.times.TheConstants.{DAY}

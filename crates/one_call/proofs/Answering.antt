@@ -9,7 +9,7 @@ use Rattle.account_core.specs.declared.entry.Reply.{Reply}
 use Rattle.account_core.specs.declared.fault.AccountFault.{AccountFault}
 use Rattle.cap_values.specs.Orders.{Order, Paid, paid_by}
 use Rattle.dialogue_core.specs.Phases.{Phase, Says, Asks, Sends, Finished}
-use Rattle.dialogue_core.specs.Table.{Step, on_reply, on_refusal}
+use Rattle.dialogue_core.specs.Rules.{Step, on_reply, on_refusal}
 use Rattle.dialogue_core.specs.Talks.{AreGot, Gets, Got, IsTalkedOut, after_got, is_ask, or_done, orders_sent_by, talked}
 use Rattle.ssf_core.specs.Meters.{Meter}
 use Rattle.one_call.specs.Asks.{IsAskedOnce}

@@ -13,7 +13,7 @@ use Rattle.cap_values.specs.declared.mode.Mode.{Mode}
 use Rattle.cap_values.specs.declared.number.Number.{Number}
 use Rattle.dialogue_core.specs.Phases.{Conditions, Phase, Says, Sequel, FirstAsk, Running, Settling, MoreAsk, Returning, Ending, Closed, Asks, Sends, Finished}
 use Rattle.dialogue_core.specs.Phases as phase
-use Rattle.dialogue_core.specs.Table.{Step, are_units, going_on, on_begin, on_message, on_refusal, on_reply, while_running, sequel}
+use Rattle.dialogue_core.specs.Rules.{Step, are_units, going_on, on_begin, on_message, on_refusal, on_reply, while_running, sequel}
 use Rattle.dialogue_core.specs.Talks.{Got, after_got, is_ask, or_done, orders_sent_by, talked}
 use Rattle.dialogue_core.specs.declared.fault.DialogueFault.TheVariants.{Unexpected}
 use Rattle.part_laws.specs.Numbers.{unnumbered, without_number, without_numbers}

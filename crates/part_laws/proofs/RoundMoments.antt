@@ -21,7 +21,7 @@ use Rattle.ssf_core.specs.Calls.{Advances, AreExpiries, IsExpiry, IsNextDue, Run
 use Rattle.ssf_core.specs.Happenings.{Expired, Happening, Took, What, sent_at, sent_in}
 use Rattle.ssf_core.specs.Inputs.{meets, operates}
 use Rattle.ssf_core.specs.Quantities.{last_happening_moment}
-use Rattle.ssf_core.specs.Table.{Effect, on_input}
+use Rattle.ssf_core.specs.Rules.{Effect, on_input}
 use Rattle.ssf_core.specs.Traces.{ComesBefore, HasEffect, IsTrace, MayFollow, due, phase_after}
 use Rattle.ssf_core.specs.declared.config.SsfConfig.{SsfConfig}
 use Rattle.ssf_core.specs.declared.deliveries.Delivery.{Delivery}

@@ -1,11 +1,11 @@
--- An expiry is the table's, and the trace goes on by it.
+-- An expiry is by the rules, and the trace goes on by it.
 use Rattle.std.proofs.Common.{◌≡◌, ◌+◌, ◌≤◌, ◌++◌, ℕ, Some, List, [], ◌∷◌, refl, sym, ap, ◌∙◌, append_assoc, arith}
 use Rattle.ssf_core.specs.Happenings.{Happening, Expired, sent_at, sent_in}
 use Rattle.ssf_core.specs.Running.{HasExpired}
 use Rattle.ssf_core.specs.Stages.{IsChargingTimely, IsSwitchTimely, IsTimelyStage, due_by, next_expiry_of, stage_due, switch_due_of, tccd_due_of, tcp_due_of}
 use Rattle.ssf_core.specs.Stands.{StageMatches, StageStands, ssf_phase_of, running_period}
 use Rattle.ssf_core.specs.Steps.{Expires}
-use Rattle.ssf_core.specs.Table.{on_expiry}
+use Rattle.ssf_core.specs.Rules.{on_expiry}
 use Rattle.ssf_core.specs.Traces.{MayFollow, due, due_in, period_due, phase_after}
 use Rattle.ssf_core.specs.declared.config.SsfConfig.{SsfConfig}
 use Rattle.ssf_core.specs.declared.item.Item.{Item}
@@ -102,7 +102,7 @@ due_in-stage config t stage.Ended Tssf m = refl
 pub due-stage : (config : SsfConfig) (last : ℕ) (s : Stage) (t : List Happening) (timer : Timer) → StageStands config last s t → due config t timer ≡ stage_due s timer
 due-stage config last s t timer st = ap (λ p. due_in config t p timer) st.phase ∙ due_in-stage config t s timer st.data'
 
--- the expiry that is next, as the table has it
+-- the expiry that is next, as the rules have it
 abbrev pub next_happening : SsfConfig → List Happening → Expiry → Happening
 next_happening config t e = record {
   at = e.due;

@@ -18,7 +18,7 @@ use Rattle.ssf_core.specs.Happenings.{Happening, What, Took, Expired, sent_at, s
 use Rattle.ssf_core.specs.Laws.{InitialDpIsFirst, IsNoInitialDp}
 use Rattle.ssf_core.specs.Phases.{SsfPhase, Unused, Requested, Initial, Setup, Active, Down, Ended}
 use Rattle.ssf_core.specs.Quantities.{answered, granted, mode_at, pending, period_end}
-use Rattle.ssf_core.specs.Table.{Effect, sent_before, any_watched, by_mode, ends, first_period, further_period, goes, is_fitting, last_report_sent, notified, on_abandon, on_answer, on_apply_charging, on_continue, on_disconnect, on_event, on_expiry, on_failure, on_input, on_invoke, on_operation, on_period_end, on_release_call, on_request_report, on_trigger, on_tssf, report}
+use Rattle.ssf_core.specs.Rules.{Effect, sent_before, any_watched, by_mode, ends, first_period, further_period, goes, is_fitting, last_report_sent, notified, on_abandon, on_answer, on_apply_charging, on_continue, on_disconnect, on_event, on_expiry, on_failure, on_input, on_invoke, on_operation, on_period_end, on_release_call, on_request_report, on_trigger, on_tssf, report}
 use Rattle.ssf_core.specs.Traces.{HasEffect, IsTrace, due_in, next_phase, phase_after}
 use Rattle.ssf_core.specs.declared.item.BcsmEvent.{BcsmEvent}
 use Rattle.ssf_core.specs.declared.item.BcsmEvent.TheVariants as met
@@ -37,7 +37,7 @@ use Rattle.ssf_core.specs.declared.timers.Timer.TheVariants.{Tsw, Tcp, Tccd, Tss
 IsNone : Out → Type 0
 IsNone out = IsNoInitialDp out.item
 
--- ---- what the table sends after the trigger
+-- ---- what the rules send after the trigger
 
 -- none of these items is an InitialDP
 abbrev NoneOf : List Item → Type 0

@@ -18,7 +18,7 @@ use Rattle.ssf_core.specs.Laws.{AllFit, EachReportFits, ItemFits, FitsTrace, per
 use Rattle.ssf_core.specs.Phases.{SsfPhase, Unused, Requested, Initial, Setup, Active, Down, Ended}
 use Rattle.ssf_core.specs.Quantities.{answered, answered_after, granted, mode_at, pending, pending_after, period_end, period_end_after, switched}
 use Rattle.ssf_core.specs.Split.{split}
-use Rattle.ssf_core.specs.Table.{Effect, sent_before, any_watched, by_mode, ends, first_period, further_period, goes, is_fitting, last_report_sent, notified, on_abandon, on_answer, on_apply_charging, on_continue, on_disconnect, on_expiry, on_failure, on_input, on_invoke, on_period_end, on_release_call, on_request_report, on_trigger, on_tssf, report}
+use Rattle.ssf_core.specs.Rules.{Effect, sent_before, any_watched, by_mode, ends, first_period, further_period, goes, is_fitting, last_report_sent, notified, on_abandon, on_answer, on_apply_charging, on_continue, on_disconnect, on_expiry, on_failure, on_input, on_invoke, on_period_end, on_release_call, on_request_report, on_trigger, on_tssf, report}
 use Rattle.ssf_core.specs.Traces.{ComesBefore, HasEffect, IsTrace, due, due_in, next_phase, period_due, phase_after, tcp_due}
 use Rattle.ssf_core.specs.declared.item.BcsmEvent.TheVariants as met
 use Rattle.ssf_core.specs.declared.config.DefaultHandling.{DefaultHandling}

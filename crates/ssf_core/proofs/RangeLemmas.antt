@@ -22,7 +22,7 @@ use Rattle.ssf_core.specs.Laws.{AllFit, ItemIsInRange, ItemFits, ReportsAreInRan
 use Rattle.ssf_core.specs.Phases.{SsfPhase, Unused, Requested, Initial, Setup, Active, Down, Ended}
 use Rattle.ssf_core.specs.Quantities.{answered, granted, granted_after, last_happening_moment, mode_at, pending, pending_after, period_end, switched, switched_after}
 use Rattle.ssf_core.specs.Split.{split}
-use Rattle.ssf_core.specs.Table.{Effect, sent_before, any_watched, by_mode, ends, first_period, further_period, goes, is_fitting, last_report_sent, on_abandon, on_answer, on_apply_charging, on_continue, on_disconnect, on_expiry, on_failure, on_input, on_invoke, on_period_end, on_release_call, on_request_report, on_trigger, on_tssf}
+use Rattle.ssf_core.specs.Rules.{Effect, sent_before, any_watched, by_mode, ends, first_period, further_period, goes, is_fitting, last_report_sent, on_abandon, on_answer, on_apply_charging, on_continue, on_disconnect, on_expiry, on_failure, on_input, on_invoke, on_period_end, on_release_call, on_request_report, on_trigger, on_tssf}
 use Rattle.ssf_core.specs.Traces.{HasEffect, IsTrace, next_phase, phase_after}
 use Rattle.ssf_core.specs.declared.item.BcsmEvent.{BcsmEvent}
 use Rattle.ssf_core.specs.declared.item.BcsmEvent.TheVariants as met

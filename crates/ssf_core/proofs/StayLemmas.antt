@@ -6,7 +6,7 @@ use Rattle.ssf_core.specs.Happenings.{Happening, What, Took, Expired}
 use Rattle.ssf_core.specs.Laws.{TheAnswerStays, TheSwitchStays}
 use Rattle.ssf_core.specs.Phases.{SsfPhase, Unused, Requested, Initial, Setup, Active, Down, Ended}
 use Rattle.ssf_core.specs.Quantities.{answered, answered_after, mode_at, switch_due, switched, switched_after}
-use Rattle.ssf_core.specs.Table.{Effect, on_answer}
+use Rattle.ssf_core.specs.Rules.{Effect, on_answer}
 use Rattle.ssf_core.specs.Traces.{HasEffect, awaited_switch, phase_after, tsw_due}
 use Rattle.ssf_core.specs.declared.item.BcsmEvent.TheVariants as met
 use Rattle.ssf_core.specs.declared.config.SsfConfig.{SsfConfig}

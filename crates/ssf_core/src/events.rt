@@ -1,4 +1,4 @@
-//! The events of the call, in the order of the table.
+//! The events of the call, in the order of the rules.
 
 ghost use Rattle.std.specs.Prelude.{◌≡◌, ◌+◌, ◌++◌, ◌≤◌, ◌∷◌, ℕ, List, None};
 ghost use Rattle.std.specs.Result.{result_unwrap_or};
@@ -8,7 +8,7 @@ ghost use Rattle.ssf_core.specs.Quantities.{mode_at};
 ghost use Rattle.ssf_core.specs.Stages.{IsActiveTimely, IsSwitchTimely, IsTimelyStage, tccd_due_of};
 ghost use Rattle.ssf_core.specs.Stands.{ActiveMatches, SetupMatches, StageMatches, period_of, ssf_phase_of, release_of, running_period};
 ghost use Rattle.ssf_core.specs.Steps.{IsTakenInput, TakesInput};
-ghost use Rattle.ssf_core.specs.Table.{ends, notified, on_failure};
+ghost use Rattle.ssf_core.specs.Rules.{ends, notified, on_failure};
 ghost use Rattle.ssf_core.specs.declared.config.SsfConfig.{SsfConfig as Config};
 ghost use Rattle.ssf_core.specs.declared.item.Item.{Item};
 ghost use Rattle.ssf_core.specs.declared.ssf.Input.{Input};

@@ -1,11 +1,11 @@
-//! The operations of the service, in the order of the table.
+//! The operations of the service, in the order of the rules.
 
 ghost use Rattle.std.specs.Prelude.{◌≡◌, ◌+◌, ◌≤◌, ℕ, List, Ok, Err, Some, None, IsSome};
 ghost use Rattle.std.specs.Result.{result_unwrap_or};
 ghost use Rattle.arrayvec.specs.ArrayVec.{array_vec_len};
 ghost use Rattle.ssf_core.specs.Stages.{IsActiveTimely, IsSwitchTimely, IsTimelyStage, started, tccd_due_of};
 ghost use Rattle.ssf_core.specs.Steps.{TakesInput};
-ghost use Rattle.ssf_core.specs.Table.{is_fitting};
+ghost use Rattle.ssf_core.specs.Rules.{is_fitting};
 ghost use Rattle.ssf_core.specs.declared.config.SsfConfig.{SsfConfig as Config};
 ghost use Rattle.ssf_core.specs.declared.item.Out.{Out as Sent};
 ghost use Rattle.ssf_core.specs.declared.ssf.Input.TheVariants as taken;

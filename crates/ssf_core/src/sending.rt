@@ -2,7 +2,7 @@
 
 ghost use Rattle.std.specs.Prelude.{◌≡◌, ◌+◌, ◌++◌, ◌<◌, ◌≤◌, ◌∷◌, ◌-◌, [], ℕ, List};
 ghost use Rattle.ssf_core.specs.Happenings.{Happening, Took, sent_at};
-ghost use Rattle.ssf_core.specs.Table.{by_mode, ends, event_report, last_report_sent, notified, report};
+ghost use Rattle.ssf_core.specs.Rules.{by_mode, ends, event_report, last_report_sent, notified, report};
 ghost use Rattle.ssf_core.specs.Split.{split};
 ghost use Rattle.ssf_core.specs.Stages.{IsActiveTimely, IsSwitchTimely, IsTimelyStage, passed_switch};
 ghost use Rattle.ssf_core.specs.Stands.{ActiveMatches};

@@ -25,7 +25,7 @@ use tariff_core::HORIZON;
 ///
 /// Every call first compares its moment with the last one: a lesser one is `TimeBackwards` and
 /// changes nothing. Then all timers due by it expire, each as of its due moment, and then the input
-/// is taken or refused by the table.
+/// is taken or refused by the rules.
 #[derive(Drop)]
 pub struct Ssf {
     config: SsfConfig,

@@ -5,13 +5,13 @@ ghost use Rattle.ssf_core.specs.Phases.{state_of_phase};
 ghost use Rattle.ssf_core.specs.Stages.{started};
 ghost use Rattle.ssf_core.specs.Stands.{ssf_phase_of};
 ghost use Rattle.ssf_core.specs.Modes.{armed_modes, modes_at};
-ghost use Rattle.ssf_core.specs.Table.{any_watched, is_watched};
+ghost use Rattle.ssf_core.specs.Rules.{any_watched, is_watched};
 
 use crate::Moment;
 use cap_values::{Arms, Charge, Leg, Mode, Point};
 use tariff_core::HORIZON;
 
-/// A state of the table, with its phase.
+/// A state of the call, with its phase.
 #[derive(Clone, Copy)]
 pub(crate) enum Stage {
     /// Idle, never invoked.

@@ -5,7 +5,7 @@ ghost use Rattle.ssf_core.specs.Happenings.{Happening, sent_at};
 ghost use Rattle.ssf_core.specs.Running.{Runs};
 ghost use Rattle.ssf_core.specs.Stages.{IsQuiet, IsTimelyStage, IsActiveTimely, IsBounded, due_by, expiries_left, expiry_of, items_left, expiry_moment, next_expiry_of, sooner_of, stage_due, switch_due_of, tccd_due_of, tcp_due_of};
 ghost use Rattle.ssf_core.specs.Steps.{Expires};
-ghost use Rattle.ssf_core.specs.Table.{on_tssf};
+ghost use Rattle.ssf_core.specs.Rules.{on_tssf};
 ghost use Rattle.ssf_core.specs.declared.config.SsfConfig.{SsfConfig as Config};
 ghost use Rattle.ssf_core.specs.declared.item.Out.{Out as Sent};
 ghost use Rattle.arrayvec.specs.ArrayVec.{array_vec_len};

@@ -12,7 +12,7 @@ use Rattle.cap_values.specs.declared.message.SsfMsg.{SsfMsg}
 use Rattle.cap_values.specs.declared.message.SsfMsg.TheVariants as msg
 use Rattle.cap_values.specs.declared.number.Number.{Number}
 use Rattle.dialogue_core.specs.Phases.{Conditions, Phase, Says, FirstAsk, Running, Asks}
-use Rattle.dialogue_core.specs.Table.{on_begin, conditions, reserve, on_message}
+use Rattle.dialogue_core.specs.Rules.{on_begin, conditions, reserve, on_message}
 use Rattle.tariff_core.specs.Routes.{HasNoRoute}
 use Rattle.tariff_core.specs.declared.route.Route.{Route}
 use Rattle.workers_core.proofs.Chaining.{all_sound, first_sound}

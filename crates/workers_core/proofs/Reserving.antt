@@ -16,7 +16,7 @@ use Rattle.cap_values.specs.declared.number.Number.{Number}
 use Rattle.cap_values.specs.declared.mode.Mode.TheVariants.{Interrupted, NotifyAndContinue, Transparent}
 use Rattle.dialogue_core.specs.Phases.{Conditions, Phase, Says, Sequel, FirstAsk, Running, Settling, MoreAsk, Returning, Ending, Closed, Asks, Sends, Finished}
 use Rattle.dialogue_core.specs.Phases as phase
-use Rattle.dialogue_core.specs.Table.{Step, are_units, on_begin, on_reply, sequel, on_message, on_refusal}
+use Rattle.dialogue_core.specs.Rules.{Step, are_units, on_begin, on_reply, sequel, on_message, on_refusal}
 use Rattle.dialogue_core.specs.declared.fault.DialogueFault.TheVariants.{Unexpected}
 use Rattle.tariff_core.specs.Rates.{Rates}
 use Rattle.tariff_core.specs.RatesOf.{rates_of}

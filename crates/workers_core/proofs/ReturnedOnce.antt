@@ -13,7 +13,7 @@ use Rattle.cap_values.specs.declared.message.SsfMsg.{SsfMsg}
 use Rattle.cap_values.specs.declared.message.SsfMsg.TheVariants as msg
 use Rattle.dialogue_core.specs.Phases.{Conditions, Phase, Says, Sequel, Running, Returning, Asks}
 use Rattle.dialogue_core.specs.Phases as phase
-use Rattle.dialogue_core.specs.Table.{Step, going_on, on_begin, on_message}
+use Rattle.dialogue_core.specs.Rules.{Step, going_on, on_begin, on_message}
 use Rattle.workers_core.proofs.OwnCalls.{SaysOf, TakesTo, begun_about, begun_says, takes_answer}
 use Rattle.workers_core.proofs.Asking.{taken_on}
 use Rattle.workers_core.proofs.AtRest.{nothing_asked}

@@ -10,7 +10,7 @@ use Rattle.cap_values.specs.NumberDigits.{digits_of_number}
 use Rattle.cap_values.specs.Orders.{Release}
 use Rattle.cap_values.specs.declared.number.Number.{Number}
 use Rattle.dialogue_core.specs.Phases.{Phase, Says, Asks}
-use Rattle.dialogue_core.specs.Table.{on_begin}
+use Rattle.dialogue_core.specs.Rules.{on_begin}
 use Rattle.dialogue_core.specs.Views.{phase_of, says_of}
 use Rattle.shared_account.specs.Refusals.{IsRefusedAt, Knowing, Refusal}
 use Rattle.shared_account.specs.Seats.{Reads}

@@ -11,7 +11,7 @@ ghost use Rattle.workers_core.specs.Workers.{IsReady, accounts_of, holding, numb
 ghost use Rattle.workers_core.specs.Calls.{AreCalled};
 ghost use Rattle.workers_core.specs.Cases.{IsCase};
 ghost use Rattle.cap_values.specs.Orders.{Release, orders_of};
-ghost use Rattle.dialogue_core.specs.Table.{on_message};
+ghost use Rattle.dialogue_core.specs.Rules.{on_message};
 ghost use Rattle.dialogue_core.specs.Views.{phase_of};
 ghost use Rattle.run_values.specs.Setups.{place_of};
 

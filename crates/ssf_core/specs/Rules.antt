@@ -1,4 +1,4 @@
--- The table of the gsmSSF (GSM 03.78): what is sent, and the phase that follows.
+-- The rules of the gsmSSF (GSM 03.78): what is sent, and the phase that follows.
 use Rattle.std.specs.Prelude.{◌+◌, ◌++◌, ◌||◌, ◌&&◌, ℕ, Bool, true, false, Option, Some, None, Result, Ok, Err, List, [], ◌∷◌, if◌then◌else◌, is_some, nat_le, nat_lt, unwrap_or}
 use Rattle.cap_values.specs.CauseValues.{normal_call_clearing, temporary_failure}
 use Rattle.cap_values.specs.declared.arming.Point.{Point}

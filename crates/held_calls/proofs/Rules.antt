@@ -12,7 +12,7 @@ use Rattle.cap_values.specs.declared.message.SsfMsg.TheVariants as msg
 use Rattle.cap_values.specs.declared.mode.Mode.TheVariants.{Interrupted, NotifyAndContinue, Transparent}
 use Rattle.dialogue_core.specs.Phases as phase
 use Rattle.dialogue_core.specs.Phases.{Conditions, Phase, Says, Sequel, FirstAsk, Running, Settling, MoreAsk, Returning, Ending, Closed, Asks, Sends, Finished}
-use Rattle.dialogue_core.specs.Table.{Step, are_units, on_begin, on_message, on_refusal, on_reply, sequel}
+use Rattle.dialogue_core.specs.Rules.{Step, are_units, on_begin, on_message, on_refusal, on_reply, sequel}
 use Rattle.dialogue_core.specs.Talks.{Got, after_got, or_done}
 use Rattle.dialogue_core.specs.declared.fault.DialogueFault.TheVariants.{Unexpected}
 use Rattle.held_calls.specs.Held.{IsShown}

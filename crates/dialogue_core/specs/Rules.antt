@@ -1,4 +1,4 @@
--- The table of the service: the turn and the next state for each input.
+-- The rules of the service: the turn and the next state for each input.
 use Rattle.std.specs.Prelude.{◌-◌, ◌&&◌, ℕ, Bool, true, false, Option, Some, None, Result, Ok, Err, [], ◌∷◌, if◌then◌else◌, nat_le}
 use Rattle.std.specs.Int.{div_ceil}
 use Rattle.account_core.specs.Asked.{Asked, Reserves, Settles, Returns}
