@@ -3,10 +3,10 @@ use Rattle.std.specs.Prelude.{◌+◌, Bool, List, ◌++◌, Ok, ℕ}
 use Rattle.table_core.specs.Rows.{Fields}
 use Rattle.rating.specs.Lines.{header_line}
 use Rattle.rating.specs.Texts.{IsRatedText, RateInput}
-use Rattle.rating.specs.declared.tally.Tally.{Tally}
+use Rattle.rating.specs.declared.score.Score.{Score}
 
 -- what is counted of two parts
-abbrev pub together : Tally → Tally → Tally
+abbrev pub together : Score → Score → Score
 together one other = record {
   rows = one.rows + other.rows;
   differing = one.differing + other.differing;
@@ -24,7 +24,7 @@ with_rows input rows = record input { rows = rows }
 -- behind the header the lines of some rows and of those after them are the lines of all, and what is counted adds up
 abbrev pub PartsAreRated : Type 0
 PartsAreRated =
-    (differing : Bool) (input : RateInput) (front back : List Fields) (first second : List ℕ) (one other : Tally)
+    (differing : Bool) (input : RateInput) (front back : List Fields) (first second : List ℕ) (one other : Score)
     → IsRatedText differing (Ok (with_rows input front)) (header_line input.header ++ first) one
     → IsRatedText differing (Ok (with_rows input back)) (header_line input.header ++ second) other
     → IsRatedText differing (Ok (with_rows input (front ++ back))) (header_line input.header ++ (first ++ second)) (together one other)

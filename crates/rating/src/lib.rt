@@ -13,7 +13,7 @@ mod line;
 mod place;
 mod rated;
 mod rating;
-mod tally;
+mod score;
 mod writing;
 
 pub use ask::{Names, RateAsk, Times};
@@ -22,5 +22,5 @@ pub use fault::RateFault;
 pub use kind::RateKind;
 pub use laws::parts_are_rated;
 pub use rating::rate;
-pub use tally::Tally;
+pub use score::Score;
 pub use writing::write_text;

@@ -25,19 +25,19 @@ pub record Counts (settles returns most owed : ℕ) (granted was : Bool) : Type 
 abbrev owed_by : Bool → ℕ
 owed_by granted = if granted then 1 else 0
 
-abbrev Tally : Phase → ℕ → ℕ → Bool → Type 0
-Tally (FirstAsk t) s r g = Counts s r 0 0 g false
-Tally (Running t) s r g = Counts s r 0 0 g true
-Tally (Settling t active since) s r g = Counts s r 1 0 g true
-Tally (MoreAsk t) s r g = Counts s r 1 0 g true
-Tally (Returning after) s r g = Counts s r 1 1 g true
-Tally Ending s r g = Counts s r 1 (owed_by g) g g
-Tally Closed s r g = Counts s r 1 (owed_by g) g g
+abbrev PhaseCounts : Phase → ℕ → ℕ → Bool → Type 0
+PhaseCounts (FirstAsk t) s r g = Counts s r 0 0 g false
+PhaseCounts (Running t) s r g = Counts s r 0 0 g true
+PhaseCounts (Settling t active since) s r g = Counts s r 1 0 g true
+PhaseCounts (MoreAsk t) s r g = Counts s r 1 0 g true
+PhaseCounts (Returning after) s r g = Counts s r 1 1 g true
+PhaseCounts Ending s r g = Counts s r 1 (owed_by g) g g
+PhaseCounts Closed s r g = Counts s r 1 (owed_by g) g g
 
--- a step keeps the tally
+-- a step keeps the counts
 abbrev Keeps : Input → ℕ → ℕ → Bool → Step → Type 0
 Keeps input s r g (Ok next) =
-    Tally next.1 (if is_grant_input input then settles_in next.0 else settles_in next.0 + s) (returns_in next.0 + r) (is_grant_input input || g)
+    PhaseCounts next.1 (if is_grant_input input then settles_in next.0 else settles_in next.0 + s) (returns_in next.0 + r) (is_grant_input input || g)
 Keeps input s r g (Err fault) = ⊤
 
 -- the end of a return
@@ -132,7 +132,7 @@ keeps_return after (Settled p a) s r g c = tt
 keeps_return after (Forfeit p a) s r g c = tt
 keeps_return after (Returned p a) s r g c = ends after s r g c.settled c.returned c.grants (Answer (Returned p a)) refl
 
-keeps : (phase : Phase) (input : Input) (s r : ℕ) (g : Bool) → Tally phase s r g → Keeps input s r g (step phase input)
+keeps : (phase : Phase) (input : Input) (s r : ℕ) (g : Bool) → PhaseCounts phase s r g → Keeps input s r g (step phase input)
 keeps (FirstAsk t) (Message number at message) s r g c = tt
 keeps (FirstAsk t) (Answer reply) s r g c = keeps_first t reply s r g c
 keeps (FirstAsk t) Refusal s r g c = rw c.grants (record { settled = omega (arith, c.settled); returned = omega (arith, c.returned); grants = refl })
@@ -156,18 +156,18 @@ keeps Closed (Message number at message) s r g c = tt
 keeps Closed (Answer reply) s r g c = tt
 keeps Closed Refusal s r g c = tt
 
-begins : (call now wanted least : ℕ) (route : Option Route) → Tally (on_begin call now wanted least route).1 0 0 false
+begins : (call now wanted least : ℕ) (route : Option Route) → PhaseCounts (on_begin call now wanted least route).1 0 0 false
 begins call now wanted least None = record { settled = omega arith; returned = refl; grants = refl }
 begins call now wanted least (Some route) = record { settled = omega arith; returned = refl; grants = refl }
 
--- the tally of a run
-pub tally : (call now wanted least : ℕ) (route : Option Route) (run : List Exchange) (phase : Phase) → IsDialogueRun (on_begin call now wanted least route) run phase
-    → Tally phase (settles_since_grant run) (returns_asked run) (was_granted run)
-tally call now wanted least route [] phase is = rw (← is) (begins call now wanted least route)
-tally call now wanted least route (exchange ∷ earlier) phase (before, runs, is) =
-    rw is at (keeps before exchange.input _ _ _ (tally call now wanted least route earlier before runs))
+-- the counts of a run
+pub phase_counts : (call now wanted least : ℕ) (route : Option Route) (run : List Exchange) (phase : Phase) → IsDialogueRun (on_begin call now wanted least route) run phase
+    → PhaseCounts phase (settles_since_grant run) (returns_asked run) (was_granted run)
+phase_counts call now wanted least route [] phase is = rw (← is) (begins call now wanted least route)
+phase_counts call now wanted least route (exchange ∷ earlier) phase (before, runs, is) =
+    rw is at (keeps before exchange.input _ _ _ (phase_counts call now wanted least route earlier before runs))
 
-settled_once : (phase : Phase) (s r : ℕ) (g : Bool) → Tally phase s r g → s ≤ 1
+settled_once : (phase : Phase) (s r : ℕ) (g : Bool) → PhaseCounts phase s r g → s ≤ 1
 settled_once (FirstAsk t) s r g c = omega (arith, c.settled)
 settled_once (Running t) s r g c = omega (arith, c.settled)
 settled_once (Settling t active since) s r g c = c.settled
@@ -178,9 +178,9 @@ settled_once Closed s r g c = c.settled
 
 pub one_settle : (call now wanted least : ℕ) (route : Option Route) (run : List Exchange) (phase : Phase) → IsDialogueRun (on_begin call now wanted least route) run phase
     → settles_since_grant run ≤ 1
-one_settle call now wanted least route run phase is = settled_once phase _ _ _ (tally call now wanted least route run phase is)
+one_settle call now wanted least route run phase is = settled_once phase _ _ _ (phase_counts call now wanted least route run phase is)
 
-returned_once : (phase : Phase) (s r : ℕ) (g : Bool) → Tally phase s r g → is_over phase ≡ true → r ≡ owed_by g
+returned_once : (phase : Phase) (s r : ℕ) (g : Bool) → PhaseCounts phase s r g → is_over phase ≡ true → r ≡ owed_by g
 returned_once (FirstAsk t) s r g c over = cc
 returned_once (Running t) s r g c over = cc
 returned_once (Settling t active since) s r g c over = cc
@@ -191,4 +191,4 @@ returned_once Closed s r g c over = c.returned
 
 pub one_return : (call now wanted least : ℕ) (route : Option Route) (run : List Exchange) (phase : Phase) → IsDialogueRun (on_begin call now wanted least route) run phase
     → is_over phase ≡ true → returns_asked run ≡ (if was_granted run then 1 else 0)
-one_return call now wanted least route run phase is over = returned_once phase _ _ _ (tally call now wanted least route run phase is) over
+one_return call now wanted least route run phase is over = returned_once phase _ _ _ (phase_counts call now wanted least route run phase is) over

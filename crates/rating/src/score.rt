@@ -2,13 +2,13 @@
 
 ghost use Rattle.std.specs.Prelude.{◌≡◌, ◌<◌, ◌+◌, ◌-◌, ◌^◌};
 ghost use Rattle.rating.specs.SaidOf.{rating_of};
-ghost use Rattle.rating.specs.Tallies.{IsBoundedTally, counted, no_rows, passes};
+ghost use Rattle.rating.specs.Scores.{IsBoundedScore, counted, no_rows, passes};
 
 use crate::rated::Rated;
 
 /// What is counted of the rows that were rated, printed or not.
 #[derive(Clone, Copy, Debug, PartialEq, Eq)]
-pub struct Tally {
+pub struct Score {
     /// The rows, but for the header.
     pub rows: u64,
     /// Those that were charged another amount than their price.
@@ -25,13 +25,13 @@ pub struct Tally {
     pub over: u128,
 }
 
-impl Tally {
+impl Score {
     /// Before the first row.
-    pub(crate) fn new() -> Tally
+    pub(crate) fn new() -> Score
         ensures exact { result ≡ no_rows }
-        ensures bounded { IsBoundedTally result }
+        ensures bounded { IsBoundedScore result }
     {
-        Tally {
+        Score {
             rows: 0,
             differing: 0,
             faults: 0,
@@ -44,7 +44,7 @@ impl Tally {
 
     /// Whether all rows are right.
     pub fn passes(&self) -> bool
-        requires { IsBoundedTally self.now }
+        requires { IsBoundedScore self.now }
         ensures { result ≡ passes self.now }
     {
         self.differing == 0 && self.faults == 0
@@ -52,11 +52,11 @@ impl Tally {
 
     /// One row more.
     pub(crate) fn count(&mut self, rated: &Rated<'_>)
-        requires bounded { IsBoundedTally self.old }
+        requires bounded { IsBoundedScore self.old }
         requires room { self.old.rows < 2 ^ 64 - 1 }
         ensures exact { self.new ≡ counted self.old (rating_of rated.now) }
         ensures one { self.new.rows ≡ self.old.rows + 1 }
-        ensures bounded { IsBoundedTally self.new }
+        ensures bounded { IsBoundedScore self.new }
     {
         self.rows += 1;
         match rated {
