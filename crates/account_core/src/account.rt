@@ -9,7 +9,7 @@ ghost use Rattle.account_core.specs.Entries.{asked_of, entry_data};
 ghost use Rattle.account_core.specs.Kept.{known_of};
 ghost use Rattle.account_core.specs.Known.{known, known_asked, paid_if_granted};
 ghost use Rattle.account_core.specs.Ledger.{IsRefusal, Ledger, answer_of, entry_by, refusal_of};
-ghost use Rattle.account_core.specs.Places.{IsClosing, needed_by};
+ghost use Rattle.account_core.specs.Places.{IsOwed, needed_by};
 ghost use Rattle.account_core.specs.Sums.{AreSums};
 ghost use Rattle.account_core.specs.Tellers.{Admits, IsAnsweredByTeller, IsTellerOf, entered};
 
@@ -92,7 +92,7 @@ impl Account {
         ensures kept { OnErr result (self.new ≡ self.old) }
         ensures refused { IfErr result (λ fault. IsRefusal self.old (asked_of op) fault) }
         ensures ungated { result ≢ Err AccountFault.GateClosed }
-        ensures closing { IsClosing (reverse self.old.history) (asked_of op) → IsOk result }
+        ensures owed { IsOwed (reverse self.old.history) (asked_of op) → IsOk result }
     {
         match self.admit(op) {
             Ok(admitted) => Ok(self.enter(seat, admitted)?),
@@ -108,7 +108,7 @@ impl Account {
             (admitted.op ≡ op) × IsAdmitted self.now admitted) }
         ensures refused { IfErr result (λ fault. refusal_of self.now (asked_of op) ≡ Some fault) }
         ensures ungated { result ≢ Err AccountFault.GateClosed }
-        ensures closing { IsClosing (reverse self.now.history) (asked_of op) → IsOk result }
+        ensures owed { IsOwed (reverse self.now.history) (asked_of op) → IsOk result }
     {
         self.teller.admit(op)
     }
@@ -125,7 +125,7 @@ impl Account {
           history = self.old.history ++ entry_by seat (asked_of admitted.op) reply ∷ [];
         }) }
         ensures kept { OnErr result (self.new ≡ self.old) }
-        ensures closing { IsClosing (reverse self.old.history) (asked_of admitted.op)
+        ensures owed { IsOwed (reverse self.old.history) (asked_of admitted.op)
             → IsOk result }
     {
         self.entries.try_reserve(self.teller.places(&admitted))?;
@@ -135,10 +135,10 @@ impl Account {
     }
 
     /// Why an operation would be refused now, if it would be for any reason but `OutOfMemory`. One
-    /// that closes a call, a Return or the first Settle since its last grant, never is.
+    /// that a call is owed, a Return or the first Settle since its last grant, never is.
     pub fn refusal(&self, op: &Op) -> Option<AccountFault>
         ensures value { result ≡ refusal_of self.now (asked_of op.now) }
-        ensures closing { IsClosing (reverse self.now.history) (asked_of op.now) → result ≡ None }
+        ensures owed { IsOwed (reverse self.now.history) (asked_of op.now) → result ≡ None }
     {
         self.teller.judge(op, &self.teller.asked_state(op))
     }
@@ -241,8 +241,8 @@ impl Teller {
         ensures refused { IfErr result (λ fault. (ledger : Ledger) → IsTellerOf ledger self.old →
             IsRefusal ledger (asked_of op) fault) }
         ensures ungated { result ≢ Err AccountFault.GateClosed }
-        ensures closing { (ledger : Ledger) → IsTellerOf ledger self.old →
-            IsClosing (reverse ledger.history) (asked_of op) → IsOk result }
+        ensures owed { (ledger : Ledger) → IsTellerOf ledger self.old →
+            IsOwed (reverse ledger.history) (asked_of op) → IsOk result }
     {
         match self.admit(op) {
             Ok(admitted) => Ok(self.enter(seat, admitted)?.reply),
@@ -260,8 +260,8 @@ impl Teller {
         ensures refused { IfErr result (λ fault. (ledger : Ledger) → IsTellerOf ledger self.now →
             refusal_of ledger (asked_of op) ≡ Some fault) }
         ensures ungated { result ≢ Err AccountFault.GateClosed }
-        ensures closing { (ledger : Ledger) → IsTellerOf ledger self.now →
-            IsClosing (reverse ledger.history) (asked_of op) → IsOk result }
+        ensures owed { (ledger : Ledger) → IsTellerOf ledger self.now →
+            IsOwed (reverse ledger.history) (asked_of op) → IsOk result }
     {
         let call = self.asked_state(&op);
         match self.judge(&op, &call) {
@@ -294,8 +294,8 @@ impl Teller {
             IsTellerOf (entered ledger (entry_data entry)) self.new) }
         ensures kept { OnErr result ((ledger : Ledger) → IsTellerOf ledger self.old →
             IsTellerOf ledger self.new) }
-        ensures closing { (ledger : Ledger) → Admits ledger self.old admitted →
-            IsClosing (reverse ledger.history) (asked_of admitted.op) → IsOk result }
+        ensures owed { (ledger : Ledger) → Admits ledger self.old admitted →
+            IsOwed (reverse ledger.history) (asked_of admitted.op) → IsOk result }
     {
         let reply = self.answer(&admitted);
         let Admitted { op, call: before } = admitted;
@@ -331,9 +331,9 @@ impl Teller {
         ensures value { (ledger : Ledger) → IsTellerOf ledger self.now →
             known_of call.now ≡ known_asked (asked_of op.now) (reverse ledger.history) →
             result ≡ refusal_of ledger (asked_of op.now) }
-        ensures closing { (ledger : Ledger) → IsTellerOf ledger self.now →
+        ensures owed { (ledger : Ledger) → IsTellerOf ledger self.now →
             known_of call.now ≡ known_asked (asked_of op.now) (reverse ledger.history) →
-            IsClosing (reverse ledger.history) (asked_of op.now) → result ≡ None }
+            IsOwed (reverse ledger.history) (asked_of op.now) → result ≡ None }
     {
         judge(op, call, self.entries, self.owed, self.limit)
     }
@@ -379,8 +379,8 @@ impl Teller {
             IsTellerOf (entered ledger (entry_data entry)) self.new) }
         ensures kept { OnErr result ((ledger : Ledger) → IsTellerOf ledger self.old →
             IsTellerOf ledger self.new) }
-        ensures closing { (ledger : Ledger) → IsAnsweredByTeller ledger self.old entry →
-            IsClosing (reverse ledger.history) (asked_of entry.op) → IsOk result }
+        ensures owed { (ledger : Ledger) → IsAnsweredByTeller ledger self.old entry →
+            IsOwed (reverse ledger.history) (asked_of entry.op) → IsOk result }
     {
         laws::legal_pasts_are_sound();
         let after = before.after(entry.op, entry.reply);

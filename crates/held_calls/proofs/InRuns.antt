@@ -28,7 +28,7 @@ use Rattle.run_values.specs.declared.post.Body.{Body}
 use Rattle.run_values.specs.declared.post.Body.TheVariants.{Ssf, Recharge}
 use Rattle.runs_core.proofs.Listed.{all_first, all_later}
 use Rattle.runs_core.specs.Closing.{lists_of, refuses_in}
-use Rattle.runs_core.specs.Entered.{IsBookAt, RunCallsAreOfOneWorker, RunClosingIsNeverRefused}
+use Rattle.runs_core.specs.Entered.{IsBookAt, RunCallsAreOfOneWorker, RunOwedIsNeverRefused}
 use Rattle.runs_core.specs.Hearing.{answers_to}
 use Rattle.runs_core.specs.Shares.{Item, item_at, item_of, numbered, share_from, worker_of}
 use Rattle.shared_account.proofs.Beginnings.{begins_itself}
@@ -153,26 +153,26 @@ whole books workers call account place setup book alone by_one at =
     (record { opening = refl; until = refl; limit = refl; begins = begins_itself book.history; own = refl })
     ∙ ap (of_call call) (sym listed)
 
-pub run_settled : RunClosingIsNeverRefused → RunCallsAreOfOneWorker StoodIn → CallsOfOneSeatAreAlone → RunReportsAreSettled
-run_settled closing one alone setup workers given answers books account place book call some run at =
+pub run_settled : RunOwedIsNeverRefused → RunCallsAreOfOneWorker StoodIn → CallsOfOneSeatAreAlone → RunReportsAreSettled
+run_settled is_owed one alone setup workers given answers books account place book call some run at =
     let worker : ℕ = call % workers in
     let by = run.answered worker (mod_below call workers some) in
     let view = map answer_view (answers_to workers worker given answers) in
-    let settled = worked_settled (refuses_in StoodIn books worker) setup worker by.posts view (lists_of worker books) call (closing setup workers given answers books call run) by.answered place in
+    let settled = worked_settled (refuses_in StoodIn books worker) setup worker by.posts view (lists_of worker books) call (is_owed setup workers given answers books call run) by.answered place in
     ap settles_of (whole books workers call account place setup book alone (one setup workers given answers books run) at)
     ∙ settled ∙ ap (λ (items : List Item). taken_from setup call place None items view) by.share
     ∙ shared_gathered (λ was now item. taken_in call place was item.number item.body) setup workers call None 0 given answers
     (λ was now item apart same. taken_apart workers call place item.number was item.body apart)
 
-pub run_returned : RunClosingIsNeverRefused → RunCallsAreOfOneWorker StoodIn → CallsOfOneSeatAreAlone → RunCallsAreReturned
-run_returned closing one alone setup workers given answers books account place book call there some run at ended =
+pub run_returned : RunOwedIsNeverRefused → RunCallsAreOfOneWorker StoodIn → CallsOfOneSeatAreAlone → RunCallsAreReturned
+run_returned is_owed one alone setup workers given answers books account place book call there some run at ended =
     let worker : ℕ = call % workers in
     let by = run.answered worker (mod_below call workers some) in
     let view = map answer_view (answers_to workers worker given answers) in
     let its : ended_from setup call None (map item_of by.posts) view ≡ Some there =
     ap (λ (items : List Item). ended_from setup call None items view) by.share ∙ shared_ended setup workers call None 0 given answers ∙ ended in
     ap returns_of (whole books workers call account place setup book alone (one setup workers given answers books run) at)
-    ∙ worked_returned (refuses_in StoodIn books worker) setup worker by.posts view (lists_of worker books) call there (closing setup workers given answers books call run) by.answered its place
+    ∙ worked_returned (refuses_in StoodIn books worker) setup worker by.posts view (lists_of worker books) call there (is_owed setup workers given answers books call run) by.answered its place
 
 -- ---- the replies of a legal history are of the kinds that accounts give
 
@@ -217,8 +217,8 @@ honest_book kindly book call small legal =
     turned (of_call call book.history)
     (subst (All IsHonestEntry) (filter_reverse (λ (entry : EntryData). asks_of_call call entry.asked) book.history) (honest_past kindly book.opening book.until call (reverse book.history) small legal))
 
-pub run_left : AnswersFitTheirOperations → RunClosingIsNeverRefused → RunCallsAreOfOneWorker StoodIn → CallsOfOneSeatAreAlone → RunCallsThatEndAreReturned
-run_left kindly closing one alone setup workers given answers books account place book call some run at small =
+pub run_left : AnswersFitTheirOperations → RunOwedIsNeverRefused → RunCallsAreOfOneWorker StoodIn → CallsOfOneSeatAreAlone → RunCallsThatEndAreReturned
+run_left kindly is_owed one alone setup workers given answers books account place book call some run at small =
     let worker : ℕ = call % workers in
     let by = run.answered worker (mod_below call workers some) in
     let view = map answer_view (answers_to workers worker given answers) in
@@ -226,6 +226,6 @@ run_left kindly closing one alone setup workers given answers books account plac
     let all_of = whole books workers call account place setup book alone (one setup workers given answers books run) at in
     let honest : All IsHonestEntry (entries_at call (lists_of worker books) place) = subst (All IsHonestEntry) all_of (honest_book kindly book call small legal) in
     ap returns_of all_of
-    ∙ worked_left (refuses_in StoodIn books worker) setup worker by.posts view (lists_of worker books) call (closing setup workers given answers books call run) by.answered place honest
+    ∙ worked_left (refuses_in StoodIn books worker) setup worker by.posts view (lists_of worker books) call (is_owed setup workers given answers books call run) by.answered place honest
     ∙ ap (λ (items : List Item). left_from setup call place None items view) by.share
     ∙ shared_gathered (λ was now item. left_in call place was now) setup workers call None 0 given answers (λ was now item apart same. left_same call place was now same)

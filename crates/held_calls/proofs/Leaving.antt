@@ -25,7 +25,7 @@ use Rattle.held_calls.specs.Held.{IsShown}
 use Rattle.runs_core.proofs.Listed.{all_first, all_later}
 use Rattle.tariff_core.specs.declared.times.TheConstants.{DAY}
 use Rattle.workers_core.proofs.OwnCalls.{SaysOf, says_of_call}
-use Rattle.workers_core.specs.Refusals.{NeverRefusesClosing}
+use Rattle.workers_core.specs.Refusals.{NeverRefusesOwed}
 use Rattle.workers_core.specs.Served.{returned_in, returns_of}
 use Rattle.workers_core.specs.Talks.{AllAsk, AreRightlyGot, IsRightlyGot, Showing, entries_of, entry_of}
 use Rattle.workers_core.specs.Workers.{IsAbout}
@@ -106,7 +106,7 @@ owes_got call seat returned Finished to got pending of fits fair owes = absurd (
 
 -- ---- what each ask got is fair
 
-fair_refusal : (Shows : ℕ → Showing) (call place : ℕ) (mine : List EntryData) (asked : Asked) (to : Phase) (fault : AccountFault) → NeverRefusesClosing Shows call → IsOfCall call asked → Awaits to asked
+fair_refusal : (Shows : ℕ → Showing) (call place : ℕ) (mine : List EntryData) (asked : Asked) (to : Phase) (fault : AccountFault) → NeverRefusesOwed Shows call → IsOfCall call asked → Awaits to asked
     → IsShown to (known call (reverse mine)) → Shows place mine asked fault → IsFair asked (Err fault)
 fair_refusal Shows call place mine (Credits amount until) to fault never of waits shown shows = tt
 fair_refusal Shows call place mine (Reserves other plan wanted least at) to fault never of waits shown shows = tt
@@ -115,7 +115,7 @@ fair_refusal Shows call place mine (Returns other) (Returning after) fault never
     never place mine (Returns other) fault of (subst (λ (c : ℕ). is_open (known c (reverse mine)) ≡ true) (sym of) shown) shows
 fair_refusal Shows call place mine (Returns other) to fault never of waits shown shows = absurd waits
 
-fair_got : (Shows : ℕ → Showing) (call place seat : ℕ) (mine : List EntryData) (said : Says) (to : Phase) (got : Got) → NeverRefusesClosing Shows call → SaysOf call said
+fair_got : (Shows : ℕ → Showing) (call place seat : ℕ) (mine : List EntryData) (said : Says) (to : Phase) (got : Got) → NeverRefusesOwed Shows call → SaysOf call said
     → Stands (known call (reverse mine)) (said, to) → IsRightlyGot (Shows place) mine said got → All IsHonestEntry (entry_of seat said got)
     → (asked : Asked) → said ≡ Asks asked → IsFair asked got
 fair_got Shows call place seat mine (Asks asked) to (Ok reply) never of stands right honest other is =
@@ -129,7 +129,7 @@ fair_got Shows call place seat mine Finished to got never of stands right honest
 
 -- ---- in a talk
 
-pub talk_owes : (Shows : ℕ → Showing) (call place seat : ℕ) (mine : List EntryData) (first : Says × Phase) (gots : List Got) → NeverRefusesClosing Shows call → IsAbout call first.1 → SaysOf call first.0
+pub talk_owes : (Shows : ℕ → Showing) (call place seat : ℕ) (mine : List EntryData) (first : Says × Phase) (gots : List Got) → NeverRefusesOwed Shows call → IsAbout call first.1 → SaysOf call first.0
     → AllAsk first gots → Stands (known call (reverse mine)) first → AreRightlyGot (Shows place) seat first mine gots → All IsHonestEntry (entries_of seat first gots)
     → Owes call [] first → Owes call (returns_of (entries_of seat first gots)) (talked first gots)
 talk_owes Shows call place seat mine first [] never about says asked stands right honest owes = owes
@@ -152,7 +152,7 @@ owes_none call returned Finished to rests owes idle = owes idle
 
 -- a call whose report is settled, and that goes on no more then, is returned
 pub talk_leaves : (Shows : ℕ → Showing) (call place seat number : ℕ) (info : _) (t : Conditions) (active : Bool) (since : ℕ) (mine : List EntryData) (gots : List Got) (last : Says) (to : Phase)
-    → NeverRefusesClosing Shows call → t.call ≡ call → AllAsk (Asks (Settles call number info), Settling t active since) gots
+    → NeverRefusesOwed Shows call → t.call ≡ call → AllAsk (Asks (Settles call number info), Settling t active since) gots
     → Stands (known call (reverse mine)) (Asks (Settles call number info), Settling t active since)
     → AreRightlyGot (Shows place) seat (Asks (Settles call number info), Settling t active since) mine gots
     → All IsHonestEntry (entries_of seat (Asks (Settles call number info), Settling t active since) gots) → talked (Asks (Settles call number info), Settling t active since) gots ≡ (last, to)

@@ -22,7 +22,7 @@ use Rattle.runs_core.proofs.InBooks.{lists_worked}
 use Rattle.runs_core.proofs.Listed.{all_joined, all_part, all_passing, all_pieces, all_unmapped}
 use Rattle.runs_core.proofs.HandOuts.{agrees}
 use Rattle.runs_core.specs.Closing.{StoodAt, lists_of}
-use Rattle.runs_core.specs.Entered.{RunCallsAreOfOneWorker, RunClosingIsNeverRefused}
+use Rattle.runs_core.specs.Entered.{RunCallsAreOfOneWorker, RunOwedIsNeverRefused}
 use Rattle.runs_core.specs.Shares.{Item, item_of, numbered, share, worker_of}
 
 -- ---- the share of a worker
@@ -105,8 +105,8 @@ calls_of_one Stood come setup workers given answers books run = λ place d withi
     let all = mine_its workers seat served.0 its.posts (own seat book.history) mine (posts_its workers seat given its.posts its.share) in
     sym (all_passing (λ (other : EntryData). other.seat == seat) By book.history all k e here (eq-eqb seat seat refl) call is)
 
-pub closing_never : EntriesComeFromPosts → CallsOfOneSeatAreAlone → RunClosingIsNeverRefused
-closing_never come alone setup workers given answers books call run =
+pub owed_never : EntriesComeFromPosts → CallsOfOneSeatAreAlone → RunOwedIsNeverRefused
+owed_never come alone setup workers given answers books call run =
     never_refused (StoodAt StoodIn books (call % workers)) call (λ place mine refusal was.
     let By : Closed → Type 0 = λ b. IsBySeat b (call % workers) call in
     let by_it : By was.book = subst By (sym was.book_is) (calls_of_one StoodIn come setup workers given answers books run place was.book was.within call) in

@@ -6,7 +6,7 @@ use Rattle.std.proofs.lemmas.List.Elements.{filter-append}
 use Rattle.account_core.specs.Asked.{Asked, Credits, Reserves, Returns, Settles, call_of}
 use Rattle.account_core.specs.Entries.{EntryData}
 use Rattle.account_core.specs.Known.{deed, deed_of, is_open, known, known_after}
-use Rattle.account_core.specs.Places.{IsClosing}
+use Rattle.account_core.specs.Places.{IsOwed}
 use Rattle.shared_account.specs.Own.{asks_of_call, of_call}
 use Rattle.shared_account.proofs.Knowing.{known_apart, known_resting}
 
@@ -45,12 +45,12 @@ known_alike call history mine same =
     known_of_call call (reverse history) ∙ (ap (known call) (filter_reverse (λ entry. asks_of_call call entry.asked) history ∙ (ap reverse same
     ∙ sym (filter_reverse (λ entry. asks_of_call call entry.asked) mine))) ∙ sym (known_of_call call (reverse mine)))
 
--- what closes a call by one history closes it by another with the same entries of the call
-pub closing_alike : (history mine : List EntryData) (asked : Asked) → IsClosing (reverse history) asked
-    → of_call (call_of asked) history ≡ of_call (call_of asked) mine → IsClosing (reverse mine) asked
-closing_alike history mine (Credits amount moment) closing same = closing
-closing_alike history mine (Reserves call plan wanted least at) closing same = closing
-closing_alike history mine (Settles call number info) closing same =
+-- what a call is owed by one history it is owed by another with the same entries of the call
+pub owed_alike : (history mine : List EntryData) (asked : Asked) → IsOwed (reverse history) asked
+    → of_call (call_of asked) history ≡ of_call (call_of asked) mine → IsOwed (reverse mine) asked
+owed_alike history mine (Credits amount moment) is_owed same = is_owed
+owed_alike history mine (Reserves call plan wanted least at) is_owed same = is_owed
+owed_alike history mine (Settles call number info) is_owed same =
     let alike = known_alike call history mine same in
-    (ap is_open (sym alike) ∙ closing.0, ap (λ k. k.awaits) (sym alike) ∙ closing.1)
-closing_alike history mine (Returns call) closing same = ap is_open (sym (known_alike call history mine same)) ∙ closing
+    (ap is_open (sym alike) ∙ is_owed.0, ap (λ k. k.awaits) (sym alike) ∙ is_owed.1)
+owed_alike history mine (Returns call) is_owed same = ap is_open (sym (known_alike call history mine same)) ∙ is_owed

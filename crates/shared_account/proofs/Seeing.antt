@@ -6,7 +6,7 @@ use Rattle.std.proofs.lemmas.List.Elements.{All-head, All-tail}
 use Rattle.account_core.specs.Asked.{Asked, Returns, call_of}
 use Rattle.account_core.specs.Entries.{EntryData}
 use Rattle.account_core.specs.Ledger.{entry_by}
-use Rattle.account_core.specs.Places.{IsClosing}
+use Rattle.account_core.specs.Places.{IsOwed}
 use Rattle.account_core.specs.declared.entry.Reply.{Reply}
 use Rattle.account_core.specs.declared.entry.Reply.TheVariants as reply
 use Rattle.account_core.specs.declared.fault.AccountFault.{AccountFault}
@@ -16,18 +16,18 @@ use Rattle.shared_account.specs.Refusals.{IsAlone, Refusal}
 use Rattle.shared_account.specs.Seen.{CallsOfOneSeatAreAlone, HasSeen}
 use Rattle.shared_account.specs.TurnViews.{TurnSeatView, own_of}
 use Rattle.shared_account.proofs.Beginnings.{begins_itself}
-use Rattle.shared_account.proofs.Owning.{closing_alike}
+use Rattle.shared_account.proofs.Owning.{owed_alike}
 
--- what closes a call that is the seat's alone, by its own entries, closes it in the account that it has seen
-pub closes_alone : (seat : TurnSeatView) (mine : List EntryData) (entry : Reply → EntryData) (asked : Asked) (response : Result Reply AccountFault)
+-- what a call that is the seat's alone is owed by its own entries, it is owed in the account that it has seen
+pub owed_alone : (seat : TurnSeatView) (mine : List EntryData) (entry : Reply → EntryData) (asked : Asked) (response : Result Reply AccountFault)
     → MatchResult response (λ reply. own_of seat ≡ mine ++ entry reply ∷ []) (λ _. own_of seat ≡ mine)
-    → (IsClosing (reverse seat.view.history) asked → IfErr response (λ why. why ≡ fault.GateClosed)) → IsAlone (HasSeen seat) (call_of asked) → IsClosing (reverse mine) asked
+    → (IsOwed (reverse seat.view.history) asked → IfErr response (λ why. why ≡ fault.GateClosed)) → IsAlone (HasSeen seat) (call_of asked) → IsOwed (reverse mine) asked
     → IfErr response (λ why. why ≡ fault.GateClosed)
-closes_alone seat mine entry asked (Ok reply) own closing alone closes = tt
-closes_alone seat mine entry asked (Err why) own closing alone closes =
+owed_alone seat mine entry asked (Ok reply) own is_owed alone closes = tt
+owed_alone seat mine entry asked (Err why) own is_owed alone closes =
     let refusal : Refusal = record { account = seat.view; asked = asked; why = why } in
     let seen : HasSeen seat mine refusal = record { opening = refl; until = refl; limit = refl; begins = begins_itself seat.view.history; own = own } in
-    closing (closing_alike mine seat.view.history asked closes (sym (alone mine refusal seen)))
+    is_owed (owed_alike mine seat.view.history asked closes (sym (alone mine refusal seen)))
 
 -- ---- where any account may be there, no call is a seat's alone
 

@@ -10,7 +10,7 @@ ghost use Rattle.shared_account.specs.Room.{stage_in};
 ghost use Rattle.account_core.specs.Asked.{call_of, Credits, IsCredit, IsOfCall};
 ghost use Rattle.account_core.specs.Entries.{asked_of, entry_data};
 ghost use Rattle.account_core.specs.Ledger.{IsRefusal, answer_of, entry_by, refusal_of};
-ghost use Rattle.account_core.specs.Places.{IsClosing};
+ghost use Rattle.account_core.specs.Places.{IsOwed};
 ghost use Rattle.account_core.specs.Admitting.{IsAdmitted};
 
 use account_core::{
@@ -109,11 +109,11 @@ impl Seat {
         ensures refused { IfErr result (λ fault. IsRefusal account.old (asked_of op) fault) }
         ensures ungated { result ≢ Err AccountFault.GateClosed }
         ensures kind { IfOk result (λ reply. IsReplyTo (asked_of op) reply) }
-        ensures returning { IsReturn (asked_of op) → IsClosing (reverse self.old.mine) (asked_of op)
+        ensures returning { IsReturn (asked_of op) → IsOwed (reverse self.old.mine) (asked_of op)
             → IfErr result (λ fault. fault ≡ AccountFault.NotOpen) }
-        ensures closing { IsClosing (reverse account.old.history) (asked_of op)
-            → IsClosing (reverse self.old.mine) (asked_of op) → IsOk result }
-        ensures own { IsClosing (reverse account.old.history) (asked_of op)
+        ensures owed { IsOwed (reverse account.old.history) (asked_of op)
+            → IsOwed (reverse self.old.mine) (asked_of op) → IsOk result }
+        ensures own { IsOwed (reverse account.old.history) (asked_of op)
             → of_call (call_of (asked_of op)) account.old.history
             ≡ of_call (call_of (asked_of op)) self.old.mine
             → IsOk result }
@@ -176,8 +176,8 @@ impl Seat {
         ensures kept { OnErr result (self.new ≡ self.old) }
         ensures refused { IfErr result (λ fault. IsRefusal account.old (asked_of op) fault) }
         ensures ungated { result ≢ Err AccountFault.GateClosed }
-        ensures closing { IsClosing (reverse account.old.history) (asked_of op)
-            → IsClosing (reverse self.old.mine) (asked_of op) → IsOk result }
+        ensures owed { IsOwed (reverse account.old.history) (asked_of op)
+            → IsOwed (reverse self.old.mine) (asked_of op) → IsOk result }
     {
         match account.admit(op) {
             Ok(admitted) => Ok(self.enter_call(account, call, admitted)?),
@@ -237,8 +237,8 @@ impl Seat {
         }) }
         ensures account_kept { OnErr result (account.new ≡ account.old) }
         ensures kept { OnErr result (self.new ≡ self.old) }
-        ensures closing { IsClosing (reverse account.old.history) (asked_of admitted.op)
-            → IsClosing (reverse self.old.mine) (asked_of admitted.op) → IsOk result }
+        ensures owed { IsOwed (reverse account.old.history) (asked_of admitted.op)
+            → IsOwed (reverse self.old.mine) (asked_of admitted.op) → IsOk result }
     {
         places_go_with_entries();
         let seat = self.number;

@@ -9,7 +9,7 @@ ghost use Rattle.shared_account.specs.declared.board.Stage.TheVariants.{Idles, W
 ghost use Rattle.shared_account.specs.Prefixes.{IsPrefix};
 ghost use Rattle.account_core.specs.Entries.{asked_of, entry_data};
 ghost use Rattle.account_core.specs.Ledger.{IsRefusal, answer_of, entry_by, refusal_of};
-ghost use Rattle.account_core.specs.Places.{IsClosing};
+ghost use Rattle.account_core.specs.Places.{IsOwed};
 
 #[cfg(test)]
 mod tests;
@@ -74,7 +74,7 @@ pub(crate) fn ask_in_turn(
     ensures kept { OnErr result (chair.new.me ≡ chair.old.me) }
     ensures refused { IfErr result (λ fault. IsRefusal chair.old.me.0.seen (asked_of op) fault) }
     ensures ungated { result ≢ Err AccountFault.GateClosed }
-    ensures closing { IsClosing (reverse chair.old.me.0.seen.history) (asked_of op)
+    ensures owed { IsOwed (reverse chair.old.me.0.seen.history) (asked_of op)
         → IsOk result }
 {
     match chair.slot_mut(&board.shared, SLOT) {

@@ -13,7 +13,7 @@ ghost use Rattle.shared_account.specs.Views.{IsServing, seeing};
 ghost use Rattle.account_core.specs.Answers.{IsLegal};
 ghost use Rattle.account_core.specs.Entries.{EntryData, asked_of};
 ghost use Rattle.account_core.specs.Ledger.{IsRefusal, entry_by};
-ghost use Rattle.account_core.specs.Places.{IsClosing};
+ghost use Rattle.account_core.specs.Places.{IsOwed};
 ghost use Rattle.shared_account.specs.declared.fault.CloseFault.TheVariants as close;
 
 use crate::board::{Board, Chair, Start, lay_board, make_seats};
@@ -133,7 +133,7 @@ impl TurnAccount {
         ensures refused { IfErr result (λ fault. (fault ≡ AccountFault.GateClosed)
             ⊎ IsRefusal seat.new.view (asked_of op) fault) }
         ensures gate { result ≡ Err AccountFault.GateClosed → G.may_shut gate.now }
-        ensures closing { IsClosing (reverse seat.new.view.history) (asked_of op)
+        ensures owed { IsOwed (reverse seat.new.view.history) (asked_of op)
             → IfErr result (λ fault. fault ≡ AccountFault.GateClosed) }
     {
         let _door = self.door.lock(rt);
@@ -215,7 +215,7 @@ fn enter<G: Gate>(
     ensures refused { IfErr result (λ fault. (fault ≡ AccountFault.GateClosed)
         ⊎ IsRefusal chair.old.me.0.seen (asked_of op) fault) }
     ensures gate { result ≡ Err AccountFault.GateClosed → G.may_shut gate.now }
-    ensures closing { IsClosing (reverse chair.old.me.0.seen.history) (asked_of op)
+    ensures owed { IsOwed (reverse chair.old.me.0.seen.history) (asked_of op)
         → IfErr result (λ fault. fault ≡ AccountFault.GateClosed) }
 {
     if !gate.inside(account) {
