@@ -6,7 +6,7 @@ use Rattle.std.proofs.lemmas.List.{append_cancel_left, map-append}
 use Rattle.std.proofs.lemmas.List.Elements.{All-append}
 use Rattle.std.proofs.lemmas.List.Sums.{fold-append}
 use Rattle.table_core.specs.Rows.{Fields}
-use Rattle.rating.specs.Laws.{PartsAreRated, together, with_rows}
+use Rattle.rating.specs.Laws.{PiecesAreRated, together, with_rows}
 use Rattle.rating.specs.Lines.{header_line, rated_line}
 use Rattle.rating.specs.Rated.{Rating, Faulty, Priced}
 use Rattle.rating.specs.Scores.{counted, no_rows, score_of_rows}
@@ -92,8 +92,8 @@ lines_of differing input rows text score is =
       score_is = is.score_is;
     }
 
-pub parts_are_rated : PartsAreRated
-parts_are_rated differing input front back first second one other is_front is_back =
+pub pieces_are_rated : PiecesAreRated
+pieces_are_rated differing input front back first second one other is_front is_back =
     let a = lines_of differing input front first one is_front in
     let b = lines_of differing input back second other is_back in
     let rows : front ++ back ≡ map (λ row. row.fields) (a.rated ++ b.rated) = rw (map-append (λ (row : RatedRow). row.fields) a.rated b.rated, ← a.are_rated.rows_are, ← b.are_rated.rows_are) refl in

@@ -1,9 +1,9 @@
 use Rattle.std.proofs.Common.{◌∙◌, sym}
 use Rattle.std.specs.BTreeMap.{Updates}
 use Rattle.std.specs.Prelude.{Some}
-use Rattle.tariff_core.specs.Places.{by_place}
+use Rattle.tariff_core.specs.BandKeys.{by_band_key}
 use Rattle.tariff_core.proofs.EnteringLemmas.{entered_all, entered_more, entered_not, none_entered}
-use Rattle.tariff_core.proofs.RangeLemmas.{place_at}
+use Rattle.tariff_core.proofs.RangeLemmas.{band_key_at}
 use Rattle.tariff_core.proofs.bands.enter.Goals as goal
 use Rattle.tariff_core.proofs.bands.enter.Goals.{then-counts_on+in_ok-insert, else-counts_on}
 
@@ -13,8 +13,8 @@ loop-day-init c = none_entered c.keys-first.result.0 c.args.index.now c.args.row
 pub loop-day-preserved : goal.loop-day-preserved
 loop-day-preserved c = elim c.if-counts_on.branch [
   | then-counts_on+in_ok-insert w ↦
-      let updates : Updates by_place c.loop-day.index w.insert.new.self (place_at c.args.row.prefix c.loop-day.day c.args.row.start) (Some c.args.row) =
-      rw w.place.ensures at w.in_ok-insert.ensures.updates in
+      let updates : Updates by_band_key c.loop-day.index w.insert.new.self (band_key_at c.args.row.prefix c.loop-day.day c.args.row.start) (Some c.args.row) =
+      rw w.key.ensures at w.in_ok-insert.ensures.updates in
       rw w.index-is (entered_more c.keys-first.result.0 c.loop-day.day c.args.row c.args.index.now c.loop-day.index w.insert.new.self c.loop-day.auto.day
       (sym c.counts_on.ensures ∙ w.if-counts_on.true) c.loop-day.invariant updates)
   | else-counts_on w ↦

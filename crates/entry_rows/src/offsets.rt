@@ -1,4 +1,4 @@
-//! Where the columns are: how many places after the word of an operation or of a reply.
+//! How far the columns are behind the word of an operation or of a reply.
 
 /// The call of an operation.
 pub const CALL: usize = 1;

@@ -62,7 +62,7 @@ impl Within {
 
 /// Where a table is.
 #[derive(Clone, Copy)]
-pub(crate) enum Place {
+pub(crate) enum Cursor {
     /// At its start, where a byte order mark may come.
     Start,
     /// Behind the first byte of such a mark.
@@ -77,56 +77,56 @@ pub(crate) enum Place {
     InRest(Within),
 }
 
-impl Place {
-    /// The place behind a byte, and what is passed on for it.
-    fn next(self, byte: u8) -> (Place, Option<u8>)
+impl Cursor {
+    /// The cursor behind a byte, and what is passed on for it.
+    fn next(self, byte: u8) -> (Cursor, Option<u8>)
         ensures { (rest : List ℕ)
             → passed_text self (byte ∷ rest) ≡ bytes_of result.1 ++ passed_text result.0 rest }
     {
         match (self, byte) {
-            (Place::Start, 0xEF) => (Place::FirstMark, Some(byte)),
-            (Place::FirstMark, 0xBB) => (Place::SecondMark, Some(byte)),
-            (Place::SecondMark, 0xBF) => (Place::Between, Some(byte)),
-            (Place::Start, _) => between(byte),
-            (Place::Between, _) => between(byte),
-            (Place::FirstMark, _) => in_row(Within::InField, MAX_SHOWN - 1, byte),
-            (Place::SecondMark, _) => in_row(Within::InField, MAX_SHOWN - 2, byte),
-            (Place::InRow(within, room), _) => in_row(within, room, byte),
-            (Place::InRest(within), _) => in_rest(within, byte),
+            (Cursor::Start, 0xEF) => (Cursor::FirstMark, Some(byte)),
+            (Cursor::FirstMark, 0xBB) => (Cursor::SecondMark, Some(byte)),
+            (Cursor::SecondMark, 0xBF) => (Cursor::Between, Some(byte)),
+            (Cursor::Start, _) => between(byte),
+            (Cursor::Between, _) => between(byte),
+            (Cursor::FirstMark, _) => in_row(Within::InField, MAX_SHOWN - 1, byte),
+            (Cursor::SecondMark, _) => in_row(Within::InField, MAX_SHOWN - 2, byte),
+            (Cursor::InRow(within, room), _) => in_row(within, room, byte),
+            (Cursor::InRest(within), _) => in_rest(within, byte),
         }
     }
 
-    /// Passes on a part of a table, at its front, and answers how many bytes are left of it.
-    pub(crate) fn pass(&mut self, part: &mut [u8]) -> usize
-        ensures within { result ≤ length part.new }
-        ensures passes { (rest : List ℕ) → passed_text self.old (part.old ++ rest)
-            ≡ take result part.new ++ passed_text self.new rest }
+    /// Passes on a piece of a table, at its front, and answers how many bytes are left of it.
+    pub(crate) fn pass(&mut self, piece: &mut [u8]) -> usize
+        ensures within { result ≤ length piece.new }
+        ensures passes { (rest : List ℕ) → passed_text self.old (piece.old ++ rest)
+            ≡ take result piece.new ++ passed_text self.new rest }
     {
-        let start = self.skip(part);
+        let start = self.skip(piece);
         let mut kept = start;
-        for at in start..part.len() {
-            let (place, given) = self.next(part[at]);
-            *self = place;
+        for at in start..piece.len() {
+            let (cursor, given) = self.next(piece[at]);
+            *self = cursor;
             if let Some(byte) = given {
-                part[kept] = byte;
+                piece[kept] = byte;
                 kept += 1;
             }
         }
         kept
     }
 
-    /// Goes past the rows that end in a part of a table as far as they have no quotes and can't be
+    /// Goes past the rows that end in a piece of a table as far as they have no quotes and can't be
     /// too long, so that they are passed on as they are. The answer is how many bytes they have.
-    fn skip(&mut self, part: &[u8]) -> usize
-        ensures within { result ≤ length part.now }
-        ensures passes { (rest : List ℕ) → passed_text self.old (part.now ++ rest)
-            ≡ take result part.now ++ passed_text self.new (drop result part.now ++ rest) }
+    fn skip(&mut self, piece: &[u8]) -> usize
+        ensures within { result ≤ length piece.now }
+        ensures passes { (rest : List ℕ) → passed_text self.old (piece.now ++ rest)
+            ≡ take result piece.now ++ passed_text self.new (drop result piece.now ++ rest) }
     {
-        let plain = memchr(b'"', part).unwrap_or(part.len());
+        let plain = memchr(b'"', piece).unwrap_or(piece.len());
         let sure = plain.min(self.sure());
-        match memrchr(b'\n', &part[..sure]) {
+        match memrchr(b'\n', &piece[..sure]) {
             Some(end) => {
-                *self = Place::Between;
+                *self = Cursor::Between;
                 end + 1
             }
             None => 0,
@@ -138,48 +138,48 @@ impl Place {
         ensures { CanPass self result }
     {
         match self {
-            Place::Between => MAX_SHOWN,
-            Place::InRow(Within::StartField | Within::InField, room) => room.min(MAX_SHOWN),
+            Cursor::Between => MAX_SHOWN,
+            Cursor::InRow(Within::StartField | Within::InField, room) => room.min(MAX_SHOWN),
             _ => 0,
         }
     }
 }
 
-/// The place behind a byte at which no row has begun, and what is passed on for it. An empty line
+/// The cursor behind a byte at which no row has begun, and what is passed on for it. An empty line
 /// is no row.
-fn between(byte: u8) -> (Place, Option<u8>)
+fn between(byte: u8) -> (Cursor, Option<u8>)
     ensures { (rest : List ℕ)
         → cut_from MAX_SHOWN st.StartRecord (Some MAX_SHOWN) (byte ∷ rest)
         ≡ bytes_of result.1 ++ passed_text result.0 rest }
 {
     if byte == b'\r' || byte == b'\n' {
-        (Place::Between, Some(byte))
+        (Cursor::Between, Some(byte))
     } else {
         in_row(Within::StartField, MAX_SHOWN, byte)
     }
 }
 
-/// The place behind a byte of a row that has room for so many, and what is passed on for it.
-fn in_row(within: Within, room: usize, byte: u8) -> (Place, Option<u8>)
+/// The cursor behind a byte of a row that has room for so many, and what is passed on for it.
+fn in_row(within: Within, room: usize, byte: u8) -> (Cursor, Option<u8>)
     ensures { (rest : List ℕ) → cut_from MAX_SHOWN (cut_state_of within) (Some room) (byte ∷ rest)
         ≡ bytes_of result.1 ++ passed_text result.0 rest }
 {
     match within.step(byte) {
-        Moves::EndsRow => (Place::Between, Some(byte)),
-        Moves::Skips(to) => (Place::InRow(to, room), Some(byte)),
-        Moves::Adds(to) if room > 0 => (Place::InRow(to, room - 1), Some(byte)),
-        Moves::Adds(to) => (Place::InRest(to), within.closing()),
+        Moves::EndsRow => (Cursor::Between, Some(byte)),
+        Moves::Skips(to) => (Cursor::InRow(to, room), Some(byte)),
+        Moves::Adds(to) if room > 0 => (Cursor::InRow(to, room - 1), Some(byte)),
+        Moves::Adds(to) => (Cursor::InRest(to), within.closing()),
     }
 }
 
-/// The place behind a byte of the rest of a row, and what is passed on for it: what ends the row.
-fn in_rest(within: Within, byte: u8) -> (Place, Option<u8>)
+/// The cursor behind a byte of the rest of a row, and what is passed on for it: what ends the row.
+fn in_rest(within: Within, byte: u8) -> (Cursor, Option<u8>)
     ensures { (rest : List ℕ) → cut_from MAX_SHOWN (cut_state_of within) None (byte ∷ rest)
         ≡ bytes_of result.1 ++ passed_text result.0 rest }
 {
     match within.step(byte) {
-        Moves::EndsRow => (Place::Between, Some(byte)),
-        Moves::Skips(to) => (Place::InRest(to), None),
-        Moves::Adds(to) => (Place::InRest(to), None),
+        Moves::EndsRow => (Cursor::Between, Some(byte)),
+        Moves::Skips(to) => (Cursor::InRest(to), None),
+        Moves::Adds(to) => (Cursor::InRest(to), None),
     }
 }

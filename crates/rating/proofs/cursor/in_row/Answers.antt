@@ -2,7 +2,7 @@ use Rattle.rating.proofs.PassLemmas.{byte_cuts, byte_passes, quote_passes, row_e
 use Rattle.rating.specs.Cuts.{cut_from, cut_state_of}
 use Rattle.rating.specs.declared.call.TheConstants.{MAX_SHOWN}
 use Rattle.std.proofs.Common.{None, Some, ap, sym, ◌∙◌, ◌++◌}
-use Rattle.rating.proofs.place.in_row.Goals as goal
+use Rattle.rating.proofs.cursor.in_row.Goals as goal
 
 pub returns-in-EndsRow : goal.returns-in-EndsRow
 returns-in-EndsRow c = λ rest. row_ends MAX_SHOWN (cut_state_of c.args.within) (Some c.args.room) c.args.byte rest (rw c.in-EndsRow.is at c.step.ensures)

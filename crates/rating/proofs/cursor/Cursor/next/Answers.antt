@@ -1,7 +1,7 @@
 use Rattle.std.proofs.Common.{◌∙◌, Some}
 use Rattle.rating.proofs.PassLemmas.{first_mark, not_first, not_second, not_third, second_mark, third_mark}
 use Rattle.rating.specs.declared.call.TheConstants.{MAX_SHOWN}
-use Rattle.rating.proofs.place.Place.next.Goals as goal
+use Rattle.rating.proofs.cursor.Cursor.next.Goals as goal
 
 pub returns-in-Start-eq239 : goal.returns-in-Start-eq239
 returns-in-Start-eq239 c = λ rest. rw (c.in-Start-eq239.is-0, c.in-Start-eq239.is-1) (first_mark rest)

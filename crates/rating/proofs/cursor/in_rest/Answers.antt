@@ -2,7 +2,7 @@ use Rattle.rating.proofs.PassLemmas.{byte_goes, quote_goes, row_ends}
 use Rattle.rating.specs.Cuts.{cut_state_of}
 use Rattle.rating.specs.declared.call.TheConstants.{MAX_SHOWN}
 use Rattle.std.proofs.Common.{None}
-use Rattle.rating.proofs.place.in_rest.Goals as goal
+use Rattle.rating.proofs.cursor.in_rest.Goals as goal
 
 pub returns-in-EndsRow : goal.returns-in-EndsRow
 returns-in-EndsRow c = λ rest. row_ends MAX_SHOWN (cut_state_of c.args.within) None c.args.byte rest (rw c.in-EndsRow.is at c.step.ensures)
