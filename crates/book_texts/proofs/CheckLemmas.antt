@@ -206,14 +206,14 @@ both_known (Some x) P Q one other = (one, other)
 
 module _ {R : Type 0} (most : ℕ) (remaining : R → Option (List ℕ)) (known : Option (List ℕ)) (table after : Table R) (books next : Books) where
   -- the same after a row
-  pub right_so_far : (wrongs now : List (ℕ × WrongRow)) → table.limit ≡ most → IsNextRow table after → StepsRow remaining table after (Ok true)
+  pub right_so_far : (wrongs now : List (ℕ × WrongRow)) → table.most_rows ≡ most → IsNextRow table after → StepsRow remaining table after (Ok true)
       → book_row_at (version_at table.header) books (fields_of after.rows.row) ≡ Ok next
       → AreNoted after.number books (row_said_in (columns_in (version_at table.header) (fields_of after.rows.row))) wrongs now
       → IfSome known (AreRightSoFar most remaining table books wrongs) → IfSome known (AreRightSoFar most remaining after next now)
   unfolding book_row_at
-  right_so_far wrongs now limit moves steps is noted right = map_known known _ _ right (λ text (above, are).
+  right_so_far wrongs now most_rows moves steps is noted right = map_known known _ _ right (λ text (above, are).
       let fields = fields_of after.rows.row in
-      let (further, first_is, rows_are) = next_above (books_form most) remaining table after books next text limit moves steps is above in
+      let (further, first_is, rows_are) = next_above (books_form most) remaining table after books next text most_rows moves steps is above in
       let so_far = above_is (books_form most) remaining table books text above in
       let whole : books_of most ((above.first ∷ above.rows) ++ fields ∷ []) ≡ Ok next = rw (first_is, rows_are) at (above_is (books_form most) remaining after next text further) in
       let held = right_next most remaining after.number (above.first ∷ above.rows) fields books next wrongs now

@@ -180,7 +180,7 @@ pub(crate) fn headers_of(slip: Slip) -> &'static str {
 }
 
 /// How many rows the table of a slip has at most.
-pub(crate) fn limit_of(slip: Slip) -> &'static str {
+pub(crate) fn most_rows_of(slip: Slip) -> &'static str {
     match slip {
         Slip::Script(_) | Slip::Book(_) => "1000000 rows",
         Slip::Setup(_) => "10000 rows and 1000 accounts",

@@ -39,7 +39,7 @@ module _ {S K F : Type 0} (form : TableForm S K F) (P : S → Type 0) (keeps : (
   unfolding rows_from
   rows_keep header width number read [] last holds is = let same : read ≡ last = cc is in subst P same holds
   rows_keep header width number read (fields ∷ rows) last holds is =
-      by_own (own_fault form.limit width number fields) (form.judge header read fields) refl is (λ next held later. rows_keep header width (number + 1) next rows last held later)
+      by_own (own_fault form.most_rows width number fields) (form.judge header read fields) refl is (λ next held later. rows_keep header width (number + 1) next rows last held later)
     where
       by_own : (own : _) (judged : Result S K) → form.judge header read fields ≡ judged
           → then_rows form number (unless_own form own judged) (λ next. rows_from form header width (number + 1) next rows) ≡ Ok last

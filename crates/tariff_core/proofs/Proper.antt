@@ -106,7 +106,7 @@ rows_proper : (which width number : ℕ) (earlier : List Band) (rows : List Fiel
 unfolding rows_from
 rows_proper which width number earlier [] bands proper is = let same : earlier ≡ bands = cc is in subst IsProper same proper
 rows_proper which width number earlier (fields ∷ rows) bands proper is =
-    let (read, judged, later) = then_is number (own_fault tariff_form.limit width number fields) (tariff_form.judge which earlier fields) _ bands is in
+    let (read, judged, later) = then_is number (own_fault tariff_form.most_rows width number fields) (tariff_form.judge which earlier fields) _ bands is in
     rows_proper which width (number + 1) read rows bands (adds_proper which earlier fields read proper judged) later
 
 below_proper : (first : Fields) (rows : List Fields) (which : Option ℕ) (bands : List Band) → below tariff_form first rows which ≡ Ok bands → IsProper bands

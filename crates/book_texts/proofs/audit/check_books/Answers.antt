@@ -55,7 +55,7 @@ loop-wrongs-preserved g c =
       all,
       taken (books_form (most_rows c.args.size)) g.I.Read.remaining _ c.loop-wrongs.table c.next_row.new.self books read all next steps is,
       all_are,
-      right_so_far (most_rows c.args.size) g.I.Read.remaining _ c.loop-wrongs.table c.next_row.new.self books all _ _ read.limit next steps is noted right,
+      right_so_far (most_rows c.args.size) g.I.Read.remaining _ c.loop-wrongs.table c.next_row.new.self books all _ _ read.most_rows next steps is noted right,
     )
 
 pub returns : goal.returns

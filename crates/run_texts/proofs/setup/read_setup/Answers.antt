@@ -36,7 +36,7 @@ pub loop-directory-preserved : goal.loop-directory-preserved
 loop-directory-preserved g c =
     let next = rw c.if-branch.true at c.in_ok-next_row.ensures.moves in
     record {
-      within = omega (arith, next.within, next.same.limit, c.loop-directory.invariant.so_far.limit);
+      within = omega (arith, next.within, next.same.most_rows, c.loop-directory.invariant.so_far.most_rows);
       few = c.in-Ok.ensures.few;
       count = omega (arith, next.number, c.in-Ok.ensures.count, c.loop-directory.invariant.count);
       so_far = taken setup_form g.I.Read.remaining _ c.loop-directory.table c.next_row.new.self _ c.loop-directory.invariant.so_far _

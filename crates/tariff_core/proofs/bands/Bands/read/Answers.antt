@@ -84,7 +84,7 @@ loop-found-preserved g c =
     (by_header _ _ _ _ c.loop-found.index _ c.loop-found.invariant.has_days next.same.header c.header.ensures c.loop-found.invariant.indexed)) in
     record {
       counted = omega (arith, next.number, c.loop-found.invariant.counted, count_more _ _ c.in-Ok-judge.row kept.rows);
-      within = omega (arith, next.within, next.same.limit, c.loop-found.invariant.so_far.limit);
+      within = omega (arith, next.within, next.same.most_rows, c.loop-found.invariant.so_far.most_rows);
       has_days = c.loop-found.invariant.has_days ∙ ap (λ header. nat_le 3 header) (sym next.same.header);
       indexed = keeps_indexed _ _ _ _ _ c.in-Ok-judge.row c.loop-found.invariant.indexed kept
           (taken_band (header_of c.loop-found.table) _ (fields_of (row_of_table c.next_row.new.self)) (band_of c.in-Ok-judge.row) read).1;
