@@ -65,9 +65,9 @@ impl<I: BufRead, O: Write, L: Write> Driver for LiveDriver<'_, '_, I, O, L> {
 
     ghost ended = { λ driver. has_ended driver.stage };
 
-    ghost Plan = { Unit {0} };
+    ghost Agenda = { Unit {0} };
 
-    ghost plan = { λ _. tt };
+    ghost agenda = { λ _. tt };
 
     ghost hears = { Hears I.remaining O.contents L.contents };
 
