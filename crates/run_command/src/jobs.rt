@@ -3,9 +3,9 @@
 ghost use Rattle.std.specs.Prelude.{◌≡◌, ◌≢◌, ◌≤◌, ◌<◌, ℕ, All, IfErr, IfOk, Ok, length, map, slice_index_or, true};
 ghost use Rattle.run_command.specs.Answers.{MayFail};
 ghost use Rattle.run_command.specs.InParts.{ArePlayed};
-ghost use Rattle.run_command.specs.Turns.{HasPlayedPart, IsFirstPartFault, IsInOrder};
+ghost use Rattle.run_command.specs.Jobs.{HasPlayedPart, IsFirstPartFault, IsInOrder};
 ghost use Rattle.run_command.specs.declared.error.RunError.TheVariants as error;
-ghost use Rattle.run_command.specs.declared.turns.Turn.{Turn};
+ghost use Rattle.run_command.specs.declared.jobs.Job.{Job};
 ghost use Rattle.run_options.specs.Options.{ask_of};
 ghost use Rattle.run_texts.specs.Views.{rows_are_in_order};
 ghost use Rattle.runs_core.specs.declared.run_fault.RunFault.TheVariants as run;
@@ -26,7 +26,7 @@ use tariff_core::MAX_MOMENT;
 
 /// A part that is to be played, or was.
 #[derive(Drop)]
-pub(crate) struct Turn {
+pub(crate) struct Job {
     /// What the script says of it, and nothing once it was played.
     pub script: Vec<ScriptRow>,
     /// What has come of it: out of memory until it was played.
@@ -51,55 +51,55 @@ pub(crate) fn play_all<R: Wait + Threads + Sync, W: Watch + Sync>(
         (map (λ rows. rows.items) scripts.items) parts.items) }
     ensures fault { IfErr result (MayFail options.now.workers) }
 {
-    let mut turns = turns_of(alloc, scripts)?;
-    let slots = turns.as_mut_slice();
-    play_turns(rt, alloc, options, threads, setup, firsts, slots, watching);
-    played(alloc, turns)
+    let mut jobs = jobs_of(alloc, scripts)?;
+    let slots = jobs.as_mut_slice();
+    play_jobs(rt, alloc, options, threads, setup, firsts, slots, watching);
+    played(alloc, jobs)
 }
 
-/// A turn for each script.
-fn turns_of(alloc: Global, scripts: Vec<Vec<ScriptRow>>) -> Result<Vec<Turn>, AllocError>
-    ensures { IfOk result (λ turns. map (λ turn. turn.script) turns.items ≡ scripts.items) }
+/// A job for each script.
+fn jobs_of(alloc: Global, scripts: Vec<Vec<ScriptRow>>) -> Result<Vec<Job>, AllocError>
+    ensures { IfOk result (λ jobs. map (λ job. job.script) jobs.items ≡ scripts.items) }
 {
-    let mut turns = Vec::with_capacity(alloc, scripts.len())?;
+    let mut jobs = Vec::with_capacity(alloc, scripts.len())?;
     for script in scripts {
-        turns.push(Turn {
+        jobs.push(Job {
             script,
             played: Err(RunError::Run(RunFault::OutOfMemory)),
         })?;
     }
-    Ok(turns)
+    Ok(jobs)
 }
 
 /// Plays parts by at most so many threads, each of which takes neighbours.
-fn play_turns<R: Wait + Threads + Sync, W: Watch + Sync>(
+fn play_jobs<R: Wait + Threads + Sync, W: Watch + Sync>(
     rt: &R,
     alloc: Global,
     options: &RunOptions,
     threads: u32,
     setup: &RunSetup,
     firsts: &Firsts,
-    turns: &mut [Turn],
+    jobs: &mut [Job],
     watching: &Watching<'_, W>,
 )
-    requires { All IsInOrder turns.old }
-    ensures { (part : ℕ) (d : Turn) → part < length turns.old
+    requires { All IsInOrder jobs.old }
+    ensures { (part : ℕ) (d : Job) → part < length jobs.old
         → HasPlayedPart (ask_of options.now) setup.now firsts.now part
-        (slice_index_or turns.old part d) (slice_index_or turns.new part d) }
+        (slice_index_or jobs.old part d) (slice_index_or jobs.new part d) }
 {
-    let parts = turns.len();
-    let play = move |number: usize, turn: &mut Turn|
-        requires { IsInOrder turn.now }
+    let parts = jobs.len();
+    let play = move |number: usize, job: &mut Job|
+        requires { IsInOrder job.now }
         ensures { HasPlayedPart (ask_of options.entry.now) setup.entry.now firsts.entry.now number
-            turn.entry.now turn.exit.now }
+            job.entry.now job.exit.now }
     {
         let watching = watching.of_part(number, parts);
-        turn.play(rt, alloc, options, setup, firsts, number, &watching)
+        job.play(rt, alloc, options, setup, firsts, number, &watching)
     };
-    thread::for_each_mut(rt, turns, threads.max(1) as usize, &play);
+    thread::for_each_mut(rt, jobs, threads.max(1) as usize, &play);
 }
 
-impl Turn {
+impl Job {
     /// Plays the part of this number.
     fn play<R: Wait + Threads + Sync, W: Watch>(
         &mut self,
@@ -121,17 +121,17 @@ impl Turn {
 
 /// What is kept of parts that were played, or the first fault that one of them has. Memory may run
 /// out at any.
-fn played(alloc: Global, turns: Vec<Turn>) -> Result<Vec<Part>, RunError>
+fn played(alloc: Global, jobs: Vec<Job>) -> Result<Vec<Part>, RunError>
     ensures parts { IfOk result (λ parts.
-        map (λ turn. turn.played) turns.items ≡ map (λ part. Ok part) parts.items) }
-    ensures fault { (workers : ℕ) → All (λ turn. IfErr turn.played (MayFail workers)) turns.items
+        map (λ job. job.played) jobs.items ≡ map (λ part. Ok part) parts.items) }
+    ensures fault { (workers : ℕ) → All (λ job. IfErr job.played (MayFail workers)) jobs.items
         → IfErr result (MayFail workers) }
     ensures first { IfErr result (λ fault. fault ≢ error.Run run.OutOfMemory
-        → IsFirstPartFault turns.items fault) }
+        → IsFirstPartFault jobs.items fault) }
 {
-    let mut parts = Vec::with_capacity(alloc, turns.len())?;
-    for turn in turns {
-        parts.push(turn.played?)?;
+    let mut parts = Vec::with_capacity(alloc, jobs.len())?;
+    for job in jobs {
+        parts.push(job.played?)?;
     }
     Ok(parts)
 }
