@@ -13,7 +13,7 @@ use Rattle.std.proofs.lemmas.Bool.Decides.{nat_tests}
 use Rattle.std.proofs.lemmas.List.{reverse-append}
 use Rattle.run_texts.specs.Happenings.{Happens, Meets, Recharges, ScriptEvent, Starts}
 use Rattle.run_texts.specs.Inputs.{RunInput, as_input_fault, input_of, tariff_in}
-use Rattle.run_texts.specs.Parts.{Texts, texts_of}
+use Rattle.run_texts.specs.Sections.{Texts, texts_of}
 use Rattle.run_texts.specs.Scripts.{is_started, judged_by, judged_row, last_row_moment, read_in, script_form, script_of, script_row_at}
 use Rattle.run_texts.specs.Setups.{TableSetup, account_in, account_row, amount_in, has_subscriber, name_account, name_subscriber, party_in, setup_form, setup_row_at, subscriber_row, table_setup_of, until_in}
 use Rattle.run_texts.specs.Views.{rows_are_in_order, script_event}

@@ -26,7 +26,7 @@ use Rattle.table_core.specs.Rows.{rows_of}
 use Rattle.tariff_core.specs.Bands.{Band}
 use Rattle.tariff_core.specs.Rates.{Rates}
 use Rattle.prepaid_command.specs.Explanations.{IsAdded, IsSaidBy}
-use Rattle.prepaid_command.specs.Faults.{line_of_fault, meaning_in, meaning_of_part, of_rate, of_run, of_serve, status_of}
+use Rattle.prepaid_command.specs.Faults.{line_of_fault, meaning_in, meaning_of_section, of_rate, of_run, of_serve, status_of}
 use Rattle.prepaid_command.specs.Summaries.{status_of_rating, summary_of}
 use Rattle.rating.specs.Asks.{RateWish}
 use Rattle.rating.specs.Ends.{IsInPart, IsRatedWhole as IsRatedWhole}
@@ -43,17 +43,17 @@ use Rattle.prepaid_command.specs.Reports.{table_reports_of}
 use Rattle.prepaid_command.specs.Printouts.{Printout, plain, status_of_printout, printout_of_files, printout_of_run}
 use Rattle.prepaid_command.specs.declared.fault.Fault.{Fault}
 use Rattle.prepaid_command.specs.declared.fault.Fault.TheVariants as fault
-use Rattle.prepaid_command.specs.declared.fault.Part.TheVariants as part
+use Rattle.prepaid_command.specs.declared.fault.TableName.TheVariants as table_name
 
 -- what `price` makes of an input: its lines, or the first fault
 abbrev pub price_of_input : Rates → List ℕ → Result Printout Fault
 price_of_input plan input = and_then (sized input) (λ text.
-    and_then (meaning_in part.Reports (table_reports_of plan (rows_of text))) (λ reports. Ok (plain (price_lines plan 0 reports))))
+    and_then (meaning_in table_name.Reports (table_reports_of plan (rows_of text))) (λ reports. Ok (plain (price_lines plan 0 reports))))
 
 -- what `replay` makes of it
 abbrev pub replay_of_input : ℕ → ℕ → List ℕ → Result Printout Fault
 replay_of_input opening limit input = and_then (sized input) (λ text.
-    and_then (meaning_in part.Ops (replayed opening limit (rows_of text))) (λ lines. Ok (plain lines)))
+    and_then (meaning_in table_name.Ops (replayed opening limit (rows_of text))) (λ lines. Ok (plain lines)))
 
 -- an answer of a run, its fault as the program's
 pub record IsRunPrinted (ask : RunAsk) (text : List ℕ) (answer : Result Printout Fault) : Type 0 where
@@ -88,7 +88,7 @@ pub record IsAuditPrinted (ask : AuditAsk) (text : List ℕ) (books : Books) (an
 -- what `audit` makes of a table of books, as it is asked
 abbrev pub IsAuditOfTable : AuditAsk → List ℕ → Result Printout Fault → Type 0
 IsAuditOfTable ask text answer =
-    MatchResult (meaning_in part.Book (books_of (most_rows ask.size) (rows_of text))) (λ books. IsAuditPrinted ask text books answer) (λ why. answer ≡ Err why)
+    MatchResult (meaning_in table_name.Book (books_of (most_rows ask.size) (rows_of text))) (λ books. IsAuditPrinted ask text books answer) (λ why. answer ≡ Err why)
 
 -- and of an input
 abbrev pub IsAuditOfInput : AuditAsk → List ℕ → Result Printout Fault → Type 0
@@ -103,7 +103,7 @@ pub record IsQuotePrinted (bands : List Band) (wish : QuoteWish) (answer : Resul
 -- what `quote` makes of an input, which is a tariff
 abbrev pub IsQuoteOfInput : QuoteWish → List ℕ → Result Printout Fault → Type 0
 IsQuoteOfInput wish input answer =
-    MatchResult (and_then (sized input) (λ text. meaning_of_part (tariff_in text))) (λ bands. IsQuotePrinted bands wish answer) (λ why. answer ≡ Err why)
+    MatchResult (and_then (sized input) (λ text. meaning_of_section (tariff_in text))) (λ bands. IsQuotePrinted bands wish answer) (λ why. answer ≡ Err why)
 
 -- what is made of an input as it was wished, where it is printed once it is whole
 abbrev pub IsAnswerTo : Wish → List ℕ → Result Printout Fault → Type 0

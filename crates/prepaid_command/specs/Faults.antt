@@ -28,18 +28,18 @@ use Rattle.tariff_core.specs.TariffFaults.{tariff_fault_text as tariff_text_of}
 use Rattle.prepaid_command.specs.Input.{is_out_of_memory}
 use Rattle.prepaid_command.specs.declared.fault.Fault.{Fault}
 use Rattle.prepaid_command.specs.declared.fault.Fault.TheVariants as fault
-use Rattle.prepaid_command.specs.declared.fault.Part.{Part}
-use Rattle.prepaid_command.specs.declared.fault.Part.TheVariants as part
+use Rattle.prepaid_command.specs.declared.fault.TableName.{TableName}
+use Rattle.prepaid_command.specs.declared.fault.TableName.TheVariants as table_name
 
--- the name of a part
-abbrev pub name_of_part : Part → List ℕ
-name_of_part part.Reports = codes "reports"
-name_of_part part.Ops = codes "ops"
-name_of_part part.Setup = codes "setup"
-name_of_part part.Script = codes "script"
-name_of_part part.Book = codes "book"
-name_of_part part.Records = codes "records"
-name_of_part part.Messages = codes "messages"
+-- how a table is called
+abbrev pub text_of_table_name : TableName → List ℕ
+text_of_table_name table_name.Reports = codes "reports"
+text_of_table_name table_name.Ops = codes "ops"
+text_of_table_name table_name.Setup = codes "setup"
+text_of_table_name table_name.Script = codes "script"
+text_of_table_name table_name.Book = codes "book"
+text_of_table_name table_name.Records = codes "records"
+text_of_table_name table_name.Messages = codes "messages"
 
 -- the line that says a fault, without its end
 abbrev pub line_of_fault : Fault → List ℕ
@@ -48,7 +48,7 @@ line_of_fault fault.Config = codes "prepaid: input: Config"
 line_of_fault fault.TooLong = codes "prepaid: input: TooLong"
 line_of_fault fault.Parts = codes "prepaid: input: Parts"
 line_of_fault (fault.Tariff row) = codes "prepaid: tariff " ++ tariff_text_of row
-line_of_fault (fault.Table part row) = codes "prepaid: " ++ (name_of_part part ++ (codes " " ++ row_fault_text row))
+line_of_fault (fault.Table name row) = codes "prepaid: " ++ (text_of_table_name name ++ (codes " " ++ row_fault_text row))
 line_of_fault (fault.Log why) = codes "prepaid: log: " ++ name_of_log why
 line_of_fault (fault.LogRow row kind) = codes "prepaid: log row " ++ (decimal row ++ (codes ": " ++ name_of_line kind))
 line_of_fault fault.Into = codes "prepaid: into: Device"
@@ -64,16 +64,16 @@ status_of fault.Device = 2
 status_of (fault.Run why) = 2
 status_of _ = 1
 
--- the fault of a table that is a part of the input
-abbrev pub in_part : Part → TableFault → Fault
-in_part part (table.Row refused) = fault.Table part refused
-in_part part table.Device = fault.Device
-in_part part table.OutOfMemory = fault.Run run.OutOfMemory
+-- the fault of the table that is called so
+abbrev pub in_table : TableName → TableFault → Fault
+in_table name (table.Row refused) = fault.Table name refused
+in_table name table.Device = fault.Device
+in_table name table.OutOfMemory = fault.Run run.OutOfMemory
 
 -- the same, of a table's meaning
-abbrev pub meaning_in : {X : Type 0} → Part → Result X RowFault → Result X Fault
-meaning_in part (Ok x) = Ok x
-meaning_in part (Err refused) = Err (fault.Table part refused)
+abbrev pub meaning_in : {X : Type 0} → TableName → Result X RowFault → Result X Fault
+meaning_in name (Ok x) = Ok x
+meaning_in name (Err refused) = Err (fault.Table name refused)
 
 -- the fault of words that have no request
 abbrev pub of_words : WordsFault → Fault
@@ -86,19 +86,19 @@ abbrev pub of_run_input : InputFault → Fault
 of_run_input input.Parts = fault.Parts
 of_run_input input.TooLong = fault.TooLong
 of_run_input (input.Tariff row) = fault.Tariff row
-of_run_input (input.Setup row) = fault.Table part.Setup row
-of_run_input (input.Script row) = fault.Table part.Script row
+of_run_input (input.Setup row) = fault.Table table_name.Setup row
+of_run_input (input.Script row) = fault.Table table_name.Script row
 of_run_input input.Device = fault.Device
 of_run_input input.OutOfMemory = fault.Run run.OutOfMemory
 
 -- the fault of a table whose header isn't the one that it must have
-abbrev pub no_header : Part → Fault
-no_header part = fault.Table part (record { row = 1; kind = kind.Header })
+abbrev pub no_header : TableName → Fault
+no_header name = fault.Table name (record { row = 1; kind = kind.Header })
 
 -- the fault of records that aren't rated to their end; an output that failed has none
 abbrev pub of_rate : RateFault → Option Fault
 of_rate (rate.Input why) = Some (of_run_input why)
-of_rate rate.Header = Some (no_header part.Records)
+of_rate rate.Header = Some (no_header table_name.Records)
 of_rate rate.Output = None
 
 -- the fault of a log; memory that runs out while it is opened is that of the run
@@ -114,7 +114,7 @@ of_files why = if is_out_of_memory why then fault.Run run.OutOfMemory else fault
 -- the fault of an input that isn't served to its end
 abbrev pub of_serve : ServeError → Option Fault
 of_serve (serve.Input why) = Some (of_run_input why)
-of_serve serve.Header = Some (no_header part.Messages)
+of_serve serve.Header = Some (no_header table_name.Messages)
 of_serve (serve.Log why) = Some (of_log why)
 of_serve (serve.LogRow row kind) = Some (fault.LogRow row kind)
 of_serve (serve.Live live.Input) = Some fault.Device
@@ -122,10 +122,10 @@ of_serve (serve.Live live.Output) = None
 of_serve (serve.Live live.Log) = Some (fault.Log log.Device)
 of_serve (serve.Run why) = Some (fault.Run why)
 
--- what a part of the input of a run means, its faults as the program's
-abbrev pub meaning_of_part : {X : Type 0} → Result X InputFault → Result X Fault
-meaning_of_part (Ok x) = Ok x
-meaning_of_part (Err why) = Err (of_run_input why)
+-- what a section of the input of a run means, its faults as the program's
+abbrev pub meaning_of_section : {X : Type 0} → Result X InputFault → Result X Fault
+meaning_of_section (Ok x) = Ok x
+meaning_of_section (Err why) = Err (of_run_input why)
 
 -- the fault of a run that has no text
 abbrev pub of_run : RunError → Fault

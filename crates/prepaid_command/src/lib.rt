@@ -19,7 +19,7 @@ mod running;
 mod serving;
 mod terminal;
 
-pub use fault::{Fault, Part};
+pub use fault::{Fault, TableName};
 pub use input::MAX_INPUT;
 pub use noting::Noting;
 pub use program::command;

@@ -15,7 +15,7 @@ ghost use Rattle.prepaid_command.specs.Printouts.{printout_of};
 use crate::answer::Answer;
 use crate::ending::Ending;
 use crate::error_lines::{refused_line, report, report_with, tell_output, write_both};
-use crate::fault::{Fault, Part};
+use crate::fault::{Fault, TableName};
 use crate::input::read_input;
 use crate::noting::Noting;
 use crate::price_lines::print_reports;
@@ -207,7 +207,7 @@ fn price_reports<I: Read + Drop>(
         Ok(reports) => Ok(Answer::plain(alloc, print_reports(alloc, plan, &reports)?)),
         Err(fault) => {
             *kept = Some(bytes);
-            Err(Fault::in_part(Part::Reports, fault))
+            Err(Fault::in_table(TableName::Reports, fault))
         }
     }
 }
@@ -230,7 +230,7 @@ fn replay_operations<I: Read + Drop>(
         Ok(text) => Ok(Answer::plain(alloc, text)),
         Err(fault) => {
             *kept = Some(bytes);
-            Err(Fault::in_part(Part::Ops, fault))
+            Err(Fault::in_table(TableName::Ops, fault))
         }
     }
 }
@@ -271,7 +271,7 @@ fn audit_table<I: Read + Drop>(alloc: Global, ask: AuditAsk, table: I) -> Result
             refusals: Refusals::none(),
             unplaced: Vec::new(alloc),
         }),
-        Err(fault) => Err(Fault::in_part(Part::Book, fault)),
+        Err(fault) => Err(Fault::in_table(TableName::Book, fault)),
     }
 }
 

@@ -196,5 +196,5 @@ was_said tell (Err why) x is = cc
 pub tables_rated : (Stood : Closed → ℕ → Knowing) → DecimalsAreRead → DecimalsArePlain → MomentsAreRead → MomentsArePlain → TablesAreRead → RecordsHaveNoDifference Stood → RecordsAreInRange Stood
     → ReadTariffsAreProper → TablesHaveNoDifference Stood
 tables_rated Stood read plain moments moments_plain tables right ranges propers run clock table input is starts text printable input_is =
-    let proper : IsProper run.setup.tariff = propers run.setup.tariff (rows_of input_is.first.part, was_said fault.Tariff (tariff_of (rows_of input_is.first.part)) run.setup.tariff input_is.tariff) in
+    let proper : IsProper run.setup.tariff = propers run.setup.tariff (rows_of input_is.first.section, was_said fault.Tariff (tariff_of (rows_of input_is.first.section)) run.setup.tariff input_is.tariff) in
     table_rated Stood read plain moments moments_plain tables right ranges run clock is starts proper table input text printable input_is

@@ -18,7 +18,7 @@ use Rattle.rating.specs.Texts.{IsRatedText, RatedRow, counts_of, rate_input_of, 
 use Rattle.rating.specs.declared.score.Score.{Score}
 use Rattle.run_laws.specs.Records.{IsServedRun}
 use Rattle.run_laws.specs.Starts.{HaveTheirStarts}
-use Rattle.run_texts.specs.FirstParts.{FirstPart, first_part}
+use Rattle.run_texts.specs.FirstSections.{FirstSection, first_section}
 use Rattle.run_texts.specs.Inputs.{tariff_in}
 use Rattle.shared_account.specs.Closed.{Closed}
 use Rattle.shared_account.specs.Refusals.{Knowing}
@@ -52,9 +52,9 @@ pub record IsPrintable (call : CallRecord) : Type 0 where
 
 -- an input of `rate`: the tariff of a run, and a table behind it
 pub record IsInputOf (run : Run) (table input : List ℕ) : Type 0 where
-  pub first : FirstPart
-  pub is_first : first_part input ≡ Ok first
-  pub tariff : tariff_in first.part ≡ Ok run.setup.tariff
+  pub first : FirstSection
+  pub is_first : first_section input ≡ Ok first
+  pub tariff : tariff_in first.section ≡ Ok run.setup.tariff
   pub rest : first.rest ≡ table
 
 -- a row that was rated is that of a record, and comes to just what the call has paid, unless it has a forfeit

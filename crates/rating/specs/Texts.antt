@@ -1,7 +1,7 @@
 -- The text that `rate` prints of an input.
 use Rattle.std.specs.Prelude.{◌≡◌, ℕ, Bool, List, [], ◌∷◌, ◌++◌, All, length, map, Option, Some, None, Result, Ok, Err, if◌then◌else◌, nat_lt}
 use Rattle.std.specs.List.{flat_map}
-use Rattle.run_texts.specs.FirstParts.{first_part}
+use Rattle.run_texts.specs.FirstSections.{first_section}
 use Rattle.run_texts.specs.Inputs.{tariff_in}
 use Rattle.table_core.specs.Judging.{and_then}
 use Rattle.table_core.specs.Rows.{Fields, rows_of}
@@ -36,9 +36,9 @@ abbrev pub headed : NamesWish → List Band → List Fields → Result RateInput
 headed names bands [] = Err fault.Header
 headed names bands (header ∷ rows) = if nat_lt MAX_SHOWN (row_size header) then Err fault.Header else rated_below bands header rows (found_columns header names)
 
--- an input: its first part, which is its tariff, and its header, judged in this order
+-- an input: its first section, which is its tariff, and its header, judged in this order
 abbrev pub rate_input_of : NamesWish → List ℕ → Result RateInput RateFault
-rate_input_of names text = and_then (as_rate_fault (first_part text)) (λ first. and_then (as_rate_fault (tariff_in first.part)) (λ bands. headed names bands (rows_of first.rest)))
+rate_input_of names text = and_then (as_rate_fault (first_section text)) (λ first. and_then (as_rate_fault (tariff_in first.section)) (λ bands. headed names bands (rows_of first.rest)))
 
 -- a row, and what it comes to
 pub record RatedRow : Type 0 where

@@ -19,7 +19,7 @@ use crate::line::{push_fields, push_names, push_rated};
 use crate::rated::{Rated, rate_row};
 use crate::{RateAsk, RateFault, Score, write_text};
 use csv::ByteRecord;
-use run_texts::{InputFault, read_part, read_tariff};
+use run_texts::{InputFault, read_section, read_tariff};
 use std::alloc::{AllocError, Global};
 use std::io::{BufReader, Read, Write};
 use table_core::Rows;
@@ -52,7 +52,7 @@ pub fn rate<I: Read + Drop, O: Write>(
     let Ok(mut input) = BufReader::new(alloc, input) else {
         return Err(RateFault::Input(InputFault::OutOfMemory));
     };
-    let text = read_part(alloc, &mut input)?;
+    let text = read_section(alloc, &mut input)?;
     let tariff = read_tariff(alloc, text.as_slice())?;
     rate_records(alloc, &tariff, ask, input, output)
 }

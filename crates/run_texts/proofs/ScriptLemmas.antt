@@ -73,8 +73,8 @@ pub order_more : (start : ℕ) (rows : List ScriptRow) (row : ScriptRow) → row
     → rows_are_in_order start (rows ++ row ∷ []) ≡ true
 order_more start [] row ordered after = in_turn (nat_le start row.at) true (grind (arith, nat_tests, after)) refl
 order_more start (first ∷ rows) row ordered after =
-    let parts = and_parts (nat_le start first.at) (rows_are_in_order first.at rows) ordered in
-    in_turn (nat_le start first.at) (rows_are_in_order first.at (rows ++ row ∷ [])) parts.0 (order_more first.at rows row parts.1 after)
+    let sections = and_parts (nat_le start first.at) (rows_are_in_order first.at rows) ordered in
+    in_turn (nat_le start first.at) (rows_are_in_order first.at (rows ++ row ∷ [])) sections.0 (order_more first.at rows row sections.1 after)
 
 -- ---- the rows
 

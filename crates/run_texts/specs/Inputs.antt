@@ -1,7 +1,7 @@
 -- What the input of a run says, or its first fault.
 use Rattle.std.specs.Prelude.{ℕ, List, Result, Ok, Err, map, ok_or}
 use Rattle.run_texts.specs.Happenings.{ScriptEvent}
-use Rattle.run_texts.specs.Parts.{texts_of}
+use Rattle.run_texts.specs.Sections.{texts_of}
 use Rattle.run_texts.specs.Scripts.{script_of}
 use Rattle.run_texts.specs.Setups.{TableSetup, table_setup_of}
 use Rattle.run_texts.specs.Views.{script_event, setup_in}
@@ -23,7 +23,7 @@ pub record RunInput : Type 0 where
 abbrev pub input_in : RunTexts → RunInput
 input_in texts = record { tariff = texts.tariff; setup = setup_in texts.directory; script = map script_event texts.script.items }
 
--- the meaning of a part, whose faults are named so
+-- the meaning of a section, whose faults are named so
 abbrev pub as_input_fault : {X E : Type 0} → (E → InputFault) → Result X E → Result X InputFault
 as_input_fault tell (Ok x) = Ok x
 as_input_fault tell (Err why) = Err (tell why)
@@ -32,7 +32,7 @@ as_input_fault tell (Err why) = Err (tell why)
 abbrev pub tariff_in : List ℕ → Result (List Band) InputFault
 tariff_in text = as_input_fault input.Tariff (tariff_of (rows_of text))
 
--- what an input says, its parts judged in order
+-- what an input says, its sections judged in order
 abbrev pub input_of : List ℕ → Result RunInput InputFault
 input_of text =
     and_then (ok_or (texts_of text) input.Parts) (λ texts.

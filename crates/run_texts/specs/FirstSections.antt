@@ -1,49 +1,49 @@
--- The first part of a text: what is before the first line that is a divider.
+-- The first section of a text: what is before the first line that is a divider.
 use Rattle.std.specs.Prelude.{◌≡◌, ◌+◌, ◌<◌, ℕ, List, [], ◌∷◌, ◌++◌, length, drop, Option, Some, None, Result, Ok, Err, ⊤, if◌then◌else◌, nat_lt, option_map}
 use Rattle.std.specs.Io.BufRead.{drop_through, take_through}
 use Rattle.std.specs.Io.KnownBytes.{Consumes, IsAtEnd, Keeps}
 use Rattle.run_texts.specs.InputFaults.{RefusesInput}
-use Rattle.run_texts.specs.Parts.{is_divider, lines_in_text}
+use Rattle.run_texts.specs.Sections.{is_divider, lines_in_text}
 use Rattle.run_texts.specs.declared.input_fault.InputFault.{InputFault}
 use Rattle.run_texts.specs.declared.input_fault.InputFault.TheVariants as fault
-use Rattle.run_texts.specs.declared.part.TheConstants.{MAX_PART}
+use Rattle.run_texts.specs.declared.section.TheConstants.{MAX_SECTION}
 
 -- what is before the first divider, and the divider
 pub record Division : Type 0 where
-  pub part : List ℕ
+  pub section : List ℕ
   pub divider : List ℕ
 
 -- a text is before the lines that are divided
 abbrev pub with_front : List ℕ → Division → Division
-with_front front division = record { part = front ++ division.part; divider = division.divider }
+with_front front division = record { section = front ++ division.section; divider = division.divider }
 
 -- some lines, divided at the first divider among them
 unfoldable pub division_of : List (List ℕ) → Option Division
 division_of [] = None
-division_of (line ∷ lines) = if is_divider line then Some (record { part = []; divider = line }) else option_map (with_front line) (division_of lines)
+division_of (line ∷ lines) = if is_divider line then Some (record { section = []; divider = line }) else option_map (with_front line) (division_of lines)
 
--- a part, and what is behind its divider
-pub record FirstPart : Type 0 where
-  pub part : List ℕ
+-- a section, and what is behind its divider
+pub record FirstSection : Type 0 where
+  pub section : List ℕ
   pub rest : List ℕ
 
 -- what is behind the divider
-abbrev pub part_at : List ℕ → Division → FirstPart
-part_at text division = record { part = division.part; rest = drop (length division.part + length division.divider) text }
+abbrev pub section_at : List ℕ → Division → FirstSection
+section_at text division = record { section = division.section; rest = drop (length division.section + length division.divider) text }
 
--- the part and its divider have `MAX_PART` bytes at most, or where there is no divider the whole text
-abbrev pub first_part_by : List ℕ → Option Division → Result FirstPart InputFault
-first_part_by text None = Err (if nat_lt MAX_PART (length text) then fault.TooLong else fault.Parts)
-first_part_by text (Some division) = if nat_lt MAX_PART (length division.part + length division.divider) then Err fault.TooLong else Ok (part_at text division)
+-- the section and its divider have `MAX_SECTION` bytes at most, or where there is no divider the whole text
+abbrev pub first_section_by : List ℕ → Option Division → Result FirstSection InputFault
+first_section_by text None = Err (if nat_lt MAX_SECTION (length text) then fault.TooLong else fault.Parts)
+first_section_by text (Some division) = if nat_lt MAX_SECTION (length division.section + length division.divider) then Err fault.TooLong else Ok (section_at text division)
 
--- the first part of a text
-abbrev pub first_part : List ℕ → Result FirstPart InputFault
-first_part text = first_part_by text (division_of (lines_in_text text))
+-- the first section of a text
+abbrev pub first_section : List ℕ → Result FirstSection InputFault
+first_section text = first_section_by text (division_of (lines_in_text text))
 
--- the part was read of a text, and what is behind its divider is left
+-- the section was read of a text, and what is behind its divider is left
 abbrev pub Divides : List ℕ → Option (List ℕ) → Result (List ℕ) InputFault → Type 0
-Divides text left (Ok part) = (rest : List ℕ) × (left ≡ Some rest) × (first_part text ≡ Ok (record { part = part; rest = rest }))
-Divides text left (Err why) = RefusesInput why (first_part text)
+Divides text left (Ok section) = (rest : List ℕ) × (left ≡ Some rest) × (first_section text ≡ Ok (record { section = section; rest = rest }))
+Divides text left (Err why) = RefusesInput why (first_section text)
 
 -- the first line of a text was read, and what is behind it is left; or it has more bytes than these
 abbrev pub ReadsLine : ℕ → List ℕ → Option (List ℕ) → Option (List ℕ) → Type 0

@@ -2,8 +2,8 @@ use Rattle.std.proofs.Common.{◌≢◌, [], ◌∷◌, sym, ◌∙◌, arith, a
 use Rattle.std.proofs.BufReadLemmas.{Consumes_through}
 use Rattle.std.proofs.lemmas.List.Elements.{All-nil}
 use Rattle.table_core.proofs.Known.{if_known}
-use Rattle.run_texts.proofs.FirstPartLemmas.{ends_some, kept_none, longer}
-use Rattle.run_texts.proofs.part.read_line.Goals as goal
+use Rattle.run_texts.proofs.FirstSectionLemmas.{ends_some, kept_none, longer}
+use Rattle.run_texts.proofs.section.read_line.Goals as goal
 
 pub returns-in_default-clause-reads : goal.returns-in_default-clause-reads
 returns-in_default-clause-reads g c =

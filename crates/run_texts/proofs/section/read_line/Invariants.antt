@@ -1,6 +1,6 @@
 use Rattle.std.proofs.Common.{◌≢◌, ◌≤◌, All, length}
 use Rattle.std.specs.Io.KnownBytes.{Consumes}
-use Rattle.run_texts.proofs.part.read_line.Given as goal
+use Rattle.run_texts.proofs.section.read_line.Given as goal
 
 -- what was taken is a line so far, which has no LF
 abbrev pub invariant-loop-turn : goal.invariant-loop-turn

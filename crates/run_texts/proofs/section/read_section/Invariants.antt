@@ -1,6 +1,6 @@
 use Rattle.std.proofs.Common.{◌≡◌, ◌≤◌, List, ℕ, length, Some}
-use Rattle.run_texts.proofs.FirstPartLemmas.{IsUnderWay}
-use Rattle.run_texts.proofs.part.read_part.Given as goal
+use Rattle.run_texts.proofs.FirstSectionLemmas.{IsUnderWay}
+use Rattle.run_texts.proofs.section.read_section.Given as goal
 
 -- the lines so far divide nothing
 abbrev pub invariant-loop-turn : goal.invariant-loop-turn

@@ -1,5 +1,5 @@
 use Rattle.std.specs.Io.KnownBytes.{Keeps}
-use Rattle.run_texts.proofs.part.read_byte.Given as goal
+use Rattle.run_texts.proofs.section.read_byte.Given as goal
 
 -- nothing was taken
 abbrev pub invariant-loop-turn : goal.invariant-loop-turn

@@ -2,8 +2,8 @@ use Rattle.std.proofs.Common.{◌≡◌, ◌==◌, ◌-◌, true, sym, ◌∙◌
 use Rattle.std.proofs.lemmas.Bool.Decides.{nat_tests}
 use Rattle.std.proofs.lemmas.Bool.{eqb-false}
 use Rattle.table_core.proofs.Known.{if_known}
-use Rattle.run_texts.proofs.FirstPartLemmas.{divided, line_more, too_long, undivided, within_line}
-use Rattle.run_texts.proofs.part.read_part.Goals as goal
+use Rattle.run_texts.proofs.FirstSectionLemmas.{divided, line_more, too_long, undivided, within_line}
+use Rattle.run_texts.proofs.section.read_section.Goals as goal
 
 pub returns-in_default : goal.returns-in_default
 returns-in_default g c = if_known (g.I.Read.remaining c.args.input.now) _ (λ text known.

@@ -1,30 +1,30 @@
-//! A part of an input that is read as it comes.
+//! A section of an input that is read as it comes.
 
 ghost use Rattle.std.specs.Prelude.{◌≤◌, length, IfErr, IfOk, IfSome};
 ghost use Rattle.std.specs.Option.{option_map};
 ghost use Rattle.std.specs.Result.{result_map_both};
-ghost use Rattle.run_texts.specs.FirstParts.{Divides, InputFaultMayAlwaysCome, ReadsLine, TakesByte};
+ghost use Rattle.run_texts.specs.FirstSections.{Divides, InputFaultMayAlwaysCome, ReadsLine, TakesByte};
 
 use crate::InputFault;
 use crate::input::is_divider;
 use std::alloc::Global;
 use std::io::{Error, ErrorKind, Read};
 
-/// The most bytes of a part that is read as it comes, its divider counted.
-pub const MAX_PART: usize = 16_777_216;
+/// The most bytes of a section that is read as it comes, its divider counted.
+pub const MAX_SECTION: usize = 16_777_216;
 
 /// Reads what is before the next line `%%` of an input, which then has left what is behind
 /// it. That line stands alone and is ended by LF, CR LF or the end of the input.
 ///
-/// `Parts` where there is no such line; but `TooLong` where the part has more than `MAX_PART`
+/// `Parts` where there is no such line; but `TooLong` where the section has more than `MAX_SECTION`
 /// bytes, its divider counted.
-pub fn read_part<I: Read>(alloc: Global, input: &mut I) -> Result<Vec<u8>, InputFault>
+pub fn read_section<I: Read>(alloc: Global, input: &mut I) -> Result<Vec<u8>, InputFault>
     ensures { IfSome (I.remaining input.old) (λ text. Divides text (I.remaining input.new)
-        (result_map_both (λ part. part.items) (λ fault. fault) result)) }
+        (result_map_both (λ section. section.items) (λ fault. fault) result)) }
 {
     let mut text = Vec::new(alloc);
     for _turn in 0..u64::MAX {
-        let Some(line) = read_line(alloc, input, MAX_PART - text.len())? else {
+        let Some(line) = read_line(alloc, input, MAX_SECTION - text.len())? else {
             return Err(InputFault::TooLong);
         };
         if is_divider(line.as_slice()) {

@@ -1,12 +1,12 @@
--- A part is read line by line as far as its divider, and a line byte by byte.
+-- A section is read line by line as far as its divider, and a line byte by byte.
 use Rattle.std.proofs.Common.{◌≡◌, ◌≢◌, ◌==◌, ◌+◌, ◌<◌, ◌≤◌, ℕ, Bool, true, false, List, [], ◌∷◌, ◌++◌, All, length, drop, take, Option, Some, None, Ok, Err, refl, sym, ap, subst, ◌∙◌, arith, append_assoc, append-nil, length-append}
 use Rattle.std.specs.Prelude.{if◌then◌else◌, nat_lt, option_map, ⊤, IfSome, OnSome}
 use Rattle.std.specs.Io.BufRead.{drop_through, take_through}
 use Rattle.std.specs.Io.KnownBytes.{Consumes, IsAtEnd, Keeps}
 use Rattle.std.proofs.BufReadLemmas.{take_through-append, take_through-nil}
 use Rattle.std.proofs.lemmas.Bool.Decides.{nat_tests}
-use Rattle.run_texts.specs.FirstParts.{Division, ReadsLine, division_of, first_part, first_part_by, with_front}
-use Rattle.run_texts.specs.Parts.{with_first_byte, is_divider, lines_in_text}
+use Rattle.run_texts.specs.FirstSections.{Division, ReadsLine, division_of, first_section, first_section_by, with_front}
+use Rattle.run_texts.specs.Sections.{with_first_byte, is_divider, lines_in_text}
 use Rattle.run_texts.specs.declared.input_fault.InputFault.TheVariants as fault
 
 -- ---- readers
@@ -84,7 +84,7 @@ ends_some (Some x) (Some y) end keeps = keeps ∙ end
 
 -- how many bytes a division has
 abbrev size : Division → ℕ
-size d = length d.part + length d.divider
+size d = length d.section + length d.divider
 
 -- of a division that there is
 abbrev SizeAbove : ℕ → Option Division → Type 0
@@ -93,7 +93,7 @@ SizeAbove least (Some d) = least < size d
 
 fronts : (front line : List ℕ) (found : Option Division) → option_map (with_front front) (option_map (with_front line) found) ≡ option_map (with_front (front ++ line)) found
 fronts front line None = refl
-fronts front line (Some d) = ap (λ t. Some (record { part = t; divider = d.divider })) (sym (append_assoc front line d.part))
+fronts front line (Some d) = ap (λ t. Some (record { section = t; divider = d.divider })) (sym (append_assoc front line d.section))
 
 no_front : (found : Option Division) → found ≡ option_map (with_front []) found
 no_front None = refl
@@ -101,18 +101,18 @@ no_front (Some d) = refl
 
 above_front : (front : List ℕ) (least : ℕ) (found : Option Division) → SizeAbove least found → SizeAbove (length front + least) (option_map (with_front front) found)
 above_front front least None above = tt
-above_front front least (Some d) above = omega (arith, above, length-append front d.part)
+above_front front least (Some d) above = omega (arith, above, length-append front d.section)
 
 above_line : (line : List ℕ) (least : ℕ) (found : Option Division) → least < length line → SizeAbove least (option_map (with_front line) found)
 above_line line least None above = tt
-above_line line least (Some d) above = omega (arith, above, length-append line d.part)
+above_line line least (Some d) above = omega (arith, above, length-append line d.section)
 
 first_above : (divides : Bool) (line : List ℕ) (least : ℕ) (found : Option Division) → least < length line
-    → SizeAbove least (if divides then Some (record { part = []; divider = line }) else option_map (with_front line) found)
+    → SizeAbove least (if divides then Some (record { section = []; divider = line }) else option_map (with_front line) found)
 first_above true line least found above = omega (arith, above)
 first_above false line least found above = above_line line least found above
 
-divides_here : (line : List ℕ) (lines : List (List ℕ)) → is_divider line ≡ true → division_of (line ∷ lines) ≡ Some (record { part = []; divider = line })
+divides_here : (line : List ℕ) (lines : List (List ℕ)) → is_divider line ≡ true → division_of (line ∷ lines) ≡ Some (record { section = []; divider = line })
 unfolding division_of
 divides_here line lines is = rw is refl
 
@@ -135,16 +135,16 @@ dropped front line rest =
     let size : length front + length line ≡ length (front ++ line) = sym (length-append front line) in
     rw (size, ← append_assoc front line rest) (drop_front (front ++ line) rest)
 
-part_found : (text front line rest : List ℕ) → text ≡ front ++ (line ++ rest) → length front + length line ≤ 16777216
-    → division_of (lines_in_text text) ≡ Some (record { part = front ++ []; divider = line }) → first_part text ≡ Ok (record { part = front; rest = rest })
-part_found text front line rest whole within is =
-    rw (is, append-nil front, not_below 16777216 (length front + length line) within) (ap (λ left. Ok (record { part = front; rest = left })) (rw whole (dropped front line rest)))
+section_found : (text front line rest : List ℕ) → text ≡ front ++ (line ++ rest) → length front + length line ≤ 16777216
+    → division_of (lines_in_text text) ≡ Some (record { section = front ++ []; divider = line }) → first_section text ≡ Ok (record { section = front; rest = rest })
+section_found text front line rest whole within is =
+    rw (is, append-nil front, not_below 16777216 (length front + length line) within) (ap (λ left. Ok (record { section = front; rest = left })) (rw whole (dropped front line rest)))
 
-above_all : (text : List ℕ) (least : ℕ) (found : Option Division) → 16777216 ≤ least → 16777216 < length text → SizeAbove least found → first_part_by text found ≡ Err fault.TooLong
+above_all : (text : List ℕ) (least : ℕ) (found : Option Division) → 16777216 ≤ least → 16777216 < length text → SizeAbove least found → first_section_by text found ≡ Err fault.TooLong
 above_all text least None much size above = rw (is_below 16777216 (length text) size) refl
-above_all text least (Some d) much size above = rw (is_below 16777216 (length d.part + length d.divider) (omega (arith, much, above))) refl
+above_all text least (Some d) much size above = rw (is_below 16777216 (length d.section + length d.divider) (omega (arith, much, above))) refl
 
--- ---- a part
+-- ---- a section
 
 -- a text is read line by line, and nothing has divided it
 pub record IsUnderWay (text front : List ℕ) (left : Option (List ℕ)) : Type 0 where
@@ -172,25 +172,25 @@ next_line text front rest line c whole so_far line_is =
 
 divided_at : (text front rest line : List ℕ) (new : Option (List ℕ)) → text ≡ front ++ rest → division_of (lines_in_text text) ≡ option_map (with_front front) (division_of (lines_in_text rest))
     → line ≡ take_through 10 rest → new ≡ Some (drop_through 10 rest) → length front + length line ≤ 16777216 → is_divider line ≡ true
-    → (more : List ℕ) × (new ≡ Some more) × (first_part text ≡ Ok (record { part = front; rest = more }))
+    → (more : List ℕ) × (new ≡ Some more) × (first_section text ≡ Ok (record { section = front; rest = more }))
 divided_at text front [] line new whole so_far line_is left within is = let no : is_divider [] ≡ true = ap is_divider (sym line_is) ∙ is in cc
 divided_at text front (c ∷ rest) line new whole so_far line_is left within is =
     let next = next_line text front rest line c whole so_far line_is in (
       drop_through 10 (c ∷ rest),
       left,
-      part_found text front line (drop_through 10 (c ∷ rest)) next.whole within
+      section_found text front line (drop_through 10 (c ∷ rest)) next.whole within
           (next.so_far ∙ ap (λ found. option_map (with_front front) found) (divides_here line (lines_in_text (drop_through 10 (c ∷ rest))) is)),
     )
 
 -- a line that is a divider
 pub divided : (most : ℕ) (text front line : List ℕ) (left new : Option (List ℕ)) → IsUnderWay text front left
     → IfSome left (λ rest. ReadsLine most rest new (Some line)) → length front + length line ≤ 16777216 → is_divider line ≡ true
-    → (more : List ℕ) × (new ≡ Some more) × (first_part text ≡ Ok (record { part = front; rest = more }))
+    → (more : List ℕ) × (new ≡ Some more) × (first_section text ≡ Ok (record { section = front; rest = more }))
 divided most text front line left new way read within is =
     let (line_is, left_is) = rw way.known at read in
     divided_at text front way.rest line new way.whole way.so_far line_is left_is within is
 
-undivided_by : (text : List ℕ) (found : Option Division) → found ≡ None → length text ≤ 16777216 → first_part_by text found ≡ Err fault.Parts
+undivided_by : (text : List ℕ) (found : Option Division) → found ≡ None → length text ≤ 16777216 → first_section_by text found ≡ Err fault.Parts
 undivided_by text None none size = rw (not_below 16777216 (length text) size) refl
 undivided_by text (Some d) none size = cc
 
@@ -201,7 +201,7 @@ nothing front (c ∷ rest) none = cc
 
 -- the text has ended without one
 pub undivided : (most : ℕ) (text front line : List ℕ) (left new : Option (List ℕ)) → IsUnderWay text front left
-    → IfSome left (λ rest. ReadsLine most rest new (Some line)) → length front ≤ 16777216 → length line ≡ 0 → first_part text ≡ Err fault.Parts
+    → IfSome left (λ rest. ReadsLine most rest new (Some line)) → length front ≤ 16777216 → length line ≡ 0 → first_section text ≡ Err fault.Parts
 undivided most text front line left new way read within none =
     let (line_is, left_is) = rw way.known at read in
     let empty : way.rest ≡ [] = take_through-nil 10 way.rest (sym (ap length line_is) ∙ none) in
@@ -216,7 +216,7 @@ above_at most (c ∷ rest) long =
 
 -- there is no room for the next line
 pub too_long : (most : ℕ) (text front : List ℕ) (left new : Option (List ℕ)) → IsUnderWay text front left
-    → IfSome left (λ rest. ReadsLine most rest new None) → length front + most ≡ 16777216 → first_part text ≡ Err fault.TooLong
+    → IfSome left (λ rest. ReadsLine most rest new None) → length front + most ≡ 16777216 → first_section text ≡ Err fault.TooLong
 too_long most text front left new way read room =
     let long : most < length (take_through 10 way.rest) = rw way.known at read in
     let above = above_front front most (division_of (lines_in_text way.rest)) (above_at most way.rest long) in
