@@ -105,7 +105,7 @@ module _ (config : SsfConfig) (now : ℕ) (trace : List Happening) (ahead : (e :
 
 -- ---- a gsmSSF
 
--- of a gsmSSF no timer expires before its last moment, nor before this one
+-- of a gsmSSF no timer expires before its latest moment, nor before this one
 pub record IsTimely (now : ℕ) (view : View) : Type 0 where
   pub own : ExpiresFrom view view.last
   pub from : ExpiresFrom view now

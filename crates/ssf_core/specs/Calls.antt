@@ -12,7 +12,7 @@ use Rattle.ssf_core.specs.declared.item.Out.{Out}
 use Rattle.ssf_core.specs.declared.stage.Stage.{Stage}
 use Rattle.ssf_core.specs.declared.timers.Timer.{Timer}
 
--- a gsmSSF, as contracts see it: how it is set up, the last moment that it took, and where its call is
+-- a gsmSSF, as contracts see it: how it is set up, the latest moment that it took, and where its call is
 pub record View : Type 0 where
   pub config : SsfConfig
   pub last : ℕ

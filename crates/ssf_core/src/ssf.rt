@@ -79,7 +79,7 @@ impl Ssf {
     }
 
     /// The least moment at which a timer is due, or none where no timer runs. It doesn't lie behind
-    /// the last moment that the gsmSSF took.
+    /// the latest moment that the gsmSSF took.
     pub fn next_due(&self) -> Option<Moment>
         ensures least { (t : List Happening)
             → Stands self.now t → IsNextDue self.now.config t result }
