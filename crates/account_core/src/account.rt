@@ -297,7 +297,7 @@ impl Teller {
         ensures owed { (ledger : Ledger) → Admits ledger self.old admitted →
             IsOwed (reverse ledger.history) (asked_of admitted.op) → IsOk result }
     {
-        let reply = self.answer(&admitted);
+        let reply = self.reply_to(&admitted);
         let Admitted { op, call: before } = admitted;
         let entry = Entry { seat, op, reply };
         match op {
@@ -340,7 +340,7 @@ impl Teller {
 
     /// The answer to an operation that is admitted.
     #[inline(always)]
-    fn answer(&self, admitted: &Admitted) -> Reply
+    fn reply_to(&self, admitted: &Admitted) -> Reply
         requires { (ledger : Ledger) × Admits ledger self.now admitted.now }
         ensures { (ledger : Ledger) → Admits ledger self.now admitted.now →
             result ≡ answer_of ledger (asked_of admitted.now.op) }

@@ -7,7 +7,7 @@ use crate::forms::{
     column, headers_of, most_rows_of, refused_in_book, refused_in_ops, refused_in_reports,
     refused_in_script, refused_in_setup,
 };
-use crate::found_rows::{at, rows_at};
+use crate::found_rows::{field_at, rows_at};
 use crate::midnight::{push_no_midnight, push_repeated_band};
 use crate::row_line::push_shown;
 use crate::unknown_words::push_unknown_word;
@@ -137,8 +137,8 @@ fn push_column_reason(
 ) -> Result<(), AllocError> {
     push_refusal(
         text,
-        at(names, column.place),
-        at(row, column.place),
+        field_at(names, column.place),
+        field_at(row, column.place),
         column.wants,
     )
 }
@@ -158,7 +158,7 @@ fn push_fields(text: &mut String, row: &ByteRecord) -> Result<(), AllocError> {
         if place > 0 {
             write!(text, ",")?;
         }
-        push_shown(text, at(row, place))?;
+        push_shown(text, field_at(row, place))?;
     }
     Ok(())
 }
@@ -177,7 +177,7 @@ fn push_header(
     write!(text, "found: ")?;
     push_fields(text, row)?;
     writeln!(text)?;
-    if row.len() == 1 && is_separated(at(row, 0)) {
+    if row.len() == 1 && is_separated(field_at(row, 0)) {
         writeln!(text, "the separator is a comma")?;
     }
     Ok(())

@@ -1,8 +1,8 @@
-pub mod Entries
 pub mod FirstSections
 pub mod Happenings
 pub mod InputFaults
 pub mod Inputs
+pub mod ListedRows
 pub mod Scripts
 pub mod Sections
 pub mod Setups

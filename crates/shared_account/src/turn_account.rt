@@ -138,7 +138,7 @@ impl TurnAccount {
     {
         let _door = self.door.lock(rt);
         take_turn(rt, &self.board, &mut seat.chair);
-        let result = enter(
+        let result = ask_and_count(
             &self.board,
             &mut seat.chair,
             self.number,
@@ -195,7 +195,7 @@ impl TurnAccount {
 }
 
 /// Asks the account of a chair that has the turn, where the gate lets it, and counts the entry.
-fn enter<G: Gate>(
+fn ask_and_count<G: Gate>(
     board: &Board,
     chair: &mut Chair,
     account: u32,

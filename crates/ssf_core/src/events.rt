@@ -59,14 +59,14 @@ pub(crate) fn meet(
             )
         }
         BcsmEvent::NoAnswer => fail(config, stage, sent, now, Event::NoAnswer, Point::NoAnswer),
-        BcsmEvent::Answer => answer(stage, sent, now),
+        BcsmEvent::Answer => activate(stage, sent, now),
         BcsmEvent::Disconnect(leg) => disconnect(config, stage, sent, now, leg),
         BcsmEvent::Abandon => abandon(stage, sent, now),
     }
 }
 
 /// Answer: the call is active; reported where its mode is NotifyAndContinue.
-fn answer(stage: Stage, sent: &mut ArrayVec<Out, 8>, now: Moment) -> Result<Stage, SsfFault>
+fn activate(stage: Stage, sent: &mut ArrayVec<Out, 8>, now: Moment) -> Result<Stage, SsfFault>
     requires room { array_vec_len sent.old ≤ 5 }
     requires timely { IsTimelyStage now stage }
     ensures takes { (config : Config) → TakesInput config stage now

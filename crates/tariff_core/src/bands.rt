@@ -268,13 +268,13 @@ fn keep(
     requires { by_days ≡ false → text_of_digits row.days ≡ [] }
     ensures { OnOk result (KeepsRow by_days rows.old.items index.old row rows.new.items index.new) }
 {
-    enter(index, by_days, row)?;
+    index_row(index, by_days, row)?;
     rows.push(row)?;
     Ok(())
 }
 
 /// Puts a row into the index, by its key for each day on which it counts.
-fn enter(index: &mut BTreeMap<BandKey, Row>, by_days: bool, row: Row) -> Result<(), AllocError>
+fn index_row(index: &mut BTreeMap<BandKey, Row>, by_days: bool, row: Row) -> Result<(), AllocError>
     requires { by_days ≡ false → text_of_digits row.days ≡ [] }
     ensures { OnOk result (Finds by_days index.old row index.new) }
 {

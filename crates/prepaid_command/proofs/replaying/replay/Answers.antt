@@ -35,7 +35,7 @@ pub read_ask-requires : goal.read_ask-requires
 read_ask-requires g c =
     let (asks, ledger, read, teller_is, replay) = c.loop-text.invariant in
     let next = rw c.if-branch.true at c.in_ok-next_row.ensures.moves in
-    rw (c.at.ensures, c.header.ensures, c.row.ensures)
+    rw (c.of_header.ensures, c.header.ensures, c.row.ensures)
     (has_operation _ _ (header_stays asks_form g.I.Read.remaining _ c.loop-text.table c.next_row.new.self asks read next)
     (row_columns asks_form g.I.Read.remaining _ c.loop-text.table c.next_row.new.self asks read next))
 
@@ -43,7 +43,7 @@ pub returns-in-Err : goal.returns-in-Err
 returns-in-Err g c =
     let (asks, ledger, read, teller_is, replay) = c.loop-text.invariant in
     let next = rw c.if-branch.true at c.in_ok-next_row.ensures.moves in
-    let why = rw (c.row.ensures, c.at.ensures, c.header.ensures, next.same.header) at (sym c.in-Err.ensures) in
+    let why = rw (c.row.ensures, c.of_header.ensures, c.header.ensures, next.same.header) at (sym c.in-Err.ensures) in
     rw c.fault.ensures (map_known (g.I.Read.remaining c.args.reader) _ _
     (refused asks_form g.I.Read.remaining _ c.loop-text.table c.next_row.new.self asks read c.in-Err.kind
     next (rw c.if-branch.true at c.in_ok-next_row.ensures.steps) (rw why refl))
@@ -59,7 +59,7 @@ loop-text-preserved g c =
     let (asks, ledger, read, teller_is, replay) = c.loop-text.invariant in
     let ask = c.in-Ok.ask in
     let next = rw c.if-branch.true at c.in_ok-next_row.ensures.moves in
-    let asked = rw (c.row.ensures, c.at.ensures, c.header.ensures, next.same.header) at (sym c.in-Ok.ensures) in
+    let asked = rw (c.row.ensures, c.of_header.ensures, c.header.ensures, next.same.header) at (sym c.in-Ok.ensures) in
     let answers = c.apply.ensures in (
       asks ++ asking_of ask ∷ [],
       ledger_after ledger ask.seat (asked_of ask.op) c.apply.result,

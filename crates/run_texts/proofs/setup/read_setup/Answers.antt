@@ -25,8 +25,8 @@ returns-in_err-next_row-clause-means g c =
     (stopped setup_form g.I.Read.remaining _ c.loop-directory.table c.next_row.new.self _ c.loop-directory.invariant.so_far c.in_err-next_row.field-0.0 c.in_err-next_row.ensures.steps)
     (λ text. refuses setup_form (λ row why. refl) (λ all. all) (λ why. refl) c.in_err-next_row.field-0.0 (table_setup_of (rows_of text)))
 
-pub enter-requires-clause-fields : goal.enter-requires-clause-fields
-enter-requires-clause-fields g c =
+pub list_row-requires-clause-fields : goal.list_row-requires-clause-fields
+list_row-requires-clause-fields g c =
     let next = rw c.if-branch.true at c.in_ok-next_row.ensures.moves in
     rw c.row.ensures
     (setup_columns _ _ (header_stays setup_form g.I.Read.remaining _ c.loop-directory.table c.next_row.new.self _ c.loop-directory.invariant.so_far next)

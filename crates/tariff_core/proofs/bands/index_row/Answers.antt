@@ -4,8 +4,8 @@ use Rattle.std.specs.Prelude.{Some}
 use Rattle.tariff_core.specs.BandKeys.{by_band_key}
 use Rattle.tariff_core.proofs.EnteringLemmas.{entered_all, entered_more, entered_not, none_entered}
 use Rattle.tariff_core.proofs.RangeLemmas.{band_key_at}
-use Rattle.tariff_core.proofs.bands.enter.Goals as goal
-use Rattle.tariff_core.proofs.bands.enter.Goals.{then-counts_on+in_ok-insert, else-counts_on}
+use Rattle.tariff_core.proofs.bands.index_row.Goals as goal
+use Rattle.tariff_core.proofs.bands.index_row.Goals.{then-counts_on+in_ok-insert, else-counts_on}
 
 pub loop-day-init : goal.loop-day-init
 loop-day-init c = none_entered c.keys-first.result.0 c.args.index.now c.args.row

@@ -1,7 +1,7 @@
 use Rattle.std.proofs.Common.{◌∙◌, sym}
 use Rattle.std.proofs.lemmas.Result.{err_from_is_err_and}
 use Rattle.run_texts.proofs.EntryLemmas.{subscriber_entered, subscriber_refused}
-use Rattle.run_texts.proofs.setup.enter_subscriber.Goals as goal
+use Rattle.run_texts.proofs.setup.list_subscriber.Goals as goal
 
 pub returns-in_err-subscriber-clause-means : goal.returns-in_err-subscriber-clause-means
 returns-in_err-subscriber-clause-means c =

@@ -6,7 +6,7 @@ use Rattle.std.specs.Ordering.{nat_cmp}
 use Rattle.account_core.specs.Entries.{entry_data}
 use Rattle.book_texts.proofs.CheckLemmas.{checks_set, found, heard_by, is_found, not_found}
 use Rattle.rising_map.proofs.RisingLemmas.{absent, present, set_there}
-use Rattle.book_texts.proofs.account_checks.enter_list.Goals as goal
+use Rattle.book_texts.proofs.account_checks.hear_list.Goals as goal
 
 pub returns-in_default-clause-comes : goal.returns-in_default-clause-comes
 returns-in_default-clause-comes c = λ books are.

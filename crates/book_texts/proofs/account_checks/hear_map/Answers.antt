@@ -5,7 +5,7 @@ use Rattle.std.specs.BTreeMap.{is_at}
 use Rattle.std.specs.Ordering.{nat_cmp}
 use Rattle.account_core.specs.Entries.{entry_data}
 use Rattle.book_texts.proofs.CheckLemmas.{checks_set, found, heard_by, is_found, not_found}
-use Rattle.book_texts.proofs.account_checks.enter_map.Goals as goal
+use Rattle.book_texts.proofs.account_checks.hear_map.Goals as goal
 
 pub returns-in_default-clause-comes : goal.returns-in_default-clause-comes
 returns-in_default-clause-comes c = λ books are.

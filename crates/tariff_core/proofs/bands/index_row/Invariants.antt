@@ -1,5 +1,5 @@
 use Rattle.tariff_core.proofs.EnteringLemmas.{Entered}
-use Rattle.tariff_core.proofs.bands.enter.Given as goal
+use Rattle.tariff_core.proofs.bands.index_row.Given as goal
 
 -- the row is found on the days so far
 abbrev pub invariant-loop-day : goal.invariant-loop-day

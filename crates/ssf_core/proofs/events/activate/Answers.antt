@@ -1,6 +1,6 @@
 use Rattle.std.proofs.Common.{refl}
 use Rattle.cap_values.specs.declared.arming.Point.TheVariants as point
-use Rattle.ssf_core.proofs.events.answer.Goals as goal
+use Rattle.ssf_core.proofs.events.activate.Goals as goal
 
 pub returns-clause-takes : goal.returns-clause-takes
 returns-clause-takes c = rw c.in-Setup.is
