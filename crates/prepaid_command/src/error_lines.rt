@@ -104,14 +104,14 @@ pub(crate) fn report_end<E: io::Write>(
     match fault {
         Some(fault) => report(faults, fault),
         None => {
-            tell_output(faults, explains, failed);
+            report_output(faults, explains, failed);
             2
         }
     }
 }
 
 /// Says why an output failed, where that is asked for. The line takes no memory.
-pub(crate) fn tell_output<E: io::Write>(faults: &mut E, explains: bool, failed: Option<io::Error>)
+pub(crate) fn report_output<E: io::Write>(faults: &mut E, explains: bool, failed: Option<io::Error>)
     ensures { IsSaidOfOutput explains (E.contents faults.old) (E.contents faults.new) }
 {
     if !explains {

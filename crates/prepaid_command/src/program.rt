@@ -14,7 +14,7 @@ ghost use Rattle.prepaid_command.specs.Printouts.{printout_of};
 
 use crate::answer::Answer;
 use crate::ending::Ending;
-use crate::error_lines::{refused_line, report, report_with, tell_output, write_both};
+use crate::error_lines::{refused_line, report, report_output, report_with, write_both};
 use crate::fault::{Fault, TableName};
 use crate::input::read_input;
 use crate::noting::Noting;
@@ -82,7 +82,7 @@ where
     let mut kept = None;
     match read_words(alloc, words) {
         Ok(Request::Help(text)) => {
-            tell(
+            write_ending(
                 output,
                 faults,
                 explains,
@@ -90,7 +90,7 @@ where
             )
         }
         Ok(Request::Version(text)) => {
-            tell(
+            write_ending(
                 output,
                 faults,
                 explains,
@@ -99,7 +99,7 @@ where
         }
         Ok(Request::Price(plan)) => {
             let answer = price_reports(alloc, &plan, input, &mut kept);
-            tell(
+            write_ending(
                 output,
                 faults,
                 explains,
@@ -108,7 +108,7 @@ where
         }
         Ok(Request::Replay(account)) => {
             let answer = replay_operations(alloc, account, input, &mut kept);
-            tell(
+            write_ending(
                 output,
                 faults,
                 explains,
@@ -117,7 +117,7 @@ where
         }
         Ok(Request::Run(options)) => {
             let answer = run_script(rt, alloc, &options, input, &mut kept, watch);
-            tell(
+            write_ending(
                 output,
                 faults,
                 explains,
@@ -131,7 +131,7 @@ where
                 failed: &mut failed,
             };
             let answer = run_into_folder(rt, alloc, &options, into, input, &mut kept, watch);
-            tell(
+            write_ending(
                 output,
                 faults,
                 explains,
@@ -140,7 +140,7 @@ where
         }
         Ok(Request::Audit(ask)) => {
             let answer = audit_input(alloc, ask, input, &mut kept);
-            tell(
+            write_ending(
                 output,
                 faults,
                 explains,
@@ -149,7 +149,7 @@ where
         }
         Ok(Request::Quote(ask)) => {
             let answer = quote_input(alloc, &ask, input, &mut kept);
-            tell(
+            write_ending(
                 output,
                 faults,
                 explains,
@@ -162,13 +162,13 @@ where
         }
         Err(why) => {
             let ending = Ending::of_words(alloc, explains, words, why);
-            tell(output, faults, explains, ending)
+            write_ending(output, faults, explains, ending)
         }
     }
 }
 
 /// Prints an answer, or reports a fault, with what is said of it, and gives the status.
-fn tell<O: Write, E: Write>(
+fn write_ending<O: Write, E: Write>(
     output: &mut Noting<O>,
     faults: &mut E,
     explains: bool,
@@ -317,16 +317,16 @@ fn print<O: Write, E: Write>(
         (record { output = O.contents output.new.inner; faults = E.contents faults.new }) }
 {
     if write_text(output, answer.text.as_bytes()) && output.flush().is_ok() {
-        tell_refusals(faults, &answer.refusals, more);
+        report_refusals(faults, &answer.refusals, more);
         answer.status()
     } else {
-        tell_output(faults, explains, output.failed);
+        report_output(faults, explains, output.failed);
         2
     }
 }
 
 /// Writes the line about refusals, where there are any, and what is said besides behind it.
-fn tell_refusals<E: Write>(faults: &mut E, refusals: &Refusals, more: &[u8])
+fn report_refusals<E: Write>(faults: &mut E, refusals: &Refusals, more: &[u8])
     ensures { AppendsFront (E.contents faults.old) (E.contents faults.new)
         (refused_line refusals.now ++ more.now) }
 {

@@ -41,11 +41,11 @@ where
         → Keeps (O.contents output.old.inner) (O.contents output.new.inner) }
 {
     let ended = serve_input(rt, alloc, options, log, input, output);
-    tell_end(faults, explains, ended, output.failed)
+    conclude(faults, explains, ended, output.failed)
 }
 
 /// Reports why an input wasn't served to its end, and gives the status.
-fn tell_end<E: Write>(
+fn conclude<E: Write>(
     faults: &mut E,
     explains: bool,
     ended: Result<(), ServeError>,

@@ -157,7 +157,7 @@ impl Read for Failing<'_> {
 }
 
 #[test]
-fn tells_a_reader_that_fails(rt: HostRuntime) -> Result<(), Fail> {
+fn names_a_reader_that_fails(rt: HostRuntime) -> Result<(), Fail> {
     let setup = b"kind,key,value\naccount,7,1\n";
     for length in 0..setup.len() {
         let bytes = &setup[..length];

@@ -58,7 +58,7 @@ pub(crate) fn pass<G: Gate>(gate: &G, worker: u32, body: &Body) -> Result<(), Wo
 }
 
 /// Lets the gate know that a message of a call was answered.
-pub(crate) fn tell<G: Gate>(gate: &G, worker: u32, body: &Body) {
+pub(crate) fn notify_gate<G: Gate>(gate: &G, worker: u32, body: &Body) {
     if let Body::Ssf { call, .. } = *body {
         gate.after(worker, call);
     }

@@ -16,7 +16,7 @@ ghost use Rattle.dialogue_core.specs.Views.{phase_of};
 ghost use Rattle.run_values.specs.Setups.{place_of};
 
 use crate::WorkerFault;
-use crate::acting::{act, make_room, pass, tell};
+use crate::acting::{act, make_room, notify_gate, pass};
 use cap_values::{Number, SsfMsg};
 use dialogue_core::{Dialogue, Turn};
 use rising_map::RisingMap;
@@ -140,7 +140,7 @@ impl<'s, S: Shared> Worker<'s, S> {
             post.number,
             case,
         )?;
-        tell(gate, self.number, &post.body);
+        notify_gate(gate, self.number, &post.body);
         Ok(answer)
     }
 

@@ -15,4 +15,4 @@ returns-else-write_text g c =
           rw w.output-is (some_written old _ bytes true (still_written old _ _ bytes (wholly old _ bytes _ w.if-write_text.true c.write_text.ensures) w.flush.ensures.bytes))
       | else-write_text-via-else-write_text w ↦ rw w.output-is (some_written old _ bytes _ c.write_text.ensures)
     ] in
-    record { printed = inr (record { status_is = refl; front = rw c.as_bytes.ensures.value at front; faults = c.tell_output.ensures }) }
+    record { printed = inr (record { status_is = refl; front = rw c.as_bytes.ensures.value at front; faults = c.report_output.ensures }) }

@@ -1,7 +1,7 @@
 use Rattle.std.proofs.Common.{◌≡◌, ◌≤◌, ◌+◌, ◌++◌, drop, map, string_bytes}
 use Rattle.live_answers.specs.Groups.{group_rows, line_behind}
 use Rattle.live_answers.specs.Said.{line_view_of}
-use Rattle.live_answers.proofs.saying.tell.Given as goal
+use Rattle.live_answers.proofs.saying.say.Given as goal
 
 -- what is printed of all lines are the rows so far, and then those of the lines that are left
 abbrev pub invariant-loop-one : goal.invariant-loop-one

@@ -1,6 +1,6 @@
 use Rattle.std.proofs.Common.{◌+◌, ◌-◌, ◌++◌, ◌∙◌, drop, map, string_bytes, sym, ap, arith}
 use Rattle.live_answers.proofs.GroupLemmas.{at_least, line_more, next_left, no_more, rows_more}
-use Rattle.live_answers.proofs.saying.tell.Goals as goal
+use Rattle.live_answers.proofs.saying.say.Goals as goal
 use Rattle.live_answers.specs.Groups.{group_rows}
 use Rattle.live_answers.specs.Said.{line_view_of}
 use Rattle.run_trace.proofs.RowLemmas.{got}
