@@ -21,13 +21,13 @@ call_same (Reserves call plan wanted least at) = refl
 call_same (Settles call number info) = refl
 call_same (Returns call) = refl
 
-deed_of_same : (asked : Asked) (said_so : Reply) → deed_of (unnumbered asked) said_so ≡ deed_of asked said_so
-deed_of_same (Credits amount until) said_so = refl
-deed_of_same (Reserves call plan wanted least at) said_so = refl
+deed_of_same : (asked : Asked) (response : Reply) → deed_of (unnumbered asked) response ≡ deed_of asked response
+deed_of_same (Credits amount until) response = refl
+deed_of_same (Reserves call plan wanted least at) response = refl
 deed_of_same (Settles call number info) (reply.Settled paid available) = refl
 deed_of_same (Settles call number info) (reply.Forfeit paid available) = refl
-deed_of_same (Settles call number info) said_so = refl
-deed_of_same (Returns call) said_so = refl
+deed_of_same (Settles call number info) response = refl
+deed_of_same (Returns call) response = refl
 
 deed_same : (call : ℕ) (entry : EntryData) → deed call (without_number entry) ≡ deed call entry
 unfolding deed
@@ -35,17 +35,17 @@ deed_same call entry =
     ap (λ c. if c == call then deed_of (unnumbered entry.asked) entry.reply else Rests) (call_same entry.asked)
     ∙ ap (λ (d : EntryDeed). if call_of entry.asked == call then d else Rests) (deed_of_same entry.asked entry.reply)
 
-credited_same : (asked : Asked) (said_so : Reply) → credited (unnumbered asked) said_so ≡ credited asked said_so
-credited_same (Credits amount until) said_so = refl
-credited_same (Reserves call plan wanted least at) said_so = refl
-credited_same (Settles call number info) said_so = refl
-credited_same (Returns call) said_so = refl
+credited_same : (asked : Asked) (response : Reply) → credited (unnumbered asked) response ≡ credited asked response
+credited_same (Credits amount until) response = refl
+credited_same (Reserves call plan wanted least at) response = refl
+credited_same (Settles call number info) response = refl
+credited_same (Returns call) response = refl
 
-last_same : (before : Option ℕ) (asked : Asked) (said_so : Reply) → last_moment_after before (unnumbered asked) said_so ≡ last_moment_after before asked said_so
-last_same before (Credits amount until) said_so = refl
-last_same before (Reserves call plan wanted least at) said_so = refl
-last_same before (Settles call number info) said_so = refl
-last_same before (Returns call) said_so = refl
+last_same : (before : Option ℕ) (asked : Asked) (response : Reply) → last_moment_after before (unnumbered asked) response ≡ last_moment_after before asked response
+last_same before (Credits amount until) response = refl
+last_same before (Reserves call plan wanted least at) response = refl
+last_same before (Settles call number info) response = refl
+last_same before (Returns call) response = refl
 
 -- ---- of a history
 
@@ -103,7 +103,7 @@ verdict_same opening until h (Settles call number info) = rw (known_same call h)
 verdict_same opening until h (Returns call) = rw (known_same call h) refl
 
 abbrev asks : Asked → Reply → EntryData
-asks asked said_so = record { seat = 0; asked = asked; reply = said_so }
+asks asked response = record { seat = 0; asked = asked; reply = response }
 
 pub answer_same : (opening : ℕ) (until : Option ℕ) (h : List EntryData) (asked : Asked) → answer opening until (without_numbers h) (unnumbered asked) ≡ answer opening until h asked
 unfolding answer available

@@ -236,7 +236,7 @@ sends_none known text = record { sent = []; wrote = nothing_yet known; is = refl
 pub failed_ends : (differing : Bool) (meaning : Result RateInput RateFault) (old new : Option (List ℕ)) (answer : Result Score RateFault) (why : RateFault) → IsErrAnd answer (λ met. met ≡ why)
     → why ≡ fault.Output → IsInPart differing meaning old new → EndsRating differing meaning old new answer
 failed_ends differing meaning old new (Ok score) why met is part = absurd met
-failed_ends differing meaning old new (Err said_so) why met is part = rw (met, is) part
+failed_ends differing meaning old new (Err named) why met is part = rw (met, is) part
 
 pub stops : (differing : Bool) (meaning : Result RateInput RateFault) (old new : Option (List ℕ)) (why : RateFault) → RateFaultMayAlwaysCome why → Keeps old new ⊎ IsInPart differing meaning old new
     → StopsBy differing meaning old new why
@@ -253,7 +253,7 @@ stops differing meaning old new (fault.Input (input_fault.Script row)) may part 
 pub stopped_ends : (differing : Bool) (meaning : Result RateInput RateFault) (old new : Option (List ℕ)) (answer : Result Score RateFault) (why : RateFault) → IsErrAnd answer (λ met. met ≡ why)
     → RateFaultMayAlwaysCome why → Keeps old new ⊎ IsInPart differing meaning old new → EndsRating differing meaning old new answer
 stopped_ends differing meaning old new (Ok score) why met may part = absurd met
-stopped_ends differing meaning old new (Err said_so) why met may part = rw met (stops differing meaning old new why may part)
+stopped_ends differing meaning old new (Err named) why met may part = rw met (stops differing meaning old new why may part)
 
 -- rows that can't be read
 pub rows_may : (why : TableFault) → RateFaultMayAlwaysCome (of_rows why)

@@ -48,10 +48,10 @@ module _ {R : Type 0} (remaining : R → Option (List ℕ)) where
   pub opens_none : (headers : List Fields) (answer : Result (Table R) TableFault) (why : TableFault) (rows left : List Fields) (first : Fields) (which : Option ℕ)
       → IsErrAnd answer (λ met. met ≡ why) → rows ≡ first ∷ left → which_header headers first ≡ which → ok_or which (fault.Row (record { row = 1; kind = kind.Header })) ≡ Err why
       → Opens remaining headers answer rows
-  opens_none headers (Ok table) why rows left first which met rows_are is said_so = absurd met
-  opens_none headers (Err other) why rows left first None met rows_are is said_so =
+  opens_none headers (Ok table) why rows left first which met rows_are is opens = absurd met
+  opens_none headers (Err other) why rows left first None met rows_are is opens =
       let same : fault.Row (record { row = 1; kind = kind.Header }) ≡ why = cc in rw (met, ← same, rows_are) (refl, is)
-  opens_none headers (Err other) why rows left first (Some header) met rows_are is said_so = cc
+  opens_none headers (Err other) why rows left first (Some header) met rows_are is opens = cc
 
 -- ---- what a loop over a table has read
 
@@ -70,10 +70,10 @@ refuses form plain next passes fault.Device meaning is = tt
 refuses form plain next passes fault.OutOfMemory meaning is = tt
 
 -- a fault that a table's reader passes on is that of the meaning
-pub said_so : {X Y : Type 0} (known : Option (List ℕ)) (view : X → Y) (answer : Result X TableFault) (why : TableFault) (P : List ℕ → Type 0) (meaning : List ℕ → Result Y RowFault)
+pub fault_says : {X Y : Type 0} (known : Option (List ℕ)) (view : X → Y) (answer : Result X TableFault) (why : TableFault) (P : List ℕ → Type 0) (meaning : List ℕ → Result Y RowFault)
     → IsErrAnd answer (λ met. met ≡ why) → IfSome known P → ((text : List ℕ) → P text → RefusesTable why (meaning text)) → IfSome known (λ text. GivesTable view answer (meaning text))
-said_so known view (Ok x) why P meaning met holds so = absurd met
-said_so known view (Err other) why P meaning met holds so = map_known known P _ holds (λ text at. rw met (so text at))
+fault_says known view (Ok x) why P meaning met holds so = absurd met
+fault_says known view (Err other) why P meaning met holds so = map_known known P _ holds (λ text at. rw met (so text at))
 
 module _ {R S K F : Type 0} (form : TableForm S K F) (remaining : R → Option (List ℕ)) where
   -- what was read so far and what is read from the rows that are left are what is read from the table

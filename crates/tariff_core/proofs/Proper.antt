@@ -91,8 +91,8 @@ more_proper bands band proper new day = record {
 adds_proper : (which : ℕ) (earlier : List Band) (fields : Fields) (read : List Band) → IsProper earlier → tariff_form.judge which earlier fields ≡ Ok read → IsProper read
 adds_proper which earlier fields read proper is =
     let (band, new, added) = after_is (new_band_in which earlier fields) _ read is in
-    let (said_so, apart) = taken_band which earlier fields band new in
-    let day = some_start _ band.start (starts_within _) (read_parts which fields band said_so).0 in
+    let (is_read, apart) = taken_band which earlier fields band new in
+    let day = some_start _ band.start (starts_within _) (read_parts which fields band is_read).0 in
     let all : earlier ++ band ∷ [] ≡ read = cc added in
     subst IsProper all (more_proper earlier band proper apart day)
 

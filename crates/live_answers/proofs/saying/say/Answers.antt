@@ -19,10 +19,10 @@ loop-one-preserved g c =
     let behind = c.next_place-place.ensures in
     let next = next_left said i one c.loop-one-test.true c.one-item.is in
     let more = line_more replay c.loop-one.line place one (drop i said) (drop (i + 1) said) c.next_line-line.result c.next_place-place.result here behind next in
-    let said_so = rows_more replay first answers c.loop-one.line place one (drop (i + 1) said) (string_bytes c.loop-one.text) (string_bytes c.write_line_rows.new.text)
+    let printed = rows_more replay first answers c.loop-one.line place one (drop (i + 1) said) (string_bytes c.loop-one.text) (string_bytes c.write_line_rows.new.text)
     c.next_line-line.result c.next_place-place.result _ here behind (got answers (place - first) c.get-answer.result c.get-answer.ensures.lookup) c.in_ok-write_line_rows.ensures in (
       omega (arith, low, at_least (line_view_of one) place, behind),
       omega (arith, high, no_more (line_view_of one) place, behind),
       more ∙ line,
-      said_so ∙ ap (λ l. string_bytes c.loop-one.text ++ group_rows replay first answers c.loop-one.line place (map line_view_of l)) (sym next) ∙ rows,
+      printed ∙ ap (λ l. string_bytes c.loop-one.text ++ group_rows replay first answers c.loop-one.line place (map line_view_of l)) (sym next) ∙ rows,
     )

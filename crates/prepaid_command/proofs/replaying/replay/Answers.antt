@@ -2,7 +2,7 @@ use Rattle.std.proofs.Common.{[], ◌∷◌, ◌++◌, None, ap, refl, string_by
 use Rattle.account_core.specs.Entries.{asked_of}
 use Rattle.table_core.specs.Rows.{rows_of}
 use Rattle.table_core.proofs.Known.{map_known}
-use Rattle.table_core.proofs.TableLemmas.{ended, header_stays, not_opened, opened, refused, refuses, row_columns, stopped, taken, said_so}
+use Rattle.table_core.proofs.TableLemmas.{ended, header_stays, not_opened, opened, refused, refuses, row_columns, stopped, taken, fault_says}
 use Rattle.prepaid_command.specs.AskingOf.{asking_of}
 use Rattle.prepaid_command.specs.Asks.{asks_form, asks_of}
 use Rattle.prepaid_command.specs.Replays.{replayed_lines, replayed}
@@ -11,7 +11,7 @@ use Rattle.prepaid_command.proofs.replaying.replay.Goals as goal
 
 pub returns-in_err-table : goal.returns-in_err-table
 returns-in_err-table g c =
-    said_so (g.I.Read.remaining c.args.reader) _ c.from_residual.result c.in_err-table.field-0.0 _ (λ text. replayed c.args.opening c.args.limit (rows_of text)) c.from_residual.ensures.1
+    fault_says (g.I.Read.remaining c.args.reader) _ c.from_residual.result c.in_err-table.field-0.0 _ (λ text. replayed c.args.opening c.args.limit (rows_of text)) c.from_residual.ensures.1
     (not_opened asks_form g.I.Read.remaining _ c.in_err-table.field-0.0 c.in_err-table.ensures.opens)
     (λ text. refuses asks_form (λ row why. refl) (replayed_lines c.args.opening None c.args.limit []) (λ why. refl) c.in_err-table.field-0.0 (asks_of (rows_of text)))
 
@@ -27,7 +27,7 @@ loop-text-init g c = (
 pub returns-in_err-next_row : goal.returns-in_err-next_row
 returns-in_err-next_row g c =
     let (asks, ledger, read, teller_is, replay) = c.loop-text.invariant in
-    said_so (g.I.Read.remaining c.args.reader) _ c.from_residual-in_err-next_row.result c.in_err-next_row.field-0.0 _ (λ text. replayed c.args.opening c.args.limit (rows_of text)) c.from_residual-in_err-next_row.ensures.1
+    fault_says (g.I.Read.remaining c.args.reader) _ c.from_residual-in_err-next_row.result c.in_err-next_row.field-0.0 _ (λ text. replayed c.args.opening c.args.limit (rows_of text)) c.from_residual-in_err-next_row.ensures.1
     (stopped asks_form g.I.Read.remaining _ c.loop-text.table c.next_row.new.self asks read c.in_err-next_row.field-0.0 c.in_err-next_row.ensures.steps)
     (λ text. refuses asks_form (λ row why. refl) (replayed_lines c.args.opening None c.args.limit []) (λ why. refl) c.in_err-next_row.field-0.0 (asks_of (rows_of text)))
 
