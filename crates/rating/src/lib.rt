@@ -16,8 +16,8 @@ mod rating;
 mod score;
 mod writing;
 
-pub use ask::{Names, RateAsk, Times};
-pub use charge::{Charge, charge_call};
+pub use ask::{Names, RateAsk, TimeNames};
+pub use charge::{PricedTimes, charge_call};
 pub use fault::RateFault;
 pub use kind::RateKind;
 pub use laws::pieces_are_rated;

@@ -18,7 +18,7 @@ use Rattle.cap_values.specs.declared.operation.ScfOp.TheVariants.{RequestReport,
 use Rattle.ssf_core.specs.Happenings.{Happening}
 use Rattle.ssf_core.specs.declared.ssf.Input.{Input}
 use Rattle.ssf_core.specs.declared.ssf.Input.TheVariants.{Invoke, Trigger, Operate, Meet}
-use Rattle.ssf_core.specs.Phases.{SsfPhase, Unused, Requested, Initial, Setup, Active, Down, Ended}
+use Rattle.ssf_core.specs.Phases.{SsfPhase, Unused, Requested, Initial, Early, Active, Down, Ended}
 use Rattle.ssf_core.specs.Quantities.{answered, granted, mode_at, pending, period_end, switched}
 use Rattle.ssf_core.specs.Split.{split}
 use Rattle.ssf_core.specs.declared.item.BcsmEvent.{BcsmEvent}
@@ -108,7 +108,7 @@ on_trigger call calling called _ = unexpected
 -- RequestReport: in WaitingForInstructions and Monitoring
 abbrev pub on_request_report : SsfPhase → Result Effect SsfFault
 on_request_report Initial = Ok (goes [] Initial)
-on_request_report Setup = Ok (goes [] Setup)
+on_request_report Early = Ok (goes [] Early)
 on_request_report Active = Ok (goes [] Active)
 on_request_report Down = Ok (goes [] Down)
 on_request_report _ = unexpected
@@ -131,7 +131,7 @@ further_period (Some end) false = Err ParameterOutOfRange
 -- ApplyCharging: a first period before the answer, a further one after it
 abbrev pub on_apply_charging : List Happening → ℕ → Charge → SsfPhase → Result Effect SsfFault
 on_apply_charging trace now charge Initial = first_period (pending trace) Initial
-on_apply_charging trace now charge Setup = first_period (pending trace) Setup
+on_apply_charging trace now charge Early = first_period (pending trace) Early
 on_apply_charging trace now charge Active =
     further_period (period_end trace) (is_fitting (unwrap_or (answered trace) 0) (granted trace) charge.period now)
 on_apply_charging trace now charge _ = unexpected
@@ -139,7 +139,7 @@ on_apply_charging trace now charge _ = unexpected
 -- Continue: the call proceeds; it is monitored where a point is watched or a period is pending
 abbrev pub on_continue : List Happening → SsfPhase → Result Effect SsfFault
 on_continue trace Initial =
-    Ok (if any_watched (mode_at trace) || is_some (pending trace) then goes (Proceed ∷ []) Setup else ends (Proceed ∷ []))
+    Ok (if any_watched (mode_at trace) || is_some (pending trace) then goes (Proceed ∷ []) Early else ends (Proceed ∷ []))
 on_continue trace Down = Ok (ends (Proceed ∷ []))
 on_continue trace _ = unexpected
 
@@ -147,7 +147,7 @@ on_continue trace _ = unexpected
 abbrev pub on_release_call : List Happening → ℕ → Cause → SsfPhase → Result Effect SsfFault
 on_release_call trace now cause Initial = Ok (ends (Clear cause ∷ []))
 on_release_call trace now cause Down = Ok (ends (Clear cause ∷ []))
-on_release_call trace now cause Setup = Ok (ends (Clear cause ∷ []))
+on_release_call trace now cause Early = Ok (ends (Clear cause ∷ []))
 on_release_call trace now cause Active = Ok (sent_before (last_report_sent trace now) (ends (Clear cause ∷ [])))
 on_release_call trace now cause _ = unexpected
 
@@ -160,18 +160,18 @@ on_operation trace now (ReleaseCall cause) phase = on_release_call trace now cau
 
 -- Answer: the call is active
 abbrev pub on_answer : Mode → SsfPhase → Result Effect SsfFault
-on_answer mode Setup = Ok (goes (notified event.Answer mode) Active)
+on_answer mode Early = Ok (goes (notified event.Answer mode) Active)
 on_answer mode _ = Err NoSuchEvent
 
 -- RouteSelectFailure, Busy, NoAnswer: by mode
 abbrev pub on_failure : Event → Mode → SsfPhase → Result Effect SsfFault
-on_failure event mode Setup = Ok (by_mode event None mode)
+on_failure event mode Early = Ok (by_mode event None mode)
 on_failure event mode _ = Err NoSuchEvent
 
 -- Abandon: before the answer, also before the call goes on
 abbrev pub on_abandon : Mode → SsfPhase → Result Effect SsfFault
 on_abandon mode Initial = Ok (ends (notified event.Abandon mode))
-on_abandon mode Setup = Ok (ends (notified event.Abandon mode))
+on_abandon mode Early = Ok (ends (notified event.Abandon mode))
 on_abandon mode _ = Err NoSuchEvent
 
 -- Disconnect: with a last report, then by the mode of that leg's point

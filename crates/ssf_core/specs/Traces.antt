@@ -2,7 +2,7 @@
 use Rattle.std.specs.Prelude.{◌≡◌, ◌≤◌, ◌<◌, ◌⊎◌, ◌+◌, ℕ, Bool, Option, Some, None, Result, Ok, Err, List, [], ◌∷◌}
 use Rattle.std.specs.Option.{option_map}
 use Rattle.ssf_core.specs.Happenings.{Happening, What, Took, Expired}
-use Rattle.ssf_core.specs.Phases.{SsfPhase, Unused, Initial, Setup, Active, Down}
+use Rattle.ssf_core.specs.Phases.{SsfPhase, Unused, Initial, Early, Active, Down}
 use Rattle.ssf_core.specs.Quantities.{answered, granted, last_input, last_happening_moment, pending, period_end, switch_due, switched}
 use Rattle.ssf_core.specs.Rules.{Effect, on_input, on_expiry}
 use Rattle.ssf_core.specs.declared.config.SsfConfig.{SsfConfig}
@@ -34,7 +34,7 @@ awaited_switch (Some moment) due = None
 -- Tsw: the switch that was set, in each phase but Down
 abbrev pub tsw_due : List Happening → SsfPhase → Option ℕ
 tsw_due trace Initial = awaited_switch (switched trace) (switch_due trace)
-tsw_due trace Setup = awaited_switch (switched trace) (switch_due trace)
+tsw_due trace Early = awaited_switch (switched trace) (switch_due trace)
 tsw_due trace Active = awaited_switch (switched trace) (switch_due trace)
 tsw_due trace _ = None
 

@@ -12,7 +12,7 @@ ghost use Rattle.arrayvec.specs.ArrayVec.{array_vec_len};
 use crate::events::meet;
 use crate::operations::operate;
 use crate::sending::send;
-use crate::stage::{Setup, Stage, Switch, UNARMED, state_of};
+use crate::stage::{Early, Stage, Switch, UNARMED, state_of};
 use crate::timers::{next_moment, run_timers};
 use crate::{BcsmEvent, Item, Moment, Out, SsfConfig, SsfFault, State, Step};
 use arrayvec::ArrayVec;
@@ -288,7 +288,7 @@ fn trigger(
         }),
     );
     Ok(Stage::Initial {
-        setup: Setup {
+        early: Early {
             modes: UNARMED,
             charge: None,
             switch: Switch::Unset,

@@ -19,9 +19,9 @@ pub(crate) enum Stage {
     /// WaitForRequest.
     Requested,
     /// WaitingForInstructions before the call goes on; Tssf is due at `due`.
-    Initial { setup: Setup, due: Moment },
+    Initial { early: Early, due: Moment },
     /// Monitoring before the answer.
-    Setup(Setup),
+    Early(Early),
     /// Monitoring after the answer.
     Active(Active),
     /// WaitingForInstructions after the call was interrupted; Tssf is due at `due`.
@@ -32,7 +32,7 @@ pub(crate) enum Stage {
 
 /// A call before its answer.
 #[derive(Clone, Copy)]
-pub(crate) struct Setup {
+pub(crate) struct Early {
     pub modes: Modes,
     /// The pending period.
     pub charge: Option<Charge>,
@@ -95,7 +95,7 @@ pub(crate) fn state_of(stage: &Stage) -> State
         Stage::Unused | Stage::Ended => State::Idle,
         Stage::Requested => State::WaitForRequest,
         Stage::Initial { .. } | Stage::Down { .. } => State::WaitingForInstructions,
-        Stage::Setup(_) | Stage::Active(_) => State::Monitoring,
+        Stage::Early(_) | Stage::Active(_) => State::Monitoring,
     }
 }
 
