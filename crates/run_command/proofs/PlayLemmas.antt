@@ -3,7 +3,7 @@ use Rattle.std.proofs.Common.{◌≡◌, ℕ, true, false, List, [], ◌∷◌, 
 use Rattle.std.proofs.lemmas.List.{append-nil}
 use Rattle.run_command.specs.Plays.{HearsItsRounds, IsAskedFor, IsGivenWithout, IsPlayWithout}
 use Rattle.run_options.specs.declared.options.RunAsk.{RunAsk}
-use Rattle.run_texts.specs.Views.{script_event}
+use Rattle.run_texts.specs.Views.{row_data}
 use Rattle.run_texts.specs.declared.script.ScriptRow.{ScriptRow}
 use Rattle.script_player.specs.Chains.{Chain}
 use Rattle.script_player.specs.Plays.{IsPlayed, Play}
@@ -61,7 +61,7 @@ play_of config delay taken left rows heard given play none all rounds lives ende
 -- the agenda of a player is the same after a run as before it: the configuration and the delay that were asked for, and the rows of the script
 pub given_by : (ask : RunAsk) (config other : SsfConfig) (delay : ℕ) (rows taken left : List ScriptRow) (heard : List (List Answer)) (given : List (ℕ × Body)) (without : List ScriptRow)
     → IsAskedFor ask config → other ≡ config → delay ≡ ask.delay → taken ++ left ≡ rows → IsPlayWithout other delay rows heard given without
-    → IsGivenWithout ask (map script_event rows) heard given without
+    → IsGivenWithout ask (map row_data rows) heard given without
 given_by ask config other delay rows taken left heard given without asked_for same after all plays =
     let Asked : SsfConfig → Type 0 = λ c. IsAskedFor ask c in
     let Plays : ℕ → Type 0 = λ d. IsPlayWithout other d rows heard given without in

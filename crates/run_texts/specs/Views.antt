@@ -2,7 +2,7 @@
 use Rattle.std.specs.Prelude.{◌&&◌, ℕ, Bool, true, List, [], ◌∷◌, map, nat_le}
 use Rattle.cap_values.specs.NumberDigits.{digits_of_number}
 use Rattle.cap_values.specs.declared.number.Number.{Number}
-use Rattle.run_texts.specs.Happenings.{ScriptEvent, Happens, Meets, Recharges, Starts}
+use Rattle.run_texts.specs.Happenings.{RowData, Happens, Meets, Recharges, Starts}
 use Rattle.run_texts.specs.Sections.{Texts}
 use Rattle.run_texts.specs.Setups.{TableSetup}
 use Rattle.run_texts.specs.declared.input.Sections.{Sections}
@@ -30,8 +30,8 @@ happens_of (happening.Meets call event) = Meets call event
 happens_of (happening.Recharge account amount until) = Recharges account amount until
 
 -- what a row of a script says
-abbrev pub script_event : ScriptRow → ScriptEvent
-script_event row = record { at = row.at; what = happens_of row.what }
+abbrev pub row_data : ScriptRow → RowData
+row_data row = record { at = row.at; what = happens_of row.what }
 
 -- no moment lies below the one before it, nor the first one below the start
 abbrev pub rows_are_in_order : ℕ → List ScriptRow → Bool

@@ -8,7 +8,7 @@ ghost use Rattle.run_texts.specs.Inputs.{input_in, input_of, tariff_in, as_input
 ghost use Rattle.run_texts.specs.Scripts.{script_of};
 ghost use Rattle.run_texts.specs.Setups.{table_setup_of};
 ghost use Rattle.run_texts.specs.Happenings.{is_in_time};
-ghost use Rattle.run_texts.specs.Views.{rows_are_in_order, happens_of, script_event, setup_in, texts_of_sections};
+ghost use Rattle.run_texts.specs.Views.{rows_are_in_order, happens_of, row_data, setup_in, texts_of_sections};
 ghost use Rattle.run_texts.specs.Sections.{is_divider, lines_in_text, sections_of, texts_of};
 ghost use Rattle.table_core.specs.Rows.{rows_of};
 ghost use Rattle.run_values.specs.Setups.{ListingIsWithin};
@@ -82,7 +82,7 @@ fn read_script(
     directory: &Directory,
     text: &[u8],
 ) -> Result<Vec<ScriptRow>, InputFault>
-    ensures means { GivesInput (λ rows. map script_event rows.items) result
+    ensures means { GivesInput (λ rows. map row_data rows.items) result
         (as_input_fault out.Script (script_of directory.now.accounts (rows_of text.now))) }
     ensures in_range { IfOk result (λ rows. All (λ row. row.at ≤ MAX_MOMENT) rows.items) }
     ensures in_time { IfOk result (λ rows.
