@@ -259,9 +259,9 @@ fn play<'a>(service: &mut Service<'a>, rows: &[Vec<&'a str>]) {
 fn main() {
     let mut input = String::new();
     std::io::stdin().read_to_string(&mut input).unwrap();
-    let parts: Vec<&str> = input.split("%%\n").collect();
-    let script: Vec<Vec<&str>> = rows_of(parts[2]).collect();
-    let mut service = Service::new(parts[0], parts[1]);
+    let sections: Vec<&str> = input.split("%%\n").collect();
+    let script: Vec<Vec<&str>> = rows_of(sections[2]).collect();
+    let mut service = Service::new(sections[0], sections[1]);
     play(&mut service, &script);
     std::io::stdout().write_all(service.lines().as_bytes()).unwrap();
 }

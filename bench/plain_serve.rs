@@ -91,8 +91,8 @@ impl Heard {
     }
 }
 
-/// Reads a part of an input, up to a line `%%`.
-fn read_part(input: &mut impl BufRead, head: &mut String) -> io::Result<String> {
+/// Reads a section of an input, up to a line `%%`.
+fn read_section(input: &mut impl BufRead, head: &mut String) -> io::Result<String> {
     let start = head.len();
     loop {
         let end = head.len();
@@ -118,7 +118,7 @@ fn main() -> io::Result<()> {
     let (path, silent) = (words.next(), words.next().is_some());
     let (mut input, mut output) = (BufReader::new(io::stdin()), io::stdout().lock());
     let mut head = String::from("log,1,600,50,50\n");
-    let (tariff, setup) = (read_part(&mut input, &mut head)?, read_part(&mut input, &mut head)?);
+    let (tariff, setup) = (read_section(&mut input, &mut head)?, read_section(&mut input, &mut head)?);
     let start = head.len();
     input.read_line(&mut head)?;
     let mut log = path.map(File::create).transpose()?;

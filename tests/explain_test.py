@@ -32,7 +32,7 @@ WORDS = "start, answer, busy, noanswer, routefail, abandon, disconnect, recharge
 RUN_HEADERS = "moment,call,what,x,y,z or moment,call,what,x,y"
 
 
-def parts(tariff="", setup="", script=""):
+def sections(tariff="", setup="", script=""):
     """The input of a run with these rows behind those that it always has."""
     return f"{TARIFF}{tariff}%%\n{SETUP}{setup}%%\n{SCRIPT}{script}"
 
@@ -40,19 +40,19 @@ def parts(tariff="", setup="", script=""):
 # Of each slip the words, the input, the line of the fault behind `prepaid: `, the row as it is shown, if it is, and the lines
 # behind it. The row is the last line of the input but for a Header.
 SLIPS = [
-    ("run", parts(script="20,1,hangup,,\n"), "script row 3: What", "20,1,hangup,,", f"column what: hangup; one of {WORDS}\n"),
-    ("run", parts(script="20,1,disconnect,1\n"), "script row 3: Csv", "20,1,disconnect,1",
+    ("run", sections(script="20,1,hangup,,\n"), "script row 3: What", "20,1,hangup,,", f"column what: hangup; one of {WORDS}\n"),
+    ("run", sections(script="20,1,disconnect,1\n"), "script row 3: Csv", "20,1,disconnect,1",
      "4 fields, and the header has 5: moment,call,what,x,y\n"),
-    ("run", parts(script="20,1,answer,5,\n"), "script row 3: Empty", "20,1,answer,5,", "column x: 5, where answer takes nothing\n"),
-    ("run", parts(script="5,1,answer,,\n"), "script row 3: Order", "5,1,answer,,", "moment 5 lies below 10 in row 2\n"),
-    ("run", parts(script="20,1,start,491700001,4930\n"), "script row 3: Repeated", "20,1,start,491700001,4930",
+    ("run", sections(script="20,1,answer,5,\n"), "script row 3: Empty", "20,1,answer,5,", "column x: 5, where answer takes nothing\n"),
+    ("run", sections(script="5,1,answer,,\n"), "script row 3: Order", "5,1,answer,,", "moment 5 lies below 10 in row 2\n"),
+    ("run", sections(script="20,1,start,491700001,4930\n"), "script row 3: Repeated", "20,1,start,491700001,4930",
      "call 1 is in row 2 already\n"),
-    ("run", parts(script="20,7,answer,,\n"), "script row 3: Unknown", "20,7,answer,,", "call 7 isn't started in an earlier row\n"),
-    ("run", parts(script="20,,recharge,8,1\n"), "script row 3: Unknown", "20,,recharge,8,1", "account 8 isn't in the setup\n"),
-    ("run", parts(script="20,,recharge,7,1000000000000001\n"), "script row 3: Number", "20,,recharge,7,1000000000000001",
+    ("run", sections(script="20,7,answer,,\n"), "script row 3: Unknown", "20,7,answer,,", "call 7 isn't started in an earlier row\n"),
+    ("run", sections(script="20,,recharge,8,1\n"), "script row 3: Unknown", "20,,recharge,8,1", "account 8 isn't in the setup\n"),
+    ("run", sections(script="20,,recharge,7,1000000000000001\n"), "script row 3: Number", "20,,recharge,7,1000000000000001",
      "column y: 1000000000000001 is above 1000000000000000\n"),
-    ("run", parts(script="20,1,\0\x7f,,\n"), "script row 3: What", r"20,1,\x00\x7f,,", rf"column what: \x00\x7f; one of {WORDS}" "\n"),
-    ("run", parts(script='20,1,"answer,,\n'), "script row 3: Csv", '20,1,"answer,,', None),
+    ("run", sections(script="20,1,\0\x7f,,\n"), "script row 3: What", r"20,1,\x00\x7f,,", rf"column what: \x00\x7f; one of {WORDS}" "\n"),
+    ("run", sections(script='20,1,"answer,,\n'), "script row 3: Csv", '20,1,"answer,,', None),
     ("price --fee 50 --before 1000", "before,after\n600,0\n500,0\n", "reports row 3: Order", "500,0",
      "times 500,0 may not follow 600,0 in row 2\n"),
     ("price --fee 50 --before 1000", "before,after\n600,x\n", "reports row 2: Number", "600,x",
@@ -202,8 +202,8 @@ def unplaced_line(events):
 def answers(program):
     """What is said behind an answer: nothing without the word, and with it which calls no subscriber makes, and which events
     had no place. The answer is the same with the word and without."""
-    inputs = [(rows, parts(script=rows), said) for rows, said in STRANGERS]
-    inputs += [(rows, parts(setup=FURTHER, script=rows), unplaced_line(events)) for rows, events in UNPLACED]
+    inputs = [(rows, sections(script=rows), said) for rows, said in STRANGERS]
+    inputs += [(rows, sections(setup=FURTHER, script=rows), unplaced_line(events)) for rows, events in UNPLACED]
     for rows, text, said in inputs:
         refused = said[: said.index("\n") + 1] if said.startswith("prepaid") else ""
         for words in ("run", "run --parts 1", "run --parts 2", "run --parts 16 --threads 3", "run --calls", "run --book", "run --trace --workers 1"):
@@ -215,11 +215,11 @@ def answers(program):
                 return f"run --into with {rows!r}: {found} in place of {said!r}"
         if (found := on_terminal(program, "run", text)) != (said, run(program, "run", text)[0], 0):
             return f"run on a terminal with {rows!r}: {found}"
-    audited = run(program, "--explain audit", run(program, "run --book", parts(script=calls([20])))[0])
+    audited = run(program, "--explain audit", run(program, "run --book", sections(script=calls([20])))[0])
     if audited != ("account 7 yes\n", "", 0):
         return f"an audit: {audited}"
     for path, why in (("none", "No such file or directory (os error 2)"), ("/dev/null", "Not a directory")):
-        found = run(program, f"--explain run --into {path}", parts())
+        found = run(program, f"--explain run --into {path}", sections())
         if found[0] or found[2] != 2 or not found[1].lower().startswith(f"prepaid: into: device\nthe files: {why.lower()}"):
             return f"run --into {path}: {found}"
     return None
@@ -233,8 +233,8 @@ CLOSED = "the output: Bad file descriptor (os error 9)\n"
 def outputs(program):
     """What is said of an output that fails, at each command: nothing without the word, and with it why, as of a full device
     and of a closed file."""
-    run_text = parts(script="20,,recharge,7,0\n")
-    book = run(program, "run --book", parts())[0]
+    run_text = sections(script="20,,recharge,7,0\n")
+    book = run(program, "run --book", sections())[0]
     texts = {
         "price --fee 50 --before 1000": "before,after\n600,0\n",
         "replay --opening 5000": "seat,op,call,x1,x2,x3,x4,x5\n0,return,1,,,,,\n",

@@ -18,7 +18,7 @@ HELP = {"-h", "--help"}
 VERSION = {"-V", "--version", "--explain", "--plain"}
 # Kinds of a tariff's faults that the program tells as those of a run.
 OF_RUN = {"Device", "OutOfMemory"}
-PARTS = r"(reports|ops|setup|script|book|records|messages) row"
+TABLES_NAMED = r"(reports|ops|setup|script|book|records|messages) row"
 
 TARIFF = "prefix,from,fee,rate\n49,00:00,50,1000\n"
 
@@ -223,7 +223,7 @@ def said_in_help(program):
             left[name, option] = value
     if not VERSION <= set(told("--help").replace(",", " ").split()):
         raise SystemExit("help: no version")
-    return commands, left, {re.sub(PARTS, "PART row", it) for it in lines}, kinds
+    return commands, left, {re.sub(TABLES_NAMED, "TABLE row", it) for it in lines}, kinds
 
 
 def faults_of(what, name, program):

@@ -81,10 +81,10 @@ def explained(words, text, line):
     found = re.fullmatch(r"prepaid: (\w+) row (\d+): \w+", line)
     if not found or words[0] in ("rate", "serve") or "--long" in words:
         return ""
-    parts = {"tariff": 0, "setup": 1, "script": 2} if words[0] == "run" else {}
+    sections = {"tariff": 0, "setup": 1, "script": 2} if words[0] == "run" else {}
     starts = [0] + [it.end() for it in re.finditer(rb"^%%(\r?\n|\r?\Z)", text, re.M)]
-    start = starts[parts.get(found[1], 0)]
-    end = starts[parts[found[1]] + 1] if parts and parts[found[1]] < 2 else len(text)
+    start = starts[sections.get(found[1], 0)]
+    end = starts[sections[found[1]] + 1] if sections and sections[found[1]] < 2 else len(text)
     begins = row_starts(text[start:end], int(found[2]))
     if begins is None:
         return ""
@@ -103,13 +103,13 @@ def as_shown(line):
     return shown
 
 
-def row_starts(part, number):
+def row_starts(table, number):
     """Where the row of a number begins in a table, by the quotes and the ends of lines in front of it."""
-    at, row = (3 if part.startswith(b"\xef\xbb\xbf") else 0), 0
+    at, row = (3 if table.startswith(b"\xef\xbb\xbf") else 0), 0
     while True:
-        while part[at : at + 1] in (b"\r", b"\n"):
+        while table[at : at + 1] in (b"\r", b"\n"):
             at += 1
-        if at >= len(part):
+        if at >= len(table):
             return None
         row += 1
         if row == number:
@@ -117,8 +117,8 @@ def row_starts(part, number):
         # a field is quoted text and then plain text, or plain text alone
         field = re.compile(rb'(?:"(?:[^"]|"")*(?:"|\Z))?[^,\r\n]*')
         while True:
-            at = field.match(part, at).end()
-            if part[at : at + 1] != b",":
+            at = field.match(table, at).end()
+            if table[at : at + 1] != b",":
                 break
             at += 1
 

@@ -203,7 +203,7 @@ def runs(it, few=False):
     words += [table_of] if table_of else []
     words += ["--clock"] if it.random() < (0.5 if table_of in ("--calls", "--trace") else 0.03) else []
     first, starts = tariff(it)
-    # the last of these days is the last but one before the last moment
+    # the last of these days is the last but one before the greatest moment
     day, start = it.choice([0, 0, 1, 3, 10**12 // DAY - 1]), it.choice(starts)
     base = max(0, day * DAY + (start if day < 4 else start % DAY) - it.choice([0, 5, 10, 100, 305]))
     second, accounts, subscribers = setup(it, base, wanted)

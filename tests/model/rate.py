@@ -3,7 +3,7 @@ import itertools
 import re
 
 from .account import DAY, MAX_MONEY, price
-from .tables import MAX_MOMENT, Fault, decimal, digits, first_part, moment, read_tariff, records, route
+from .tables import MAX_MOMENT, Fault, decimal, digits, first_section, moment, read_tariff, records, route
 
 MAX_ROW = 65_536
 MAX_SHOWN = 131_072
@@ -118,7 +118,7 @@ def rated(tariff, called, at, times):
 
 def rate(given, text):
     """The status, the rows, and the line of the summary."""
-    first, second = first_part(text)
+    first, second = first_section(text)
     tariff = read_tariff(first)
     header, *rows = records(second) or [None]
     if header is None or size(header) > MAX_SHOWN:

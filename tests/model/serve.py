@@ -3,7 +3,7 @@ from . import calls, trace
 from .account import DAY, MAX_MONEY
 from .log import Log
 from .run import Options, Run
-from .tables import HORIZON, MAX_MOMENT, MAX_PART, Fault, decimal, digits, moment, read_setup, read_tariff, records
+from .tables import HORIZON, MAX_MOMENT, MAX_SECTION, Fault, decimal, digits, moment, read_setup, read_tariff, records
 
 MAX_LINE = 4096
 # The events of a row, in the words of a script.
@@ -125,9 +125,9 @@ class Service:
         return answer
 
 
-def read_part(source):
+def read_section(source):
     """What is in front of the next line that is %% alone, and the same with that line."""
-    lines, left = [], MAX_PART
+    lines, left = [], MAX_SECTION
     while line := source.readline(left + 1):
         left -= len(line)
         if left < 0:
@@ -141,7 +141,7 @@ def read_part(source):
 def groups(source):
     """The whole lines that are there, each time that some are, with their LF; of a line too long its first bytes."""
     begun = b""
-    while text := source.read1(MAX_PART):
+    while text := source.read1(MAX_SECTION):
         *lines, begun = (begun + text).split(b"\n")
         begun = begun[: MAX_LINE + 1]
         if lines:
@@ -192,7 +192,7 @@ def answer(service, source, log, say):
 
 def serve(given, source, say, options, path=None, again=None):
     """Prints the answer to an input as it comes, and behind it what is asked for. With a path there is a log."""
-    (first, tariff), (second, setup) = read_part(source), read_part(source)
+    (first, tariff), (second, setup) = read_section(source), read_section(source)
     service = Service(Run(read_tariff(first), read_setup(second), Options(1, **options)))
     header = source.readline(len(trace.HEADER) + 3)
     if header not in [trace.HEADER.encode() + it for it in (b"\n", b"\r\n", b"")]:

@@ -5,8 +5,8 @@ import re
 from .account import DAY, MAX_MONEY, Plan, Times, lawful
 
 MAX_RATE = 10**9
-# The most bytes of a part that is read as it comes, its divider counted.
-MAX_PART = 16_777_216
+# The most bytes of a section that is read as it comes, its divider counted.
+MAX_SECTION = 16_777_216
 MAX_MOMENT = 10**12
 HORIZON = 2 * 10**12
 EPOCH, UNIT = datetime.datetime(1970, 1, 1), datetime.timedelta(milliseconds=100)
@@ -88,18 +88,18 @@ def digits(field):
     return field.decode() if re.fullmatch(rb"[0-9]{1,15}", field) else None
 
 
-def rows_of(part, text, headers, most):
+def rows_of(name, text, headers, most):
     """Gives (row, fields, fail) of each row after one of the headers, `fail` raising the first of its kinds that holds."""
     found = records(text)
     if not found or found[0] not in [[it.encode() for it in header] for header in headers]:
-        raise Fault(f"prepaid: {part} row 1: Header")
+        raise Fault(f"prepaid: {name} row 1: Header")
     width = len(found[0])
     for row, fields in enumerate(found[1:], 2):
 
         def fail(*kinds, row=row):
             for kind, holds in kinds:
                 if holds:
-                    raise Fault(f"prepaid: {part} row {row}: {kind}")
+                    raise Fault(f"prepaid: {name} row {row}: {kind}")
 
         fail(("Csv", len(fields) != width), ("TooManyRows", row > most + 1))
         yield row, fields, fail
@@ -314,13 +314,13 @@ def separators(lines):
     return [i for i, line in enumerate(lines) if line == b"%%" or line == b"%%\r" and i + 1 < len(lines)]
 
 
-def first_part(text):
+def first_section(text):
     """What stands before the first line that is %% alone, and what stands behind it."""
     lines = text.split(b"\n")
     ends = separators(lines)
     at = ends[0] + 1 if ends else len(lines)
     behind = b"\n".join(lines[at:])
-    if len(text) - len(behind) > MAX_PART:
+    if len(text) - len(behind) > MAX_SECTION:
         raise Fault("prepaid: input: TooLong")
     if not ends:
         raise Fault("prepaid: input: Parts")
@@ -328,11 +328,11 @@ def first_part(text):
 
 
 def divide(text):
-    """The three parts of the input of a run."""
+    """The three sections of the input of a run."""
     lines = text.split(b"\n")
     ends = separators(lines)
     if len(ends) != 2:
         raise Fault("prepaid: input: Parts")
     first, second = ends
-    parts = lines[:first], lines[first + 1 : second], lines[second + 1 :]
-    return [b"\n".join(it) for it in parts]
+    sections = lines[:first], lines[first + 1 : second], lines[second + 1 :]
+    return [b"\n".join(it) for it in sections]

@@ -3,7 +3,7 @@ use Rattle.std.proofs.Common.{◌≡◌, ℕ, ◌+◌, ◌≤◌, Option, None, 
 use Rattle.account_core.specs.Answers.{answer, inadmissible}
 use Rattle.account_core.specs.Asked.{Asked, call_of}
 use Rattle.account_core.specs.Available.{available, credits}
-use Rattle.account_core.specs.Events.{EntryData}
+use Rattle.account_core.specs.Entries.{EntryData}
 use Rattle.account_core.specs.Expiry.{last_moment}
 use Rattle.account_core.specs.Known.{CallFacts, known, taken_of}
 use Rattle.account_core.specs.Replies.{reply_for}

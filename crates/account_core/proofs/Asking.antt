@@ -2,7 +2,7 @@
 use Rattle.std.proofs.Common.{◌≡◌, ℕ, ◌+◌, ◌≤◌, Option, List, refl, sym, ap, ◌∙◌, arith, subst}
 use Rattle.account_core.specs.Asked.{Asked, Credits, Reserves, Returns, Settles, call_of}
 use Rattle.account_core.specs.Available.{available}
-use Rattle.account_core.specs.Events.{EntryData}
+use Rattle.account_core.specs.Entries.{EntryData}
 use Rattle.account_core.specs.Known.{CallFacts, known, known_asked, nothing_known, taken_of}
 use Rattle.account_core.specs.Places.{needed, needed_by, refusal_for}
 use Rattle.account_core.specs.Replies.{reply_for}

@@ -11,11 +11,11 @@ use Rattle.account_core.specs.Answers.{IsAnswered, answer, inadmissible, misplac
 use Rattle.account_core.specs.Asked.{Asked, Credits, IsCredit, IsOfCall, Reserves, Returns, Settles, call_of, is_in_range}
 use Rattle.account_core.specs.Available.{available, credited, credits, taken_by_all}
 use Rattle.account_core.specs.CallStates.{Renews, call_state_of}
-use Rattle.account_core.specs.Events.{EntryData, asked_of, entry_data}
+use Rattle.account_core.specs.Entries.{EntryData, asked_of, entry_data}
 use Rattle.account_core.specs.Expiry.{last_moment_after}
 use Rattle.account_core.specs.Kept.{KnowsEach, known_of}
 use Rattle.account_core.specs.Known.{EntryDeed, Ends, CallFacts, Rests, deed_of, is_open, known, known_after, known_asked, paid_of}
-use Rattle.account_core.specs.Ledger.{Ledger, answer_of, event_by, refusal_of}
+use Rattle.account_core.specs.Ledger.{Ledger, answer_of, entry_by, refusal_of}
 use Rattle.account_core.specs.Places.{needed, needed_by, or_else, over_limit, owed, owed_to, refusal, refusal_for}
 use Rattle.account_core.specs.Sound.{AnswersFit, GrantsWithinDay, IsSoundPast}
 use Rattle.account_core.specs.Tallied.{IsTallied, tally_of}
@@ -123,49 +123,49 @@ nothing_owed : (call : CallFacts) → call.plan ≡ None → owed_to call ≡ 0
 unfolding owed_to
 nothing_owed call none = rw none refl
 
-pub owed_moves : (h : List EntryData) (event : EntryData)
-    → owed (event ∷ h) + owed_to (known (its_call event) h) ≡ owed h + owed_to (known_after (known (its_call event) h) (its_deed event))
+pub owed_moves : (h : List EntryData) (entry : EntryData)
+    → owed (entry ∷ h) + owed_to (known (its_call entry) h) ≡ owed h + owed_to (known_after (known (its_call entry) h) (its_deed entry))
 unfolding owed
-owed_moves h event = sum_moves owed_to nothing_owed h event
+owed_moves h entry = sum_moves owed_to nothing_owed h entry
 
 pub owed_at_most : (h : List EntryData) (call : ℕ) → owed_to (known call h) ≤ owed h
 unfolding owed
 owed_at_most h call = at_most_all owed_to nothing_owed h call
 
 -- what is owed after an answered entry
-pub owed_after : (opening : ℕ) (until : Option ℕ) (h : List EntryData) (event : EntryData) → IsAnswered opening until h event → 1 + owed (event ∷ h) ≤ owed h + needed h event.asked
-owed_after opening until h event answered =
-    let P : EntryDeed → Type 0 = λ d. 1 + owed_to (known_after (known (its_call event) h) d) ≤ owed_to (known (its_call event) h) + needed h event.asked in
-    let call_owes = subst P (sym (answered_deed opening until h event answered)) (owes opening until h event.asked) in
-    omega (arith, owed_moves h event, call_owes)
+pub owed_after : (opening : ℕ) (until : Option ℕ) (h : List EntryData) (entry : EntryData) → IsAnswered opening until h entry → 1 + owed (entry ∷ h) ≤ owed h + needed h entry.asked
+owed_after opening until h entry answered =
+    let P : EntryDeed → Type 0 = λ d. 1 + owed_to (known_after (known (its_call entry) h) d) ≤ owed_to (known (its_call entry) h) + needed h entry.asked in
+    let call_owes = subst P (sym (answered_deed opening until h entry answered)) (owes opening until h entry.asked) in
+    omega (arith, owed_moves h entry, call_owes)
 
 -- ---- the states
 
-tells_by : (here : Bool) (old new : CallStates) (h : List EntryData) (event : EntryData) (state : CallState) (call : ℕ) → (its_call event == call) ≡ here
-    → Renews old new (its_call event) state → KnowsEach old h → known_of state ≡ known_after (known (its_call event) h) (its_deed event)
-    → known_of (call_state_of new call) ≡ known call (event ∷ h)
-tells_by true old new h event state call is renews tells known_is =
-    let P : ℕ → Type 0 = λ c. known_of state ≡ known c (event ∷ h) in
+tells_by : (here : Bool) (old new : CallStates) (h : List EntryData) (entry : EntryData) (state : CallState) (call : ℕ) → (its_call entry == call) ≡ here
+    → Renews old new (its_call entry) state → KnowsEach old h → known_of state ≡ known_after (known (its_call entry) h) (its_deed entry)
+    → known_of (call_state_of new call) ≡ known call (entry ∷ h)
+tells_by true old new h entry state call is renews tells known_is =
+    let P : ℕ → Type 0 = λ c. known_of state ≡ known c (entry ∷ h) in
     let now : call_state_of new call ≡ state = renews call ∙ ap (λ b. if b then state else call_state_of old call) is in
-    ap known_of now ∙ subst P (eqb-true (its_call event) call is) (known_is ∙ sym (known_here h event))
-tells_by false old new h event state call is renews tells known_is =
+    ap known_of now ∙ subst P (eqb-true (its_call entry) call is) (known_is ∙ sym (known_here h entry))
+tells_by false old new h entry state call is renews tells known_is =
     let now : call_state_of new call ≡ call_state_of old call = renews call ∙ ap (λ b. if b then state else call_state_of old call) is in
-    ap known_of now ∙ (tells call ∙ sym (known_apart h event call is))
+    ap known_of now ∙ (tells call ∙ sym (known_apart h entry call is))
 
 -- the states after that of an entry's call is renewed
-pub tells_renewed : (old new : CallStates) (h : List EntryData) (event : EntryData) (state : CallState)
-    → Renews old new (its_call event) state → KnowsEach old h → known_of state ≡ known_after (known (its_call event) h) (its_deed event)
-    → KnowsEach new (event ∷ h)
-tells_renewed old new h event state renews tells known_is call = tells_by _ old new h event state call refl renews tells known_is
+pub tells_renewed : (old new : CallStates) (h : List EntryData) (entry : EntryData) (state : CallState)
+    → Renews old new (its_call entry) state → KnowsEach old h → known_of state ≡ known_after (known (its_call entry) h) (its_deed entry)
+    → KnowsEach new (entry ∷ h)
+tells_renewed old new h entry state renews tells known_is call = tells_by _ old new h entry state call refl renews tells known_is
 
-rests_by : (here : Bool) (h : List EntryData) (event : EntryData) (call : ℕ) → (its_call event == call) ≡ here → its_deed event ≡ Rests → known call (event ∷ h) ≡ known call h
-rests_by true h event call is rests =
-    let P : ℕ → Type 0 = λ c. known c (event ∷ h) ≡ known c h in
-    subst P (eqb-true (its_call event) call is) (known_here h event ∙ ap (known_after (known (its_call event) h)) rests)
-rests_by false h event call is rests = known_apart h event call is
+rests_by : (here : Bool) (h : List EntryData) (entry : EntryData) (call : ℕ) → (its_call entry == call) ≡ here → its_deed entry ≡ Rests → known call (entry ∷ h) ≡ known call h
+rests_by true h entry call is rests =
+    let P : ℕ → Type 0 = λ c. known c (entry ∷ h) ≡ known c h in
+    subst P (eqb-true (its_call entry) call is) (known_here h entry ∙ ap (known_after (known (its_call entry) h)) rests)
+rests_by false h entry call is rests = known_apart h entry call is
 
-pub tells_resting : (m : CallStates) (h : List EntryData) (event : EntryData) → its_deed event ≡ Rests → KnowsEach m h → KnowsEach m (event ∷ h)
-tells_resting m h event rests tells call = tells call ∙ sym (rests_by _ h event call refl rests)
+pub tells_resting : (m : CallStates) (h : List EntryData) (entry : EntryData) → its_deed entry ≡ Rests → KnowsEach m h → KnowsEach m (entry ∷ h)
+tells_resting m h entry rests tells call = tells call ∙ sym (rests_by _ h entry call refl rests)
 
 -- ---- the whole
 
@@ -178,51 +178,51 @@ of_call call (Settles other number info) is = (is, (λ response. refl, λ last r
 of_call call (Returns other) is = (is, (λ response. refl, λ last response. refl))
 
 -- what a teller keeps of the longer history, by what it kept
-pub record IsEntered (h : List EntryData) (event : EntryData) (old new : Teller) : Type 0 where
-  pub tells : KnowsEach new.tally.calls (event ∷ h)
-  pub funds_are : new.tally.funds ≡ old.tally.funds + credited event.asked event.reply
-  pub credit_is : new.tally.available ≡ shown_by event.reply
-  pub last_is : new.tally.last_moment ≡ last_moment_after old.tally.last_moment event.asked event.reply
-  pub owed_are : new.owed ≡ owed (event ∷ h)
+pub record IsEntered (h : List EntryData) (entry : EntryData) (old new : Teller) : Type 0 where
+  pub tells : KnowsEach new.tally.calls (entry ∷ h)
+  pub funds_are : new.tally.funds ≡ old.tally.funds + credited entry.asked entry.reply
+  pub credit_is : new.tally.available ≡ shown_by entry.reply
+  pub last_is : new.tally.last_moment ≡ last_moment_after old.tally.last_moment entry.asked entry.reply
+  pub owed_are : new.owed ≡ owed (entry ∷ h)
   pub limit_is : new.limit ≡ old.limit
   pub one_more : new.entries ≡ old.entries + 1
 
-pub past_entered : (history : List EntryData) (event : EntryData) → reverse (history ++ event ∷ []) ≡ event ∷ reverse history
-past_entered history event = reverse-append history (event ∷ [])
+pub past_entered : (history : List EntryData) (entry : EntryData) → reverse (history ++ entry ∷ []) ≡ entry ∷ reverse history
+past_entered history entry = reverse-append history (entry ∷ [])
 
 -- an admitted operation with its answer is an entry of the history
 pub answered_by : (ledger : Ledger) (asked : Asked) (response : Reply) (seat : ℕ) → refusal_of ledger asked ≡ None → response ≡ answer_of ledger asked
-    → IsAnswered ledger.opening ledger.until (reverse ledger.history) (event_by seat asked response)
+    → IsAnswered ledger.opening ledger.until (reverse ledger.history) (entry_by seat asked response)
 answered_by ledger asked response seat allowed is = record { admissible = (admitted ledger.limit (reverse ledger.history) asked allowed).0; answered = is }
 
 -- the places of the entry and of all that is owed after it are those that were owed and needed
-pub places_after : (ledger : Ledger) (event : EntryData) → IsAnswered ledger.opening ledger.until (reverse ledger.history) event
-    → length (entered ledger event).history + owed (reverse (entered ledger event).history) ≤ length ledger.history + (owed (reverse ledger.history) + needed (reverse ledger.history) event.asked)
-places_after ledger event answered =
-    let longer : owed (reverse (ledger.history ++ event ∷ [])) ≡ owed (event ∷ reverse ledger.history) = ap owed (past_entered ledger.history event) in
-    omega (arith, longer, length-append ledger.history (event ∷ []), owed_after ledger.opening ledger.until (reverse ledger.history) event answered)
+pub places_after : (ledger : Ledger) (entry : EntryData) → IsAnswered ledger.opening ledger.until (reverse ledger.history) entry
+    → length (entered ledger entry).history + owed (reverse (entered ledger entry).history) ≤ length ledger.history + (owed (reverse ledger.history) + needed (reverse ledger.history) entry.asked)
+places_after ledger entry answered =
+    let longer : owed (reverse (ledger.history ++ entry ∷ [])) ≡ owed (entry ∷ reverse ledger.history) = ap owed (past_entered ledger.history entry) in
+    omega (arith, longer, length-append ledger.history (entry ∷ []), owed_after ledger.opening ledger.until (reverse ledger.history) entry answered)
 
 pub teller_entered : (ledger : Ledger) (old new : Teller) (entry : Entry) → IsAnsweredByTeller ledger old entry
     → IsEntered (reverse ledger.history) (entry_data entry) old new → IsTellerOf (entered ledger (entry_data entry)) new
 teller_entered ledger old new entry is more =
     let h = reverse ledger.history in
-    let event = entry_data entry in
+    let noted = entry_data entry in
     let tallied = is.teller_is.tallied in
     let answered = answered_by ledger (asked_of entry.op) entry.reply entry.seat is.allowed is.answered in
     let P : List EntryData → Type 0 = λ past. IsTallied ledger.opening ledger.until past new.tally in
     let O : List EntryData → Type 0 = λ past. new.owed ≡ owed past in
     record {
-      tallied = subst P (sym (past_entered ledger.history event)) (record {
+      tallied = subst P (sym (past_entered ledger.history noted)) (record {
         small = tallied.small;
         legal = (tallied.legal, answered);
         tells = more.tells;
         funds_are = omega (arith, more.funds_are, tallied.funds_are);
-        credit_is = more.credit_is ∙ answer_shows ledger.opening ledger.until h event is.answered;
-        last_is = more.last_is ∙ ap (λ l. last_moment_after l event.asked event.reply) tallied.last_is;
+        credit_is = more.credit_is ∙ answer_shows ledger.opening ledger.until h noted is.answered;
+        last_is = more.last_is ∙ ap (λ l. last_moment_after l noted.asked noted.reply) tallied.last_is;
       });
       limit_is = more.limit_is ∙ is.teller_is.limit_is;
-      counted = omega (arith, more.one_more, is.teller_is.counted, length-append ledger.history (event ∷ []));
-      owed_are = subst O (sym (past_entered ledger.history event)) more.owed_are;
+      counted = omega (arith, more.one_more, is.teller_is.counted, length-append ledger.history (noted ∷ []));
+      owed_are = subst O (sym (past_entered ledger.history noted)) more.owed_are;
       within_limit = omega (
         arith,
         more.one_more,
@@ -230,8 +230,8 @@ teller_entered ledger old new entry is more =
         more.limit_is,
         is.teller_is.counted,
         is.teller_is.limit_is,
-        owed_after ledger.opening ledger.until h event answered,
-        (admitted ledger.limit h event.asked is.allowed).1,
+        owed_after ledger.opening ledger.until h noted answered,
+        (admitted ledger.limit h noted.asked is.allowed).1,
         length-reverse ledger.history,
       );
     }
@@ -250,75 +250,75 @@ credit_needs h (Reserves call plan wanted least at) is = absurd is
 credit_needs h (Settles call number info) is = absurd is
 credit_needs h (Returns call) is = absurd is
 
-pub owed_resting : (h : List EntryData) (event : EntryData) → its_deed event ≡ Rests → owed (event ∷ h) ≡ owed h
-owed_resting h event rests =
-    let same : owed_to (known_after (known (its_call event) h) (its_deed event)) ≡ owed_to (known (its_call event) h) = ap (λ d. owed_to (known_after (known (its_call event) h) d)) rests in
-    omega (arith, owed_moves h event, same)
+pub owed_resting : (h : List EntryData) (entry : EntryData) → its_deed entry ≡ Rests → owed (entry ∷ h) ≡ owed h
+owed_resting h entry rests =
+    let same : owed_to (known_after (known (its_call entry) h) (its_deed entry)) ≡ owed_to (known (its_call entry) h) = ap (λ d. owed_to (known_after (known (its_call entry) h) d)) rests in
+    omega (arith, owed_moves h entry, same)
 
-pub credit_entered : (h : List EntryData) (event : EntryData) (old : Teller) → IsCredit event.asked → KnowsEach old.tally.calls h → old.owed ≡ owed h
-    → IsEntered h event old (record old {
-      tally = tally_of old.tally.calls (old.tally.funds + credited event.asked event.reply) (shown_by event.reply) (last_moment_after old.tally.last_moment event.asked event.reply);
+pub credit_entered : (h : List EntryData) (entry : EntryData) (old : Teller) → IsCredit entry.asked → KnowsEach old.tally.calls h → old.owed ≡ owed h
+    → IsEntered h entry old (record old {
+      tally = tally_of old.tally.calls (old.tally.funds + credited entry.asked entry.reply) (shown_by entry.reply) (last_moment_after old.tally.last_moment entry.asked entry.reply);
       entries = old.entries + 1;
     })
-credit_entered h event old is tells owed_are =
-    let rests = credit_rests event.asked event.reply is in
+credit_entered h entry old is tells owed_are =
+    let rests = credit_rests entry.asked entry.reply is in
     record {
-      tells = tells_resting old.tally.calls h event rests tells;
+      tells = tells_resting old.tally.calls h entry rests tells;
       funds_are = refl;
       credit_is = refl;
       last_is = refl;
-      owed_are = owed_are ∙ sym (owed_resting h event rests);
+      owed_are = owed_are ∙ sym (owed_resting h entry rests);
       limit_is = refl;
       one_more = refl;
     }
 
 -- the funds stay within the largest money
-pub funds_fit : (opening : ℕ) (until : Option ℕ) (h : List EntryData) (event : EntryData) → IsSoundPast opening h → IsAnswered opening until h event
-    → opening + credits h + credited event.asked event.reply ≤ 1000000000000000
-funds_fit opening until h event sound answered = omega (arith, answered_credit opening until h event answered, credited_capped opening until h event.asked sound.capped)
+pub funds_fit : (opening : ℕ) (until : Option ℕ) (h : List EntryData) (entry : EntryData) → IsSoundPast opening h → IsAnswered opening until h entry
+    → opening + credits h + credited entry.asked entry.reply ≤ 1000000000000000
+funds_fit opening until h entry sound answered = omega (arith, answered_credit opening until h entry answered, credited_capped opening until h entry.asked sound.capped)
 
 -- ---- an operation of a call
 
-module _ (opening : ℕ) (until : Option ℕ) (limit : ℕ) (h : List EntryData) (call : ℕ) (event : EntryData) (here : IsOfCall call event.asked) (before : CallFacts) (before_is : before ≡ known call h)
-    (open_yet : refusal limit h event.asked ≡ None) (is : event.reply ≡ answer opening until h event.asked) where
-  pub before_its : before ≡ known (its_call event) h
-  before_its = before_is ∙ ap (λ c. known c h) (sym (of_call call event.asked here).0)
+module _ (opening : ℕ) (until : Option ℕ) (limit : ℕ) (h : List EntryData) (call : ℕ) (entry : EntryData) (here : IsOfCall call entry.asked) (before : CallFacts) (before_is : before ≡ known call h)
+    (open_yet : refusal limit h entry.asked ≡ None) (is : entry.reply ≡ answer opening until h entry.asked) where
+  pub before_its : before ≡ known (its_call entry) h
+  before_its = before_is ∙ ap (λ c. known c h) (sym (of_call call entry.asked here).0)
 
-  answered_here : IsAnswered opening until h event
-  answered_here = record { admissible = (admitted limit h event.asked open_yet).0; answered = is }
+  answered_here : IsAnswered opening until h entry
+  answered_here = record { admissible = (admitted limit h entry.asked open_yet).0; answered = is }
 
-  pub placed_known : misplaced before event.asked ≡ None
+  pub placed_known : misplaced before entry.asked ≡ None
   placed_known =
-      let P : CallFacts → Type 0 = λ k. misplaced k event.asked ≡ None in
-      subst P (sym before_its) (in_place h event.asked (admitted limit h event.asked open_yet).0).1
+      let P : CallFacts → Type 0 = λ k. misplaced k entry.asked ≡ None in
+      subst P (sym before_its) (in_place h entry.asked (admitted limit h entry.asked open_yet).0).1
 
-  pub needs_known : needed_by before event.asked ≡ needed h event.asked
-  needs_known = ap (λ k. needed_by k event.asked) before_its
+  pub needs_known : needed_by before entry.asked ≡ needed h entry.asked
+  needs_known = ap (λ k. needed_by k entry.asked) before_its
 
-  pub room_known : AnswersFit opening until h → GrantsWithinDay before (its_deed event)
+  pub room_known : AnswersFit opening until h → GrantsWithinDay before (its_deed entry)
   room_known fitting =
-      let P : EntryDeed → Type 0 = λ d. GrantsWithinDay (known (its_call event) h) d in
-      let K : CallFacts → Type 0 = λ k. GrantsWithinDay k (its_deed event) in
-      subst K (sym before_its) (subst P (sym (answered_deed opening until h event answered_here)) (fitting event.asked (admitted limit h event.asked open_yet).0).room)
+      let P : EntryDeed → Type 0 = λ d. GrantsWithinDay (known (its_call entry) h) d in
+      let K : CallFacts → Type 0 = λ k. GrantsWithinDay k (its_deed entry) in
+      subst K (sym before_its) (subst P (sym (answered_deed opening until h entry answered_here)) (fitting entry.asked (admitted limit h entry.asked open_yet).0).room)
 
   pub owed_enough : (places : ℕ) → places ≡ owed h → owed_to before ≤ places
-  owed_enough places places_are = omega (arith, places_are, ap owed_to before_its, owed_at_most h (its_call event))
+  owed_enough places places_are = omega (arith, places_are, ap owed_to before_its, owed_at_most h (its_call entry))
 
   pub call_entered : (old new : Teller) (state : CallState) (owed_before owed_now : ℕ)
-      → KnowsEach old.tally.calls h → Renews old.tally.calls new.tally.calls call state → known_of state ≡ known_after before (its_deed event) → old.owed ≡ owed h
+      → KnowsEach old.tally.calls h → Renews old.tally.calls new.tally.calls call state → known_of state ≡ known_after before (its_deed entry) → old.owed ≡ owed h
       → owed_before ≡ owed_to before → owed_now ≡ owed_to (known_of state) → new.owed ≡ old.owed + owed_now - owed_before
-      → new.tally.funds ≡ old.tally.funds → new.tally.available ≡ shown_by event.reply → new.tally.last_moment ≡ old.tally.last_moment
-      → new.limit ≡ old.limit → new.entries ≡ old.entries + 1 → IsEntered h event old new
+      → new.tally.funds ≡ old.tally.funds → new.tally.available ≡ shown_by entry.reply → new.tally.last_moment ≡ old.tally.last_moment
+      → new.limit ≡ old.limit → new.entries ≡ old.entries + 1 → IsEntered h entry old new
   call_entered old new state owed_before owed_now tells renews state_is owed_are before_owed now_owed new_owed funds_are credit_is last_is limit_is one_more =
-      let (same, (rests, stays)) = of_call call event.asked here in
+      let (same, (rests, stays)) = of_call call entry.asked here in
       let U : ℕ → Type 0 = λ c. Renews old.tally.calls new.tally.calls c state in
-      let renewed : known_of state ≡ known_after (known (its_call event) h) (its_deed event) = state_is ∙ ap (λ k. known_after k (its_deed event)) before_its in
+      let renewed : known_of state ≡ known_after (known (its_call entry) h) (its_deed entry) = state_is ∙ ap (λ k. known_after k (its_deed entry)) before_its in
       record {
-        tells = tells_renewed old.tally.calls new.tally.calls h event state (subst U (sym same) renews) tells renewed;
-        funds_are = omega (arith, funds_are, rests event.reply);
+        tells = tells_renewed old.tally.calls new.tally.calls h entry state (subst U (sym same) renews) tells renewed;
+        funds_are = omega (arith, funds_are, rests entry.reply);
         credit_is = credit_is;
-        last_is = last_is ∙ sym (stays old.tally.last_moment event.reply);
-        owed_are = omega (arith, new_owed, owed_are, before_owed, now_owed, ap owed_to before_its, ap owed_to renewed, owed_moves h event, owed_at_most h (its_call event));
+        last_is = last_is ∙ sym (stays old.tally.last_moment entry.reply);
+        owed_are = omega (arith, new_owed, owed_are, before_owed, now_owed, ap owed_to before_its, ap owed_to renewed, owed_moves h entry, owed_at_most h (its_call entry));
         limit_is = limit_is;
         one_more = one_more;
       }

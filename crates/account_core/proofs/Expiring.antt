@@ -8,7 +8,7 @@ use Rattle.tariff_core.specs.Rates.{Rates}
 use Rattle.account_core.specs.Answers.{IsAnswered, IsLegal, IsLegalPast, answer, reserve_verdict, showing, units_offered}
 use Rattle.account_core.specs.Asked.{Asked, Credits, Reserves, Returns, Settles}
 use Rattle.account_core.specs.Available.{available}
-use Rattle.account_core.specs.Events.{EntryData}
+use Rattle.account_core.specs.Entries.{EntryData}
 use Rattle.account_core.specs.Expiry.{GrantsBy, LeavesLastMoment, is_past, last_moment, last_moment_after}
 use Rattle.account_core.specs.Known.{known}
 use Rattle.account_core.specs.Laws.{NothingIsGrantedLate}
@@ -44,11 +44,11 @@ answer_grants opening until h last (Reserves c plan wanted least at) is =
 answer_grants opening until h last (Settles c number info) is = tt
 answer_grants opening until h last (Returns c) is = tt
 
-entry_grants : (opening : ℕ) (until : Option ℕ) (h : List EntryData) (last : ℕ) (event : EntryData) → IsAnswered opening until h event → last_moment until h ≡ Some last
-    → GrantsBy last event.asked event.reply
-entry_grants opening until h last event answered is =
-    let P : Reply → Type 0 = λ r. GrantsBy last event.asked r in
-    subst P (sym answered.answered) (answer_grants opening until h last event.asked is)
+entry_grants : (opening : ℕ) (until : Option ℕ) (h : List EntryData) (last : ℕ) (entry : EntryData) → IsAnswered opening until h entry → last_moment until h ≡ Some last
+    → GrantsBy last entry.asked entry.reply
+entry_grants opening until h last entry answered is =
+    let P : Reply → Type 0 = λ r. GrantsBy last entry.asked r in
+    subst P (sym answered.answered) (answer_grants opening until h last entry.asked is)
 
 -- an entry that leaves the last moment
 moment_left : (before : Option ℕ) (asked : Asked) (response : Reply) → LeavesLastMoment asked response → last_moment_after before asked response ≡ before
@@ -57,22 +57,22 @@ moment_left before asked response leaves = refl
 
 -- ---- the entries of a history, from one place on
 
-entry_here : (opening : ℕ) (until : Option ℕ) (history later : List EntryData) (event : EntryData) → IsLegal opening until ((history ++ event ∷ []) ++ later)
-    → IsAnswered opening until (reverse history) event
-entry_here opening until history later event legal =
+entry_here : (opening : ℕ) (until : Option ℕ) (history later : List EntryData) (entry : EntryData) → IsLegal opening until ((history ++ entry ∷ []) ++ later)
+    → IsAnswered opening until (reverse history) entry
+entry_here opening until history later entry legal =
     let P : List EntryData → Type 0 = λ h. IsLegalPast opening until h in
-    let past = prefix_legal opening until (reverse later) (reverse (history ++ event ∷ [])) (subst P (reverse-append (history ++ event ∷ []) later) legal) in
-    (subst P (reverse-append history (event ∷ [])) past).1
+    let past = prefix_legal opening until (reverse later) (reverse (history ++ entry ∷ [])) (subst P (reverse-append (history ++ entry ∷ []) later) legal) in
+    (subst P (reverse-append history (entry ∷ [])) past).1
 
 pub nothing_late : NothingIsGrantedLate
-nothing_late opening until history [] last legal is leave = All-nil (λ event. GrantsBy last event.asked event.reply)
-nothing_late opening until history (event ∷ later) last legal is leave =
-    let G : EntryData → Type 0 = λ event. GrantsBy last event.asked event.reply in
-    let L : EntryData → Type 0 = λ event. LeavesLastMoment event.asked event.reply in
+nothing_late opening until history [] last legal is leave = All-nil (λ entry. GrantsBy last entry.asked entry.reply)
+nothing_late opening until history (entry ∷ later) last legal is leave =
+    let G : EntryData → Type 0 = λ entry. GrantsBy last entry.asked entry.reply in
+    let L : EntryData → Type 0 = λ entry. LeavesLastMoment entry.asked entry.reply in
     let P : List EntryData → Type 0 = λ h. IsLegal opening until h in
-    let longer : IsLegal opening until ((history ++ event ∷ []) ++ later) = subst P (sym (append_assoc history (event ∷ []) later)) legal in
-    let stays : last_moment until (reverse (history ++ event ∷ [])) ≡ Some last =
-    ap (last_moment until) (reverse-append history (event ∷ []))
-    ∙ (moment_left (last_moment until (reverse history)) event.asked event.reply (All-head L event later leave) ∙ is) in
-    All-cons G event later (entry_grants opening until (reverse history) last event (entry_here opening until history later event longer) is)
-    (nothing_late opening until (history ++ event ∷ []) later last longer stays (All-tail L event later leave))
+    let longer : IsLegal opening until ((history ++ entry ∷ []) ++ later) = subst P (sym (append_assoc history (entry ∷ []) later)) legal in
+    let stays : last_moment until (reverse (history ++ entry ∷ [])) ≡ Some last =
+    ap (last_moment until) (reverse-append history (entry ∷ []))
+    ∙ (moment_left (last_moment until (reverse history)) entry.asked entry.reply (All-head L entry later leave) ∙ is) in
+    All-cons G entry later (entry_grants opening until (reverse history) last entry (entry_here opening until history later entry longer) is)
+    (nothing_late opening until (history ++ entry ∷ []) later last longer stays (All-tail L entry later leave))

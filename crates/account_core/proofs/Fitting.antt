@@ -8,7 +8,7 @@ use Rattle.tariff_core.specs.declared.times.TimeInfo.{TimeInfo}
 use Rattle.account_core.specs.Answers.{accepted_times, answer, inadmissible, settle_verdict, showing, shown_by, units_offered, bare_reply}
 use Rattle.account_core.specs.Asked.{Asked, Credits, Reserves, Returns, Settles, call_of}
 use Rattle.account_core.specs.Available.{available, credited, credits, taken_by_all}
-use Rattle.account_core.specs.Events.{EntryData}
+use Rattle.account_core.specs.Entries.{EntryData}
 use Rattle.account_core.specs.Expiry.{is_past, last_moment}
 use Rattle.account_core.specs.Known.{EntryDeed, Ends, Forfeits, Grants, CallFacts, Reports, Rests, deed, deed_of, is_open, known, known_after, paid_of, plan_in_force, price_under, taken_of}
 use Rattle.account_core.specs.Replies.{credit_reply, reply_for, reserve_reply, return_reply, settle_reply}
@@ -46,14 +46,14 @@ available_by : (funds taken funds' taken' t t' credit credit' more : ℕ) → ta
 available_by funds taken funds' taken' t t' credit credit' more covered funds_are is is' moves within = omega arith
 
 -- it moves by what the entry credits, and by what its call takes
-pub available_moves : (opening : ℕ) (h : List EntryData) (event : EntryData) → IsSoundPast opening h
-    → taken_of (known_after (known (its_call event) h) (its_deed event)) ≤ available opening h + taken_of (known (its_call event) h)
-    → available opening (event ∷ h) + taken_of (known_after (known (its_call event) h) (its_deed event))
-    ≡ available opening h + taken_of (known (its_call event) h) + credited event.asked event.reply
-available_moves opening h event sound within =
-    available_by (opening + credits h) (taken_by_all h) (opening + credits (event ∷ h)) (taken_by_all (event ∷ h)) (taken_of (known (its_call event) h))
-    (taken_of (known_after (known (its_call event) h) (its_deed event))) (available opening h) (available opening (event ∷ h)) (credited event.asked event.reply)
-    sound.covered (omega arith) (available_is opening h) (available_is opening (event ∷ h)) (taken_moves h event) within
+pub available_moves : (opening : ℕ) (h : List EntryData) (entry : EntryData) → IsSoundPast opening h
+    → taken_of (known_after (known (its_call entry) h) (its_deed entry)) ≤ available opening h + taken_of (known (its_call entry) h)
+    → available opening (entry ∷ h) + taken_of (known_after (known (its_call entry) h) (its_deed entry))
+    ≡ available opening h + taken_of (known (its_call entry) h) + credited entry.asked entry.reply
+available_moves opening h entry sound within =
+    available_by (opening + credits h) (taken_by_all h) (opening + credits (entry ∷ h)) (taken_by_all (entry ∷ h)) (taken_of (known (its_call entry) h))
+    (taken_of (known_after (known (its_call entry) h) (its_deed entry))) (available opening h) (available opening (entry ∷ h)) (credited entry.asked entry.reply)
+    sound.covered (omega arith) (available_is opening h) (available_is opening (entry ∷ h)) (taken_moves h entry) within
 
 total_by : (funds taken credit t : ℕ) → taken ≤ funds → funds ≤ 1000000000000000 → credit ≡ funds - taken → t ≤ taken → credit + t ≤ 1000000000000000
 total_by funds taken credit t covered capped is member = omega arith
@@ -179,10 +179,10 @@ available_showing opening h seat credit (Returns call) (reply.Returned paid avai
 available_showing opening h seat credit asked response = refl
 
 -- an answer shows what is available after it
-pub answer_shows : (opening : ℕ) (until : Option ℕ) (h : List EntryData) (event : EntryData) → event.reply ≡ answer opening until h event.asked → shown_by event.reply ≡ available opening (event ∷ h)
+pub answer_shows : (opening : ℕ) (until : Option ℕ) (h : List EntryData) (entry : EntryData) → entry.reply ≡ answer opening until h entry.asked → shown_by entry.reply ≡ available opening (entry ∷ h)
 unfolding answer
-answer_shows opening until h event is =
-    let response : Reply = bare_reply opening until h event.asked in
-    let credit : ℕ = available opening (record { seat = 0; asked = event.asked; reply = response } ∷ h) in
-    let P : Reply → Type 0 = λ r. shown_by r ≡ available opening (record { seat = event.seat; asked = event.asked; reply = r } ∷ h) in
-    subst P (sym is) (shown_by_showing response credit ∙ sym (available_showing opening h event.seat credit event.asked response))
+answer_shows opening until h entry is =
+    let response : Reply = bare_reply opening until h entry.asked in
+    let credit : ℕ = available opening (record { seat = 0; asked = entry.asked; reply = response } ∷ h) in
+    let P : Reply → Type 0 = λ r. shown_by r ≡ available opening (record { seat = entry.seat; asked = entry.asked; reply = r } ∷ h) in
+    subst P (sym is) (shown_by_showing response credit ∙ sym (available_showing opening h entry.seat credit entry.asked response))

@@ -9,11 +9,11 @@ use Rattle.tariff_core.specs.declared.times.TimeInfo.{TimeInfo}
 use Rattle.account_core.specs.Answers.{IsLegal, accepted_times, answer, inadmissible, misplaced, settle_verdict, showing, units_offered}
 use Rattle.account_core.specs.Asked.{Asked, Credits, IsOfCall, Reserves, Returns, Settles}
 use Rattle.account_core.specs.Available.{available}
-use Rattle.account_core.specs.Events.{EntryData}
+use Rattle.account_core.specs.Entries.{EntryData}
 use Rattle.account_core.specs.Expiry.{is_past, last_moment}
 use Rattle.account_core.specs.Known.{CallFacts, deed, known, known_after, plan_in_force, taken_of}
 use Rattle.account_core.specs.Laws.{AnswersFitTheirOperations}
-use Rattle.account_core.specs.Ledger.{Ledger, answer_of, event_by, refusal_of}
+use Rattle.account_core.specs.Ledger.{Ledger, answer_of, entry_by, refusal_of}
 use Rattle.account_core.specs.Sound.{IsSound}
 use Rattle.account_core.specs.Standing.{FitsOperation, FitsCall, MovesCall}
 use Rattle.account_core.specs.TariffLaws.{TariffLaws}
@@ -87,22 +87,22 @@ kindly laws opening until history call asked small legal is here = (
 
 -- ---- the entry of any seat does the same
 
-deed_of_any : (seat call : ℕ) (asked : Asked) (response : Reply) → deed call (event_by seat asked response) ≡ deed call (event_by 0 asked response)
+deed_of_any : (seat call : ℕ) (asked : Asked) (response : Reply) → deed call (entry_by seat asked response) ≡ deed call (entry_by 0 asked response)
 unfolding deed
 deed_of_any seat call asked response = refl
 
-entry_moves : (history later : List EntryData) (seat call : ℕ) (asked : Asked) (response : Reply) → later ≡ history ++ event_by seat asked response ∷ []
-    → known call (reverse later) ≡ known_after (known call (reverse history)) (deed call (event_by 0 asked response))
+entry_moves : (history later : List EntryData) (seat call : ℕ) (asked : Asked) (response : Reply) → later ≡ history ++ entry_by seat asked response ∷ []
+    → known call (reverse later) ≡ known_after (known call (reverse history)) (deed call (entry_by 0 asked response))
 entry_moves history later seat call asked response is =
     ap (λ h. known call (reverse h)) is
-    ∙ (ap (known call) (reverse-append history (event_by seat asked response ∷ []))
+    ∙ (ap (known call) (reverse-append history (entry_by seat asked response ∷ []))
     ∙ ap (known_after (known call (reverse history))) (deed_of_any seat call asked response))
 
 -- what an account answers moves each call of its history
 pub account_moves : AnswersFitTheirOperations → (before later : Ledger) (seat call : ℕ) (asked : Asked) (result : Result Reply AccountFault)
     → before.opening ≤ 1000000000000000 → IsLegal before.opening before.until before.history
     → IfOk result (λ response. response ≡ answer_of before asked)
-    → IfOk result (λ response. later ≡ record before { history = before.history ++ event_by seat asked response ∷ [] })
+    → IfOk result (λ response. later ≡ record before { history = before.history ++ entry_by seat asked response ∷ [] })
     → OnOk result (refusal_of before asked ≡ None) → OnErr result (later ≡ before)
     → MovesCall call (known call (reverse before.history)) asked result (Some (known call (reverse later.history)))
 account_moves kind before later seat call asked (Err fault) small legal answered entered open_yet kept =

@@ -8,9 +8,9 @@ use Rattle.std.proofs.lemmas.List.{length-map, map-append}
 use Rattle.account_core.specs.Admitting.{IsAdmitted}
 use Rattle.account_core.specs.Answers.{IsAnswered}
 use Rattle.account_core.specs.Asked.{Asked}
-use Rattle.account_core.specs.Events.{EntryData, asked_of, entry_data}
+use Rattle.account_core.specs.Entries.{EntryData, asked_of, entry_data}
 use Rattle.account_core.specs.Kept.{known_of}
-use Rattle.account_core.specs.Ledger.{Ledger, answer_of, event_by}
+use Rattle.account_core.specs.Ledger.{Ledger, answer_of, entry_by}
 use Rattle.account_core.specs.Places.{needed, needed_by, owed}
 use Rattle.account_core.specs.Tellers.{Admits, IsKeptTeller, IsTellerOf, entered}
 use Rattle.account_core.specs.declared.admitted.Admitted.{Admitted}
@@ -45,20 +45,20 @@ module _ (a : Inside) (ledger : Ledger) (view_is : shown a ≡ ledger) (kept : I
     abbrev pub asked : Asked
     asked = asked_of admitted.op
 
-    pub places_enough : (event : EntryData) (seat places : ℕ) → event ≡ event_by seat asked (answer_of (shown a) asked) → places ≡ a.teller.owed + needed_by (known_of admitted.call) asked
-        → length (entered (shown a) event).history + owed (reverse (entered (shown a) event).history) ≤ length a.entries.items + places
-    places_enough event seat places event_is places_are =
+    pub places_enough : (entry : EntryData) (seat places : ℕ) → entry ≡ entry_by seat asked (answer_of (shown a) asked) → places ≡ a.teller.owed + needed_by (known_of admitted.call) asked
+        → length (entered (shown a) entry).history + owed (reverse (entered (shown a) entry).history) ≤ length a.entries.items + places
+    places_enough entry seat places entry_is places_are =
         let L : EntryData → Type 0 = λ e. IsAnswered a.opening a.until (reverse (shown a).history) e in
         let A : EntryData → Type 0 = λ e. needed (reverse (shown a).history) e.asked ≡ needed (reverse (shown a).history) asked in
-        let answered = subst L (sym event_is) (answered_by (shown a) asked (answer_of (shown a) asked) seat admits.admitted_is.allowed refl) in
+        let answered = subst L (sym entry_is) (answered_by (shown a) asked (answer_of (shown a) asked) seat admits.admitted_is.allowed refl) in
         omega (
           arith,
-          places_after (shown a) event answered,
+          places_after (shown a) entry answered,
           places_are,
           kept.teller_is.owed_are,
           length-map a.entries.items entry_data,
           needed_asked (reverse (shown a).history) asked (known_of admitted.call) admits.admitted_is.known_is,
-          subst A (sym event_is) refl,
+          subst A (sym entry_is) refl,
         )
 
   pub kept_entered : (entry : Entry) (items : List Entry) (new : Teller) (capacity : ℕ) → items ≡ a.entries.items ++ entry ∷ [] → IsTellerOf (entered (shown a) (entry_data entry)) new

@@ -10,7 +10,7 @@ use Rattle.tariff_core.specs.declared.times.TimeInfo.{TimeInfo}
 use Rattle.account_core.specs.Answers.{IsAnswered, IsLegalPast, accepted_times, settle_verdict, bare_reply}
 use Rattle.account_core.specs.Asked.{Asked, Credits, Reserves, Returns, Settles, call_of}
 use Rattle.account_core.specs.Available.{available, credited}
-use Rattle.account_core.specs.Events.{EntryData}
+use Rattle.account_core.specs.Entries.{EntryData}
 use Rattle.account_core.specs.Known.{EntryDeed, Ends, Forfeits, Grants, CallFacts, Reports, Rests, deed_of, is_open, known, known_after, paid_of, taken_of}
 use Rattle.account_core.specs.Laws.{AreReported, ClosedCallsPayTheTariff, IsSettle, NoBalanceIsNegative, Reporting, SettlesKeepTheCredit, TimesAreReported, last_report, report_after, paid_at_return, paid_after}
 use Rattle.account_core.specs.TariffLaws.{TariffLaws}
@@ -24,7 +24,7 @@ use Rattle.account_core.proofs.Soundness.{IsAllowed, accepted, open_parts, taken
 -- what came first in a legal history is legal
 pub prefix_legal : (opening : ℕ) (until : Option ℕ) (later h : List EntryData) → IsLegalPast opening until (later ++ h) → IsLegalPast opening until h
 prefix_legal opening until [] h legal = legal
-prefix_legal opening until (event ∷ later) h legal = prefix_legal opening until later h legal.0
+prefix_legal opening until (entry ∷ later) h legal = prefix_legal opening until later h legal.0
 
 pub no_negative : TariffLaws → NoBalanceIsNegative
 no_negative laws opening until history later small legal =
@@ -34,11 +34,11 @@ no_negative laws opening until history later small legal =
 
 -- ---- closed calls
 
-response_here : (h : List EntryData) (event : EntryData) → paid_at_return (its_call event) (event ∷ h) ≡ paid_after (paid_at_return (its_call event) h) (its_deed event)
-response_here h event = ap (paid_after (paid_at_return (its_call event) h)) (deed_here event)
+response_here : (h : List EntryData) (entry : EntryData) → paid_at_return (its_call entry) (entry ∷ h) ≡ paid_after (paid_at_return (its_call entry) h) (its_deed entry)
+response_here h entry = ap (paid_after (paid_at_return (its_call entry) h)) (deed_here entry)
 
-response_apart : (h : List EntryData) (event : EntryData) (call : ℕ) → (its_call event == call) ≡ false → paid_at_return call (event ∷ h) ≡ paid_at_return call h
-response_apart h event call apart = ap (paid_after (paid_at_return call h)) (deed_apart call event apart)
+response_apart : (h : List EntryData) (entry : EntryData) (call : ℕ) → (its_call entry == call) ≡ false → paid_at_return call (entry ∷ h) ≡ paid_at_return call h
+response_apart h entry call apart = ap (paid_after (paid_at_return call h)) (deed_apart call entry apart)
 
 ended_yet : (call : CallFacts) → is_open call ≡ true → call.returned ≡ true → ⊥
 ended_yet call is ended = let yet = (open_parts call.plan call.returned is).1 in cc
@@ -53,26 +53,26 @@ response_by credit call before (Ends paid) end known_each ended = ap Some end.pa
 response_by credit call before Rests rests known_each ended = known_each ended
 
 module _ (laws : TariffLaws) where
-  allowed_at : (opening : ℕ) (until : Option ℕ) (h : List EntryData) (event : EntryData) → opening ≤ 1000000000000000 → IsLegalPast opening until (event ∷ h)
-      → IsAllowed (available opening h) (known (its_call event) h) (its_deed event)
-  allowed_at opening until h event small legal =
-      entry_allowed laws opening until h event ((legal_is_sound laws opening until h small legal.0).each (its_call event)) legal.1
+  allowed_at : (opening : ℕ) (until : Option ℕ) (h : List EntryData) (entry : EntryData) → opening ≤ 1000000000000000 → IsLegalPast opening until (entry ∷ h)
+      → IsAllowed (available opening h) (known (its_call entry) h) (its_deed entry)
+  allowed_at opening until h entry small legal =
+      entry_allowed laws opening until h entry ((legal_is_sound laws opening until h small legal.0).each (its_call entry)) legal.1
 
-  said_more : (here : Bool) (opening : ℕ) (until : Option ℕ) (h : List EntryData) (event : EntryData) (call : ℕ) → (its_call event == call) ≡ here → opening ≤ 1000000000000000
-      → IsLegalPast opening until (event ∷ h) → ((c : ℕ) → (known c h).returned ≡ true → paid_at_return c h ≡ Some (paid_of (known c h)))
-      → (known call (event ∷ h)).returned ≡ true → paid_at_return call (event ∷ h) ≡ Some (paid_of (known call (event ∷ h)))
-  said_more true opening until h event call is small legal before =
-      let P : ℕ → Type 0 = λ c. (known c (event ∷ h)).returned ≡ true → paid_at_return c (event ∷ h) ≡ Some (paid_of (known c (event ∷ h))) in
-      subst P (eqb-true (its_call event) call is)
-      (rw (known_here h event, response_here h event)
-      (response_by (available opening h) (known (its_call event) h) (paid_at_return (its_call event) h) (its_deed event) (allowed_at opening until h event small legal) (before (its_call event))))
-  said_more false opening until h event call is small legal before = rw (known_apart h event call is, response_apart h event call is) (before call)
+  said_more : (here : Bool) (opening : ℕ) (until : Option ℕ) (h : List EntryData) (entry : EntryData) (call : ℕ) → (its_call entry == call) ≡ here → opening ≤ 1000000000000000
+      → IsLegalPast opening until (entry ∷ h) → ((c : ℕ) → (known c h).returned ≡ true → paid_at_return c h ≡ Some (paid_of (known c h)))
+      → (known call (entry ∷ h)).returned ≡ true → paid_at_return call (entry ∷ h) ≡ Some (paid_of (known call (entry ∷ h)))
+  said_more true opening until h entry call is small legal before =
+      let P : ℕ → Type 0 = λ c. (known c (entry ∷ h)).returned ≡ true → paid_at_return c (entry ∷ h) ≡ Some (paid_of (known c (entry ∷ h))) in
+      subst P (eqb-true (its_call entry) call is)
+      (rw (known_here h entry, response_here h entry)
+      (response_by (available opening h) (known (its_call entry) h) (paid_at_return (its_call entry) h) (its_deed entry) (allowed_at opening until h entry small legal) (before (its_call entry))))
+  said_more false opening until h entry call is small legal before = rw (known_apart h entry call is, response_apart h entry call is) (before call)
 
   response_paid : (opening : ℕ) (until : Option ℕ) (h : List EntryData) → opening ≤ 1000000000000000 → IsLegalPast opening until h
       → (call : ℕ) → (known call h).returned ≡ true → paid_at_return call h ≡ Some (paid_of (known call h))
   response_paid opening until [] small legal call ended = cc
-  response_paid opening until (event ∷ h) small legal call ended =
-      said_more (its_call event == call) opening until h event call refl small legal (response_paid opening until h small legal.0) ended
+  response_paid opening until (entry ∷ h) small legal call ended =
+      said_more (its_call entry == call) opening until h entry call refl small legal (response_paid opening until h small legal.0) ended
 
   pub closed_pay : ClosedCallsPayTheTariff
   closed_pay opening until history call plan small legal closed =
@@ -109,29 +109,29 @@ reported_by opening until h (Settles c number info) before known_each lawful =
     settle_reported (known c h) c number info (accepted_times (known c h) info) refl lawful
 reported_by opening until h (Returns c) before known_each lawful = known_each lawful
 
-report_here : (h : List EntryData) (event : EntryData) → last_report (its_call event) (event ∷ h) ≡ report_after (last_report (its_call event) h) (known (its_call event) h).times event.asked
-report_here h event = rw (eq-eqb (its_call event) (its_call event) refl) refl
+report_here : (h : List EntryData) (entry : EntryData) → last_report (its_call entry) (entry ∷ h) ≡ report_after (last_report (its_call entry) h) (known (its_call entry) h).times entry.asked
+report_here h entry = rw (eq-eqb (its_call entry) (its_call entry) refl) refl
 
-report_apart : (h : List EntryData) (event : EntryData) (call : ℕ) → (its_call event == call) ≡ false → last_report call (event ∷ h) ≡ last_report call h
-report_apart h event call apart = rw apart refl
+report_apart : (h : List EntryData) (entry : EntryData) (call : ℕ) → (its_call entry == call) ≡ false → last_report call (entry ∷ h) ≡ last_report call h
+report_apart h entry call apart = rw apart refl
 
 IsReported : ℕ → List EntryData → Type 0
 IsReported call h = (known call h).forfeited ≡ false → AreReported (last_report call h) (known call h).times
 
-reported_more : (here : Bool) (opening : ℕ) (until : Option ℕ) (h : List EntryData) (event : EntryData) (call : ℕ) → (its_call event == call) ≡ here → IsAnswered opening until h event
-    → ((c : ℕ) → IsReported c h) → IsReported call (event ∷ h)
+reported_more : (here : Bool) (opening : ℕ) (until : Option ℕ) (h : List EntryData) (entry : EntryData) (call : ℕ) → (its_call entry == call) ≡ here → IsAnswered opening until h entry
+    → ((c : ℕ) → IsReported c h) → IsReported call (entry ∷ h)
 unfolding IsReported
-reported_more true opening until h event call is answered before =
-    let P : ℕ → Type 0 = λ c. (known c (event ∷ h)).forfeited ≡ false → AreReported (last_report c (event ∷ h)) (known c (event ∷ h)).times in
-    subst P (eqb-true (its_call event) call is)
-    (rw (known_here h event, report_here h event, answered_deed opening until h event answered)
-    (reported_by opening until h event.asked (last_report (its_call event) h) (before (its_call event))))
-reported_more false opening until h event call is answered before = rw (known_apart h event call is, report_apart h event call is) (before call)
+reported_more true opening until h entry call is answered before =
+    let P : ℕ → Type 0 = λ c. (known c (entry ∷ h)).forfeited ≡ false → AreReported (last_report c (entry ∷ h)) (known c (entry ∷ h)).times in
+    subst P (eqb-true (its_call entry) call is)
+    (rw (known_here h entry, report_here h entry, answered_deed opening until h entry answered)
+    (reported_by opening until h entry.asked (last_report (its_call entry) h) (before (its_call entry))))
+reported_more false opening until h entry call is answered before = rw (known_apart h entry call is, report_apart h entry call is) (before call)
 
 reported : (opening : ℕ) (until : Option ℕ) (h : List EntryData) → IsLegalPast opening until h → (call : ℕ) → IsReported call h
 unfolding IsReported
 reported opening until [] legal call lawful = refl
-reported opening until (event ∷ h) legal call lawful = reported_more (its_call event == call) opening until h event call refl legal.1 (reported opening until h legal.0) lawful
+reported opening until (entry ∷ h) legal call lawful = reported_more (its_call entry == call) opening until h entry call refl legal.1 (reported opening until h legal.0) lawful
 
 pub times_reported : TimesAreReported
 unfolding IsReported
@@ -156,17 +156,17 @@ settle_credits (Reserves c plan wanted least at) reply is = absurd is
 settle_credits (Settles c number info) reply is = refl
 settle_credits (Returns c) reply is = absurd is
 
-settle_keeps_past : TariffLaws → (opening : ℕ) (until : Option ℕ) (h : List EntryData) (event : EntryData) → opening ≤ 1000000000000000 → IsLegalPast opening until (event ∷ h) → IsSettle event.asked
-    → available opening (event ∷ h) ≡ available opening h
-settle_keeps_past laws opening until h event small legal is =
+settle_keeps_past : TariffLaws → (opening : ℕ) (until : Option ℕ) (h : List EntryData) (entry : EntryData) → opening ≤ 1000000000000000 → IsLegalPast opening until (entry ∷ h) → IsSettle entry.asked
+    → available opening (entry ∷ h) ≡ available opening h
+settle_keeps_past laws opening until h entry small legal is =
     let sound = legal_is_sound laws opening until h small legal.0 in
-    let same = settle_takes (available opening h) (known (its_call event) h) event.asked event.reply is (allowed_at laws opening until h event small legal) in
-    let moves = available_moves opening h event sound (omega (arith, same)) in
-    omega (arith, moves, same, settle_credits event.asked event.reply is)
+    let same = settle_takes (available opening h) (known (its_call entry) h) entry.asked entry.reply is (allowed_at laws opening until h entry small legal) in
+    let moves = available_moves opening h entry sound (omega (arith, same)) in
+    omega (arith, moves, same, settle_credits entry.asked entry.reply is)
 
 pub settle_keeps : TariffLaws → SettlesKeepTheCredit
-settle_keeps laws opening until history event small legal is =
+settle_keeps laws opening until history entry small legal is =
     let P : List EntryData → Type 0 = λ h. IsLegalPast opening until h in
     let Q : List EntryData → Type 0 = λ h. available opening h ≡ available opening (reverse history) in
-    let longer = reverse-append history (event ∷ []) in
-    subst Q (sym longer) (settle_keeps_past laws opening until (reverse history) event small (subst P longer legal) is)
+    let longer = reverse-append history (entry ∷ []) in
+    subst Q (sym longer) (settle_keeps_past laws opening until (reverse history) entry small (subst P longer legal) is)

@@ -7,30 +7,30 @@ use Rattle.std.proofs.lemmas.List.Sums.{sum_by-cons}
 use Rattle.tariff_core.specs.Rates.{Rates}
 use Rattle.account_core.specs.Asked.{call_of}
 use Rattle.account_core.specs.Available.{begins_call, calls, is_grant}
-use Rattle.account_core.specs.Events.{EntryData}
+use Rattle.account_core.specs.Entries.{EntryData}
 use Rattle.account_core.specs.Known.{EntryDeed, Ends, Forfeits, Grants, CallFacts, Reports, Rests, deed, deed_of, known, known_after}
 use Rattle.account_core.proofs.Sums.{at_most_sum, sum_absent, sum_once, times_in}
 
 -- the call of an entry, and what the entry does to it
 abbrev pub its_call : EntryData → ℕ
-its_call event = call_of event.asked
+its_call entry = call_of entry.asked
 
 abbrev pub its_deed : EntryData → EntryDeed
-its_deed event = deed_of event.asked event.reply
+its_deed entry = deed_of entry.asked entry.reply
 
-pub deed_here : (event : EntryData) → deed (its_call event) event ≡ its_deed event
+pub deed_here : (entry : EntryData) → deed (its_call entry) entry ≡ its_deed entry
 unfolding deed
-deed_here event = rw (eq-eqb (its_call event) (its_call event) refl) refl
+deed_here entry = rw (eq-eqb (its_call entry) (its_call entry) refl) refl
 
-pub deed_apart : (call : ℕ) (event : EntryData) → (its_call event == call) ≡ false → deed call event ≡ Rests
+pub deed_apart : (call : ℕ) (entry : EntryData) → (its_call entry == call) ≡ false → deed call entry ≡ Rests
 unfolding deed
-deed_apart call event apart = rw apart refl
+deed_apart call entry apart = rw apart refl
 
-pub known_here : (h : List EntryData) (event : EntryData) → known (its_call event) (event ∷ h) ≡ known_after (known (its_call event) h) (its_deed event)
-known_here h event = ap (known_after (known (its_call event) h)) (deed_here event)
+pub known_here : (h : List EntryData) (entry : EntryData) → known (its_call entry) (entry ∷ h) ≡ known_after (known (its_call entry) h) (its_deed entry)
+known_here h entry = ap (known_after (known (its_call entry) h)) (deed_here entry)
 
-pub known_apart : (h : List EntryData) (event : EntryData) (call : ℕ) → (its_call event == call) ≡ false → known call (event ∷ h) ≡ known call h
-known_apart h event call apart = ap (known_after (known call h)) (deed_apart call event apart)
+pub known_apart : (h : List EntryData) (entry : EntryData) (call : ℕ) → (its_call entry == call) ≡ false → known call (entry ∷ h) ≡ known call h
+known_apart h entry call apart = ap (known_after (known call h)) (deed_apart call entry apart)
 
 -- ---- each call once
 
@@ -65,22 +65,22 @@ apart_same false n = refl
 eq_apart : (c d : ℕ) → (c == d) ≡ false → (d == c) ≡ false
 eq_apart c d apart = grind (arith, nat_tests)
 
-once_cases : (h : List EntryData) (event : EntryData) (c : ℕ) (here : Bool) → (c == its_call event) ≡ here → times_in c (calls h) ≡ is_begun (known c h)
-    → count_begun here (begins_call event h) (times_in c (calls h)) ≡ is_begun (known c (event ∷ h))
-once_cases h event c true here is =
-    let same : its_call event ≡ c = sym (eqb-true c (its_call event) here) in
-    let P : ℕ → Type 0 = λ d. times_in d (calls h) ≡ is_begun (known d h) → count_begun true (begins_call event h) (times_in d (calls h)) ≡ is_begun (known d (event ∷ h)) in
-    subst P same (λ known_is. rw (known_here h event) (once_here (its_deed event) (known (its_call event) h) (times_in (its_call event) (calls h)) known_is)) is
-once_cases h event c false apart is =
-    rw (known_apart h event c (eq_apart c (its_call event) apart)) (apart_same (begins_call event h) (times_in c (calls h)) ∙ is)
+once_cases : (h : List EntryData) (entry : EntryData) (c : ℕ) (here : Bool) → (c == its_call entry) ≡ here → times_in c (calls h) ≡ is_begun (known c h)
+    → count_begun here (begins_call entry h) (times_in c (calls h)) ≡ is_begun (known c (entry ∷ h))
+once_cases h entry c true here is =
+    let same : its_call entry ≡ c = sym (eqb-true c (its_call entry) here) in
+    let P : ℕ → Type 0 = λ d. times_in d (calls h) ≡ is_begun (known d h) → count_begun true (begins_call entry h) (times_in d (calls h)) ≡ is_begun (known d (entry ∷ h)) in
+    subst P same (λ known_is. rw (known_here h entry) (once_here (its_deed entry) (known (its_call entry) h) (times_in (its_call entry) (calls h)) known_is)) is
+once_cases h entry c false apart is =
+    rw (known_apart h entry c (eq_apart c (its_call entry) apart)) (apart_same (begins_call entry h) (times_in c (calls h)) ∙ is)
 
 -- a call is in the list of calls once, if it was granted anything
 pub calls_once : (h : List EntryData) (c : ℕ) → times_in c (calls h) ≡ (if is_some (known c h).plan then 1 else 0)
 unfolding is_begun
 calls_once [] c = refl
-calls_once (event ∷ h) c =
-    times_in_if (begins_call event h) c (its_call event) (calls h)
-    ∙ once_cases h event c (c == its_call event) refl (calls_once h c)
+calls_once (entry ∷ h) c =
+    times_in_if (begins_call entry h) c (its_call entry) (calls h)
+    ∙ once_cases h entry c (c == its_call entry) refl (calls_once h c)
 
 -- ---- sums over all calls
 
@@ -113,21 +113,21 @@ at_most_cases false n total value is once none = omega (arith, none refl)
 
 module _ (value : CallFacts → ℕ) (nothing : (call : CallFacts) → call.plan ≡ None → value call ≡ 0) where
   -- the sum moves as the entry's own call does
-  pub sum_moves : (h : List EntryData) (event : EntryData)
-      → sum_by (λ call. value (known call (event ∷ h))) (calls (event ∷ h)) + value (known (its_call event) h)
-      ≡ sum_by (λ call. value (known call h)) (calls h) + value (known_after (known (its_call event) h) (its_deed event))
-  sum_moves h event =
-      let c : ℕ = its_call event in
+  pub sum_moves : (h : List EntryData) (entry : EntryData)
+      → sum_by (λ call. value (known call (entry ∷ h))) (calls (entry ∷ h)) + value (known (its_call entry) h)
+      ≡ sum_by (λ call. value (known call h)) (calls h) + value (known_after (known (its_call entry) h) (its_deed entry))
+  sum_moves h entry =
+      let c : ℕ = its_call entry in
       let old : ℕ → ℕ = λ call. value (known call h) in
-      let new : ℕ → ℕ = λ call. value (known call (event ∷ h)) in
-      let apart : (d : ℕ) → (c == d) ≡ false → new d ≡ old d = λ d off. ap value (known_apart h event d off) in
-      let here : new c ≡ value (known_after (known c h) (its_deed event)) = ap value (known_here h event) in
+      let new : ℕ → ℕ = λ call. value (known call (entry ∷ h)) in
+      let apart : (d : ℕ) → (c == d) ≡ false → new d ≡ old d = λ d off. ap value (known_apart h entry d off) in
+      let here : new c ≡ value (known_after (known c h) (its_deed entry)) = ap value (known_here h entry) in
       let n : ℕ = times_in c (calls h) in
-      let moved = sum_cases (is_grant (its_deed event)) (is_some (known c h).plan) (sum_by new (calls h)) (sum_by old (calls h)) (new c) (old c) n (calls_once h c)
+      let moved = sum_cases (is_grant (its_deed entry)) (is_some (known c h).plan) (sum_by new (calls h)) (sum_by old (calls h)) (new c) (old c) n (calls_once h c)
       (sum_absent old new c apart (calls h)) (sum_once old new c apart (calls h))
       (λ none. nothing (known c h) (none_is (known c h).plan none))
-      (λ rests none. here ∙ nothing (known_after (known c h) (its_deed event)) (still_none (known c h) (its_deed event) rests none)) in
-      rw (sum_if (begins_call event h) new c (calls h), ← here) moved
+      (λ rests none. here ∙ nothing (known_after (known c h) (its_deed entry)) (still_none (known c h) (its_deed entry) rests none)) in
+      rw (sum_if (begins_call entry h) new c (calls h), ← here) moved
 
   at_most_of : (call : CallFacts) (n total : ℕ) → n ≡ (if is_some call.plan then 1 else 0) → (n ≡ 1 → value call ≤ total) → value call ≤ total
   at_most_of call n total is once = at_most_cases (is_some call.plan) n total (value call) is once (λ none. nothing call (none_is call.plan none))

@@ -9,7 +9,7 @@ use Rattle.tariff_core.specs.declared.times.TimeInfo.{TimeInfo}
 use Rattle.account_core.specs.Answers.{IsLegalPast, accepted_times, answer, inadmissible, settle_verdict, showing, shown_by, units_offered, bare_reply}
 use Rattle.account_core.specs.Asked.{Asked, Credits, Reserves, Returns, Settles}
 use Rattle.account_core.specs.Available.{available, credits, taken_by_all}
-use Rattle.account_core.specs.Events.{EntryData}
+use Rattle.account_core.specs.Entries.{EntryData}
 use Rattle.account_core.specs.Known.{CallFacts, Reports, is_open, known, known_after, paid_of, plan_in_force, price_under, taken_of}
 use Rattle.account_core.specs.Laws.{EntriesAreInRange, EntryIsInRange, IsReplyInRange}
 use Rattle.account_core.specs.Sound.{IsSound, IsSoundPast}
@@ -92,28 +92,28 @@ module _ (laws : TariffLaws) where
 
   -- ---- an entry, and all of them
 
-  entry_in_range : (opening : ℕ) (until : Option ℕ) (h : List EntryData) (event : EntryData) → opening ≤ 1000000000000000 → IsLegalPast opening until (event ∷ h)
-      → EntryIsInRange event
+  entry_in_range : (opening : ℕ) (until : Option ℕ) (h : List EntryData) (entry : EntryData) → opening ≤ 1000000000000000 → IsLegalPast opening until (entry ∷ h)
+      → EntryIsInRange entry
   unfolding answer
-  entry_in_range opening until h event small legal =
-      let response : Reply = bare_reply opening until h event.asked in
-      let credit : ℕ = available opening (record { seat = 0; asked = event.asked; reply = response } ∷ h) in
-      let shown : shown_by event.reply ≡ available opening (event ∷ h) = answer_shows opening until h event legal.1.answered in
-      let capped = available_capped opening (event ∷ h) (legal_is_sound laws opening until (event ∷ h) small legal).capped in
+  entry_in_range opening until h entry small legal =
+      let response : Reply = bare_reply opening until h entry.asked in
+      let credit : ℕ = available opening (record { seat = 0; asked = entry.asked; reply = response } ∷ h) in
+      let shown : shown_by entry.reply ≡ available opening (entry ∷ h) = answer_shows opening until h entry legal.1.answered in
+      let capped = available_capped opening (entry ∷ h) (legal_is_sound laws opening until (entry ∷ h) small legal).capped in
       let P : Reply → Type 0 = λ r. shown_by r ≤ 1000000000000000 → IsReplyInRange r in
       record {
-        asked = (in_place h event.asked legal.1.admissible).0;
+        asked = (in_place h entry.asked legal.1.admissible).0;
         reply = subst P (sym legal.1.answered)
-            (λ within. showing_in_range response credit (omega (arith, within, shown_by_showing response credit)) (verdict_in_range opening until h event.asked (legal_is_sound laws opening until h small legal.0) legal.1.admissible))
+            (λ within. showing_in_range response credit (omega (arith, within, shown_by_showing response credit)) (verdict_in_range opening until h entry.asked (legal_is_sound laws opening until h small legal.0) legal.1.admissible))
             (omega (arith, shown, capped));
       }
 
   past_in_range : (opening : ℕ) (until : Option ℕ) (h : List EntryData) → opening ≤ 1000000000000000 → IsLegalPast opening until h → All EntryIsInRange (reverse h)
   past_in_range opening until [] small legal = All-nil EntryIsInRange
-  past_in_range opening until (event ∷ h) small legal =
-      All-same EntryIsInRange (reverse (event ∷ h)) (reverse h ++ event ∷ []) (reverse-append (event ∷ []) h)
-      (All-append EntryIsInRange (reverse h) (event ∷ []) (past_in_range opening until h small legal.0)
-      (All-cons EntryIsInRange event [] (entry_in_range opening until h event small legal) (All-nil EntryIsInRange)))
+  past_in_range opening until (entry ∷ h) small legal =
+      All-same EntryIsInRange (reverse (entry ∷ h)) (reverse h ++ entry ∷ []) (reverse-append (entry ∷ []) h)
+      (All-append EntryIsInRange (reverse h) (entry ∷ []) (past_in_range opening until h small legal.0)
+      (All-cons EntryIsInRange entry [] (entry_in_range opening until h entry small legal) (All-nil EntryIsInRange)))
 
   pub in_range : EntriesAreInRange
   in_range opening until history small legal =

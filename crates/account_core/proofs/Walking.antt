@@ -3,7 +3,7 @@ use Rattle.std.proofs.Common.{◌≡◌, ℕ, ◌+◌, ◌≤◌, ◌<◌, Optio
 use Rattle.std.specs.Prelude.{map, reverse}
 use Rattle.std.proofs.Math.Seq.{take-suc}
 use Rattle.account_core.specs.Answers.{IsAnswered, IsLegalPast}
-use Rattle.account_core.specs.Events.{EntryData, entry_data}
+use Rattle.account_core.specs.Entries.{EntryData, entry_data}
 use Rattle.account_core.specs.Known.{EntryDeed, CallFacts, known}
 use Rattle.account_core.specs.Sound.{GrantsWithinDay, LegalPastsAreSound, SoundPastsAnswer}
 use Rattle.account_core.specs.declared.entry.Entry.{Entry}
@@ -21,9 +21,9 @@ past_more xs i e within is =
     ap (λ ys. reverse (map entry_data ys)) taken ∙ past_pushed (take i xs) e
 
 pub room_walk : LegalPastsAreSound → SoundPastsAnswer → (opening : ℕ) (until : Option ℕ) (h : List EntryData) → opening ≤ 1000000000000000 → IsLegalPast opening until h
-    → (event : EntryData) → IsAnswered opening until h event → (call : CallFacts) (c : ℕ) → call ≡ known c h → its_call event ≡ c → GrantsWithinDay call (its_deed event)
-room_walk sounds fits opening until h small legal event answered call c is here =
-    let fitting = fits opening until h (sounds opening until h small legal) event.asked answered.admissible in
-    let D : EntryDeed → Type 0 = λ d. GrantsWithinDay (known (its_call event) h) d in
-    let K : CallFacts → Type 0 = λ k. GrantsWithinDay k (its_deed event) in
-    subst K (ap (λ n. known n h) here ∙ sym is) (subst D (sym (answered_deed opening until h event answered)) fitting.room)
+    → (entry : EntryData) → IsAnswered opening until h entry → (call : CallFacts) (c : ℕ) → call ≡ known c h → its_call entry ≡ c → GrantsWithinDay call (its_deed entry)
+room_walk sounds fits opening until h small legal entry answered call c is here =
+    let fitting = fits opening until h (sounds opening until h small legal) entry.asked answered.admissible in
+    let D : EntryDeed → Type 0 = λ d. GrantsWithinDay (known (its_call entry) h) d in
+    let K : CallFacts → Type 0 = λ k. GrantsWithinDay k (its_deed entry) in
+    subst K (ap (λ n. known n h) here ∙ sym is) (subst D (sym (answered_deed opening until h entry answered)) fitting.room)

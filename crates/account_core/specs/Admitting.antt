@@ -1,6 +1,6 @@
 -- Operations that an account admits.
 use Rattle.std.specs.Prelude.{◌≡◌, None, reverse}
-use Rattle.account_core.specs.Events.{asked_of}
+use Rattle.account_core.specs.Entries.{asked_of}
 use Rattle.account_core.specs.Kept.{known_of}
 use Rattle.account_core.specs.Known.{known_asked}
 use Rattle.account_core.specs.Ledger.{Ledger, refusal_of}

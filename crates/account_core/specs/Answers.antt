@@ -8,7 +8,7 @@ use Rattle.tariff_core.specs.Times.{Elapsed}
 use Rattle.tariff_core.specs.declared.times.TimeInfo.{TimeInfo}
 use Rattle.account_core.specs.Asked.{Asked, Credits, Reserves, Settles, Returns, call_of, is_in_range}
 use Rattle.account_core.specs.Available.{available, credits}
-use Rattle.account_core.specs.Events.{EntryData}
+use Rattle.account_core.specs.Entries.{EntryData}
 use Rattle.account_core.specs.Expiry.{is_past, last_moment}
 use Rattle.account_core.specs.Known.{CallFacts, is_open, known, paid_of, plan_in_force, price_under, taken_of}
 use Rattle.account_core.specs.declared.entry.Reply.{Reply}
@@ -94,14 +94,14 @@ answer opening until h asked =
     showing (available opening (record { seat = 0; asked = asked; reply = bare_reply opening until h asked } ∷ h)) (bare_reply opening until h asked)
 
 -- an entry whose operation was admissible and got the answer
-pub record IsAnswered (opening : ℕ) (until : Option ℕ) (h : List EntryData) (event : EntryData) : Type 0 where
-  pub admissible : inadmissible h event.asked ≡ None
-  pub answered : event.reply ≡ answer opening until h event.asked
+pub record IsAnswered (opening : ℕ) (until : Option ℕ) (h : List EntryData) (entry : EntryData) : Type 0 where
+  pub admissible : inadmissible h entry.asked ≡ None
+  pub answered : entry.reply ≡ answer opening until h entry.asked
 
 -- every entry was answered in its place
 abbrev pub IsLegalPast : ℕ → Option ℕ → List EntryData → Type 0
 IsLegalPast opening until [] = Unit {0}
-IsLegalPast opening until (event ∷ h) = IsLegalPast opening until h × IsAnswered opening until h event
+IsLegalPast opening until (entry ∷ h) = IsLegalPast opening until h × IsAnswered opening until h entry
 
 -- the same of a history that is listed oldest first
 abbrev pub IsLegal : ℕ → Option ℕ → List EntryData → Type 0

@@ -1,7 +1,7 @@
 -- The credit that an account has left.
 use Rattle.std.specs.Prelude.{◌+◌, ◌-◌, ◌&&◌, ℕ, Bool, true, false, List, [], ◌∷◌, if◌then◌else◌, not, is_some, sum_by}
 use Rattle.account_core.specs.Asked.{Asked, Credits, call_of}
-use Rattle.account_core.specs.Events.{EntryData}
+use Rattle.account_core.specs.Entries.{EntryData}
 use Rattle.account_core.specs.Known.{EntryDeed, Grants, deed_of, known, taken_of}
 use Rattle.account_core.specs.declared.entry.Reply.{Reply}
 use Rattle.account_core.specs.declared.entry.Reply.TheVariants as reply
@@ -14,7 +14,7 @@ credited asked answer = 0
 -- the credits that were accepted
 abbrev pub credits : List EntryData → ℕ
 credits [] = 0
-credits (event ∷ h) = credits h + credited event.asked event.reply
+credits (entry ∷ h) = credits h + credited entry.asked entry.reply
 
 -- an entry that grants time
 abbrev pub is_grant : EntryDeed → Bool
@@ -23,12 +23,12 @@ is_grant deed = false
 
 -- whether an entry is the first grant of its call
 abbrev pub begins_call : EntryData → List EntryData → Bool
-begins_call event h = is_grant (deed_of event.asked event.reply) && not (is_some (known (call_of event.asked) h).plan)
+begins_call entry h = is_grant (deed_of entry.asked entry.reply) && not (is_some (known (call_of entry.asked) h).plan)
 
 -- the calls that were granted anything, each once. The others take nothing
 abbrev pub calls : List EntryData → List ℕ
 calls [] = []
-calls (event ∷ h) = if begins_call event h then call_of event.asked ∷ calls h else calls h
+calls (entry ∷ h) = if begins_call entry h then call_of entry.asked ∷ calls h else calls h
 
 -- what all calls take
 unfoldable pub taken_by_all : List EntryData → ℕ

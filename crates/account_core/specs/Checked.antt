@@ -2,7 +2,7 @@
 use Rattle.std.specs.Prelude.{◌≡◌, ◌≤◌, ℕ, Option, Some, None, List, [], length, min}
 use Rattle.account_core.specs.Answers.{IsLegalPast}
 use Rattle.account_core.specs.Available.{available}
-use Rattle.account_core.specs.Events.{EntryData}
+use Rattle.account_core.specs.Entries.{EntryData}
 use Rattle.account_core.specs.Sums.{AreSums}
 use Rattle.account_core.specs.Tallied.{IsTallied}
 use Rattle.account_core.specs.declared.account_sum.AccountSum.{AccountSum}

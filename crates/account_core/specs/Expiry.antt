@@ -1,7 +1,7 @@
 -- The last moment of an account's credit: after it nothing new is granted.
 use Rattle.std.specs.Prelude.{◌≤◌, ℕ, Bool, false, Option, Some, None, List, [], ◌∷◌, nat_lt}
 use Rattle.account_core.specs.Asked.{Asked, Credits, Reserves}
-use Rattle.account_core.specs.Events.{EntryData}
+use Rattle.account_core.specs.Entries.{EntryData}
 use Rattle.account_core.specs.declared.entry.Reply.{Reply}
 use Rattle.account_core.specs.declared.entry.Reply.TheVariants as reply
 
@@ -13,7 +13,7 @@ last_moment_after before asked answer = before
 -- the last moment after a history: that of the last such Credit, else the opening's, if it has one
 abbrev pub last_moment : Option ℕ → List EntryData → Option ℕ
 last_moment until [] = until
-last_moment until (event ∷ h) = last_moment_after (last_moment until h) event.asked event.reply
+last_moment until (entry ∷ h) = last_moment_after (last_moment until h) entry.asked entry.reply
 
 -- whether a moment is past the last one. None is, where there is no last moment
 abbrev pub is_past : Option ℕ → ℕ → Bool

@@ -1,7 +1,7 @@
 -- What an account keeps beside its entries.
 use Rattle.std.specs.Prelude.{◌≡◌, ℕ, List, Bool, Some, false, true}
 use Rattle.account_core.specs.CallStates.{call_state_of}
-use Rattle.account_core.specs.Events.{EntryData}
+use Rattle.account_core.specs.Entries.{EntryData}
 use Rattle.account_core.specs.KeptPlans.{rates_kept}
 use Rattle.account_core.specs.Known.{CallFacts, known, nothing_known}
 use Rattle.account_core.specs.declared.call_state.CallState.{CallState}

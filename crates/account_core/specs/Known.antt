@@ -7,7 +7,7 @@ use Rattle.tariff_core.specs.Reading.{times_read}
 use Rattle.tariff_core.specs.Times.{Elapsed, no_times}
 use Rattle.tariff_core.specs.declared.times.TimeInfo.{TimeInfo}
 use Rattle.account_core.specs.Asked.{Asked, Credits, Reserves, Settles, Returns, call_of}
-use Rattle.account_core.specs.Events.{EntryData}
+use Rattle.account_core.specs.Entries.{EntryData}
 use Rattle.account_core.specs.declared.entry.Reply.{Reply}
 use Rattle.account_core.specs.declared.entry.Reply.TheVariants as reply
 
@@ -29,7 +29,7 @@ deed_of asked answer = Rests
 
 -- what an entry does to this call
 unfoldable pub deed : ℕ → EntryData → EntryDeed
-deed call event = if call_of event.asked == call then deed_of event.asked event.reply else Rests
+deed call entry = if call_of entry.asked == call then deed_of entry.asked entry.reply else Rests
 
 -- the plan of a call's first grant; its times, which its last accepted report states; the time granted in all, which is its times at its last grant and the units of that
 -- grant; the most that it can come to pay for them; whether it has a forfeit; whether it was returned; and whether it isn't and no report has come since its last grant
@@ -69,7 +69,7 @@ known_after known Rests = known
 -- what a history says of a call
 abbrev pub known : ℕ → List EntryData → CallFacts
 known call [] = nothing_known
-known call (event ∷ h) = known_after (known call h) (deed call event)
+known call (entry ∷ h) = known_after (known call h) (deed call entry)
 
 -- what a history says of the call that is asked for, and nothing at a Credit, which is of none
 abbrev pub known_asked : Asked → List EntryData → CallFacts

@@ -8,7 +8,7 @@ use Rattle.tariff_core.specs.declared.times.TimeInfo.{TimeInfo}
 use Rattle.account_core.specs.Answers.{IsLegal, answer, inadmissible}
 use Rattle.account_core.specs.Asked.{Asked, Settles, call_of, is_in_range}
 use Rattle.account_core.specs.Available.{available, credits, taken_by_all}
-use Rattle.account_core.specs.Events.{EntryData}
+use Rattle.account_core.specs.Entries.{EntryData}
 use Rattle.account_core.specs.Expiry.{GrantsBy, LeavesLastMoment, last_moment}
 use Rattle.account_core.specs.Known.{EntryDeed, Ends, deed, known}
 use Rattle.account_core.specs.Standing.{FitsOperation}
@@ -30,7 +30,7 @@ paid_after before other = before
 -- what the last Returned of a call said that it paid in all, after a history
 abbrev pub paid_at_return : ℕ → List EntryData → Option ℕ
 paid_at_return call [] = None
-paid_at_return call (event ∷ h) = paid_after (paid_at_return call h) (deed call event)
+paid_at_return call (entry ∷ h) = paid_after (paid_at_return call h) (deed call entry)
 
 -- a call that was granted something and returned without a forfeit
 pub record IsClosed (call : ℕ) (plan : Rates) (h : List EntryData) : Type 0 where
@@ -56,7 +56,7 @@ report_after last times asked = last
 -- what the last accepted report of a call stated, after a history
 abbrev pub last_report : ℕ → List EntryData → Option Reporting
 last_report call [] = None
-last_report call (event ∷ h) = if call_of event.asked == call then report_after (last_report call h) (known call h).times event.asked else last_report call h
+last_report call (entry ∷ h) = if call_of entry.asked == call then report_after (last_report call h) (known call h).times entry.asked else last_report call h
 
 -- the times of a call without a forfeit: those read from its last report after the times before it, and none before any report
 abbrev pub AreReported : Option Reporting → Elapsed → Type 0
@@ -75,8 +75,8 @@ IsSettle asked = ⊥
 
 -- a Settle leaves what is available as it was
 abbrev pub SettlesKeepTheCredit : Type 0
-SettlesKeepTheCredit = (opening : ℕ) (until : Option ℕ) (history : List EntryData) (event : EntryData) → opening ≤ MAX_MONEY → IsLegal opening until (history ++ event ∷ []) → IsSettle event.asked
-    → available opening (reverse (history ++ event ∷ [])) ≡ available opening (reverse history)
+SettlesKeepTheCredit = (opening : ℕ) (until : Option ℕ) (history : List EntryData) (entry : EntryData) → opening ≤ MAX_MONEY → IsLegal opening until (history ++ entry ∷ []) → IsSettle entry.asked
+    → available opening (reverse (history ++ entry ∷ [])) ≡ available opening (reverse history)
 
 -- the answer to an admissible operation is of its kind, whatever its call
 abbrev pub AnswersFitTheirOperations : Type 0
@@ -86,7 +86,7 @@ AnswersFitTheirOperations = (opening : ℕ) (until : Option ℕ) (history : List
 -- after the last moment no entry grants anything, until one moves it
 abbrev pub NothingIsGrantedLate : Type 0
 NothingIsGrantedLate = (opening : ℕ) (until : Option ℕ) (history later : List EntryData) (last : ℕ) → IsLegal opening until (history ++ later)
-    → last_moment until (reverse history) ≡ Some last → All (λ event. LeavesLastMoment event.asked event.reply) later → All (λ event. GrantsBy last event.asked event.reply) later
+    → last_moment until (reverse history) ≡ Some last → All (λ entry. LeavesLastMoment entry.asked entry.reply) later → All (λ entry. GrantsBy last entry.asked entry.reply) later
 
 -- the numbers of a reply: what is granted is a day at most, and money is 0 to `MAX_MONEY`
 abbrev pub IsReplyInRange : Reply → Type 0
@@ -99,9 +99,9 @@ IsReplyInRange (reply.Forfeit paid available) = (paid ≤ MAX_MONEY) × (availab
 IsReplyInRange (reply.Returned paid available) = (paid ≤ MAX_MONEY) × (available ≤ MAX_MONEY)
 
 -- what was asked and what was answered are in range
-pub record EntryIsInRange (event : EntryData) : Type 0 where
-  pub asked : is_in_range event.asked ≡ true
-  pub reply : IsReplyInRange event.reply
+pub record EntryIsInRange (entry : EntryData) : Type 0 where
+  pub asked : is_in_range entry.asked ≡ true
+  pub reply : IsReplyInRange entry.reply
 
 -- every entry of a legal history is
 abbrev pub EntriesAreInRange : Type 0

@@ -2,7 +2,7 @@
 use Rattle.std.specs.Prelude.{◌≡◌, ℕ, ◌⊎◌, Option, Some, None, List, reverse}
 use Rattle.account_core.specs.Asked.{Asked}
 use Rattle.account_core.specs.Answers.{answer}
-use Rattle.account_core.specs.Events.{EntryData}
+use Rattle.account_core.specs.Entries.{EntryData}
 use Rattle.account_core.specs.Places.{refusal}
 use Rattle.account_core.specs.declared.entry.Reply.{Reply}
 use Rattle.account_core.specs.declared.fault.AccountFault.{AccountFault}
@@ -24,8 +24,8 @@ abbrev pub refusal_of : Ledger → Asked → Option AccountFault
 refusal_of ledger asked = refusal ledger.limit (reverse ledger.history) asked
 
 -- the entry of a seat's operation and its reply
-abbrev pub event_by : ℕ → Asked → Reply → EntryData
-event_by seat asked reply = record { seat = seat; asked = asked; reply = reply }
+abbrev pub entry_by : ℕ → Asked → Reply → EntryData
+entry_by seat asked reply = record { seat = seat; asked = asked; reply = reply }
 
 -- the fault is that of the operation, and out of memory only where it has none
 abbrev pub IsRefusal : Ledger → Asked → AccountFault → Type 0

@@ -5,7 +5,7 @@ pub mod Available
 pub mod CallStages
 pub mod CallStates
 pub mod Checked
-pub mod Events
+pub mod Entries
 pub mod Expiry
 pub mod Faults
 pub mod Kept

@@ -3,7 +3,7 @@ use Rattle.std.specs.Prelude.{◌≡◌, ◌+◌, ◌&&◌, ℕ, Bool, true, Opt
 use Rattle.account_core.specs.Asked.{Asked, Credits, Reserves, Settles, Returns, call_of}
 use Rattle.account_core.specs.Available.{calls}
 use Rattle.account_core.specs.Answers.{inadmissible_for}
-use Rattle.account_core.specs.Events.{EntryData}
+use Rattle.account_core.specs.Entries.{EntryData}
 use Rattle.account_core.specs.Known.{CallFacts, is_open, known}
 use Rattle.account_core.specs.declared.fault.AccountFault.{AccountFault}
 use Rattle.account_core.specs.declared.fault.AccountFault.TheVariants as fault
@@ -52,9 +52,9 @@ refusal_for limit entries owed call asked = or_else (inadmissible_for call asked
 unfoldable pub refusal : ℕ → List EntryData → Asked → Option AccountFault
 refusal limit h asked = refusal_for limit (length h) (owed h) (known (call_of asked) h) asked
 
--- a Return of an open call, or its first Settle since its last grant: the places for it are kept
-abbrev pub IsClosing : List EntryData → Asked → Type 0
-IsClosing h (Credits amount moment) = ⊥
-IsClosing h (Reserves call plan wanted least at) = ⊥
-IsClosing h (Settles call number info) = (is_open (known call h) ≡ true) × ((known call h).awaits ≡ true)
-IsClosing h (Returns call) = is_open (known call h) ≡ true
+-- a Return of an open call, or its first Settle since its last grant: its place is owed
+abbrev pub IsOwed : List EntryData → Asked → Type 0
+IsOwed h (Credits amount moment) = ⊥
+IsOwed h (Reserves call plan wanted least at) = ⊥
+IsOwed h (Settles call number info) = (is_open (known call h) ≡ true) × ((known call h).awaits ≡ true)
+IsOwed h (Returns call) = is_open (known call h) ≡ true

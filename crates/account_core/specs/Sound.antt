@@ -6,7 +6,7 @@ use Rattle.tariff_core.specs.Times.{Elapsed}
 use Rattle.account_core.specs.Answers.{IsLegalPast, inadmissible, bare_reply}
 use Rattle.account_core.specs.Asked.{Asked, call_of}
 use Rattle.account_core.specs.Available.{available, credits, taken_by_all}
-use Rattle.account_core.specs.Events.{EntryData}
+use Rattle.account_core.specs.Entries.{EntryData}
 use Rattle.account_core.specs.Known.{EntryDeed, Grants, CallFacts, deed_of, known, known_after, nothing_known, taken_of}
 use Rattle.tariff_core.specs.declared.plan.TheConstants.{MAX_MONEY}
 use Rattle.tariff_core.specs.declared.times.TheConstants.{DAY}

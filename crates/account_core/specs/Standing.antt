@@ -3,7 +3,7 @@ use Rattle.std.specs.Prelude.{◌≡◌, ◌+◌, ◌≤◌, ℕ, Option, Some, 
 use Rattle.account_core.specs.Answers.{accepted_times, misplaced}
 use Rattle.account_core.specs.Asked.{Asked, IsOfCall, Reserves, Returns, Settles}
 use Rattle.account_core.specs.Known.{CallFacts, deed, known_after}
-use Rattle.account_core.specs.Ledger.{event_by}
+use Rattle.account_core.specs.Ledger.{entry_by}
 use Rattle.account_core.specs.declared.entry.Reply.{Reply}
 use Rattle.account_core.specs.declared.entry.Reply.TheVariants as reply
 use Rattle.account_core.specs.declared.fault.AccountFault.{AccountFault}
@@ -33,4 +33,4 @@ FitsOperation call known asked answer = IsOfCall call asked → (misplaced known
 abbrev pub MovesCall : ℕ → CallFacts → Asked → Result Reply AccountFault → Option CallFacts → Type 0
 MovesCall call before asked (Err fault) after = after ≡ Some before
 MovesCall call before asked (Ok answer) after =
-    (after ≡ Some (known_after before (deed call (event_by 0 asked answer)))) × FitsOperation call before asked answer
+    (after ≡ Some (known_after before (deed call (entry_by 0 asked answer)))) × FitsOperation call before asked answer

@@ -3,7 +3,7 @@ use Rattle.std.specs.Prelude.{◌≡◌, ◌==◌, ℕ, Option, Some, None, List
 use Rattle.std.specs.List.Sorted.{IsStrictlySortedBy}
 use Rattle.std.specs.Ordering.{nat_cmp}
 use Rattle.tariff_core.specs.Rates.{Rates}
-use Rattle.account_core.specs.Events.{EntryData}
+use Rattle.account_core.specs.Entries.{EntryData}
 use Rattle.account_core.specs.Kept.{known_of}
 use Rattle.account_core.specs.Known.{CallFacts, known, paid_of}
 use Rattle.account_core.specs.declared.call_state.CallState.{CallState}

@@ -1,7 +1,7 @@
 -- What a teller stands for: each account that it answers for.
 use Rattle.std.specs.Prelude.{◌≡◌, ◌+◌, ◌≤◌, ◌++◌, ◌∷◌, [], ℕ, None, length, reverse}
 use Rattle.account_core.specs.Admitting.{IsAdmitted}
-use Rattle.account_core.specs.Events.{EntryData, asked_of}
+use Rattle.account_core.specs.Entries.{EntryData, asked_of}
 use Rattle.account_core.specs.Ledger.{Ledger, answer_of, refusal_of}
 use Rattle.account_core.specs.Places.{owed}
 use Rattle.account_core.specs.Tallied.{IsTallied}
@@ -11,7 +11,7 @@ use Rattle.account_core.specs.declared.account.Teller.{Teller}
 
 -- a ledger with one entry more
 abbrev pub entered : Ledger → EntryData → Ledger
-entered ledger event = record ledger { history = ledger.history ++ event ∷ [] }
+entered ledger entry = record ledger { history = ledger.history ++ entry ∷ [] }
 
 -- the teller has the tally of the ledger's history, its limit, the number of its entries, and the places owed for closing its calls, which are within the limit
 pub record IsTellerOf (ledger : Ledger) (teller : Teller) : Type 0 where

@@ -2,7 +2,7 @@
 use Rattle.std.specs.Prelude.{◌≡◌, ◌≢◌, ℕ, Option, Some, None, List, Result, Ok, Err}
 use Rattle.account_core.specs.Answers.{answer, inadmissible}
 use Rattle.account_core.specs.Asked.{Asked}
-use Rattle.account_core.specs.Events.{EntryData}
+use Rattle.account_core.specs.Entries.{EntryData}
 use Rattle.account_core.specs.declared.entry.Reply.{Reply}
 use Rattle.account_core.specs.declared.fault.AccountFault.{AccountFault}
 
@@ -16,6 +16,6 @@ abbrev pub response : ℕ → Option ℕ → List EntryData → Asked → Result
 response opening until h asked = reply_or_fault (inadmissible h asked) (answer opening until h asked)
 
 -- this is what an account answers the operation of an entry, and it isn't the entry's reply
-pub record IsWrong (opening : ℕ) (until : Option ℕ) (h : List EntryData) (event : EntryData) (right : Result Reply AccountFault) : Type 0 where
-  pub is_response : right ≡ response opening until h event.asked
-  pub differs : right ≢ Ok event.reply
+pub record IsWrong (opening : ℕ) (until : Option ℕ) (h : List EntryData) (entry : EntryData) (right : Result Reply AccountFault) : Type 0 where
+  pub is_response : right ≡ response opening until h entry.asked
+  pub differs : right ≢ Ok entry.reply

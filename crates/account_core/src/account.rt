@@ -5,11 +5,11 @@ ghost use Rattle.account_core.specs.Admitting.{IsAdmitted};
 ghost use Rattle.account_core.specs.Answers.{IsLegal};
 ghost use Rattle.account_core.specs.Asked.{IsCredit, IsOfCall};
 ghost use Rattle.account_core.specs.Available.{available};
-ghost use Rattle.account_core.specs.Events.{asked_of, entry_data};
+ghost use Rattle.account_core.specs.Entries.{asked_of, entry_data};
 ghost use Rattle.account_core.specs.Kept.{known_of};
 ghost use Rattle.account_core.specs.Known.{known, known_asked, paid_if_granted};
-ghost use Rattle.account_core.specs.Ledger.{IsRefusal, Ledger, answer_of, event_by, refusal_of};
-ghost use Rattle.account_core.specs.Places.{IsClosing, needed_by};
+ghost use Rattle.account_core.specs.Ledger.{IsRefusal, Ledger, answer_of, entry_by, refusal_of};
+ghost use Rattle.account_core.specs.Places.{IsOwed, needed_by};
 ghost use Rattle.account_core.specs.Sums.{AreSums};
 ghost use Rattle.account_core.specs.Tellers.{Admits, IsAnsweredByTeller, IsTellerOf, entered};
 
@@ -37,7 +37,7 @@ pub struct Account {
 impl Model for Account {
     ghost use Rattle.std.specs.Prelude.{map};
     ghost use Rattle.std.specs.Vec.{vec_capacity};
-    ghost use Rattle.account_core.specs.Events.{entry_data};
+    ghost use Rattle.account_core.specs.Entries.{entry_data};
     ghost use Rattle.account_core.specs.Ledger.{Ledger};
     ghost use Rattle.account_core.specs.Tellers.{IsKeptTeller};
 
@@ -85,14 +85,14 @@ impl Account {
         ensures answered { IfOk result (λ reply. reply ≡ answer_of self.old (asked_of op)) }
         ensures entered { IfOk result (λ reply. self.new ≡
             record self.old {
-              history = self.old.history ++ event_by seat (asked_of op) reply
+              history = self.old.history ++ entry_by seat (asked_of op) reply
                   ∷ [];
             }) }
         ensures admitted { OnOk result (refusal_of self.old (asked_of op) ≡ None) }
         ensures kept { OnErr result (self.new ≡ self.old) }
         ensures refused { IfErr result (λ fault. IsRefusal self.old (asked_of op) fault) }
         ensures ungated { result ≢ Err AccountFault.GateClosed }
-        ensures closing { IsClosing (reverse self.old.history) (asked_of op) → IsOk result }
+        ensures owed { IsOwed (reverse self.old.history) (asked_of op) → IsOk result }
     {
         match self.admit(op) {
             Ok(admitted) => Ok(self.enter(seat, admitted)?),
@@ -108,7 +108,7 @@ impl Account {
             (admitted.op ≡ op) × IsAdmitted self.now admitted) }
         ensures refused { IfErr result (λ fault. refusal_of self.now (asked_of op) ≡ Some fault) }
         ensures ungated { result ≢ Err AccountFault.GateClosed }
-        ensures closing { IsClosing (reverse self.now.history) (asked_of op) → IsOk result }
+        ensures owed { IsOwed (reverse self.now.history) (asked_of op) → IsOk result }
     {
         self.teller.admit(op)
     }
@@ -122,10 +122,10 @@ impl Account {
         ensures answered { IfOk result (λ reply. reply
             ≡ answer_of self.old (asked_of admitted.op)) }
         ensures entered { IfOk result (λ reply. self.new ≡ record self.old {
-          history = self.old.history ++ event_by seat (asked_of admitted.op) reply ∷ [];
+          history = self.old.history ++ entry_by seat (asked_of admitted.op) reply ∷ [];
         }) }
         ensures kept { OnErr result (self.new ≡ self.old) }
-        ensures closing { IsClosing (reverse self.old.history) (asked_of admitted.op)
+        ensures owed { IsOwed (reverse self.old.history) (asked_of admitted.op)
             → IsOk result }
     {
         self.entries.try_reserve(self.teller.places(&admitted))?;
@@ -135,10 +135,10 @@ impl Account {
     }
 
     /// Why an operation would be refused now, if it would be for any reason but `OutOfMemory`. One
-    /// that closes a call, a Return or the first Settle since its last grant, never is.
+    /// that a call is owed, a Return or the first Settle since its last grant, never is.
     pub fn refusal(&self, op: &Op) -> Option<AccountFault>
         ensures value { result ≡ refusal_of self.now (asked_of op.now) }
-        ensures closing { IsClosing (reverse self.now.history) (asked_of op.now) → result ≡ None }
+        ensures owed { IsOwed (reverse self.now.history) (asked_of op.now) → result ≡ None }
     {
         self.teller.judge(op, &self.teller.asked_state(op))
     }
@@ -233,7 +233,7 @@ impl Teller {
         ensures answered { IfOk result (λ reply. (ledger : Ledger) → IsTellerOf ledger self.old →
             reply ≡ answer_of ledger (asked_of op)) }
         ensures entered { IfOk result (λ reply. (ledger : Ledger) → IsTellerOf ledger self.old →
-            IsTellerOf (entered ledger (event_by seat (asked_of op) reply)) self.new) }
+            IsTellerOf (entered ledger (entry_by seat (asked_of op) reply)) self.new) }
         ensures admitted { OnOk result ((ledger : Ledger) → IsTellerOf ledger self.old →
             refusal_of ledger (asked_of op) ≡ None) }
         ensures kept { OnErr result ((ledger : Ledger) → IsTellerOf ledger self.old →
@@ -241,8 +241,8 @@ impl Teller {
         ensures refused { IfErr result (λ fault. (ledger : Ledger) → IsTellerOf ledger self.old →
             IsRefusal ledger (asked_of op) fault) }
         ensures ungated { result ≢ Err AccountFault.GateClosed }
-        ensures closing { (ledger : Ledger) → IsTellerOf ledger self.old →
-            IsClosing (reverse ledger.history) (asked_of op) → IsOk result }
+        ensures owed { (ledger : Ledger) → IsTellerOf ledger self.old →
+            IsOwed (reverse ledger.history) (asked_of op) → IsOk result }
     {
         match self.admit(op) {
             Ok(admitted) => Ok(self.enter(seat, admitted)?.reply),
@@ -260,8 +260,8 @@ impl Teller {
         ensures refused { IfErr result (λ fault. (ledger : Ledger) → IsTellerOf ledger self.now →
             refusal_of ledger (asked_of op) ≡ Some fault) }
         ensures ungated { result ≢ Err AccountFault.GateClosed }
-        ensures closing { (ledger : Ledger) → IsTellerOf ledger self.now →
-            IsClosing (reverse ledger.history) (asked_of op) → IsOk result }
+        ensures owed { (ledger : Ledger) → IsTellerOf ledger self.now →
+            IsOwed (reverse ledger.history) (asked_of op) → IsOk result }
     {
         let call = self.asked_state(&op);
         match self.judge(&op, &call) {
@@ -287,17 +287,17 @@ impl Teller {
     fn enter(&mut self, seat: u32, admitted: Admitted) -> Result<Entry, AllocError>
         requires { (ledger : Ledger) × Admits ledger self.old admitted }
         ensures entry { IfOk result (λ entry. (ledger : Ledger) →
-            Admits ledger self.old admitted → entry_data entry ≡ event_by seat
+            Admits ledger self.old admitted → entry_data entry ≡ entry_by seat
             (asked_of admitted.op) (answer_of ledger (asked_of admitted.op))) }
         ensures entered { IfOk result (λ entry. (ledger : Ledger) →
             Admits ledger self.old admitted →
             IsTellerOf (entered ledger (entry_data entry)) self.new) }
         ensures kept { OnErr result ((ledger : Ledger) → IsTellerOf ledger self.old →
             IsTellerOf ledger self.new) }
-        ensures closing { (ledger : Ledger) → Admits ledger self.old admitted →
-            IsClosing (reverse ledger.history) (asked_of admitted.op) → IsOk result }
+        ensures owed { (ledger : Ledger) → Admits ledger self.old admitted →
+            IsOwed (reverse ledger.history) (asked_of admitted.op) → IsOk result }
     {
-        let reply = self.answer(&admitted);
+        let reply = self.reply_to(&admitted);
         let Admitted { op, call: before } = admitted;
         let entry = Entry { seat, op, reply };
         match op {
@@ -331,16 +331,16 @@ impl Teller {
         ensures value { (ledger : Ledger) → IsTellerOf ledger self.now →
             known_of call.now ≡ known_asked (asked_of op.now) (reverse ledger.history) →
             result ≡ refusal_of ledger (asked_of op.now) }
-        ensures closing { (ledger : Ledger) → IsTellerOf ledger self.now →
+        ensures owed { (ledger : Ledger) → IsTellerOf ledger self.now →
             known_of call.now ≡ known_asked (asked_of op.now) (reverse ledger.history) →
-            IsClosing (reverse ledger.history) (asked_of op.now) → result ≡ None }
+            IsOwed (reverse ledger.history) (asked_of op.now) → result ≡ None }
     {
         judge(op, call, self.entries, self.owed, self.limit)
     }
 
     /// The answer to an operation that is admitted.
     #[inline(always)]
-    fn answer(&self, admitted: &Admitted) -> Reply
+    fn reply_to(&self, admitted: &Admitted) -> Reply
         requires { (ledger : Ledger) × Admits ledger self.now admitted.now }
         ensures { (ledger : Ledger) → Admits ledger self.now admitted.now →
             result ≡ answer_of ledger (asked_of admitted.now.op) }
@@ -379,8 +379,8 @@ impl Teller {
             IsTellerOf (entered ledger (entry_data entry)) self.new) }
         ensures kept { OnErr result ((ledger : Ledger) → IsTellerOf ledger self.old →
             IsTellerOf ledger self.new) }
-        ensures closing { (ledger : Ledger) → IsAnsweredByTeller ledger self.old entry →
-            IsClosing (reverse ledger.history) (asked_of entry.op) → IsOk result }
+        ensures owed { (ledger : Ledger) → IsAnsweredByTeller ledger self.old entry →
+            IsOwed (reverse ledger.history) (asked_of entry.op) → IsOk result }
     {
         laws::legal_pasts_are_sound();
         let after = before.after(entry.op, entry.reply);

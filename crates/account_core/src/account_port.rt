@@ -1,11 +1,11 @@
 //! A port to an account.
 
 ghost use Rattle.std.specs.Prelude.{◌≡◌, ◌≢◌, ◌++◌, ◌∷◌, [], IfSome, ℕ, None, Option, Some, reverse, IfOk, IfErr, IsOk, OnErr, OnOk};
-ghost use Rattle.account_core.specs.Events.{asked_of};
+ghost use Rattle.account_core.specs.Entries.{asked_of};
 ghost use Rattle.account_core.specs.Known.{CallFacts, known};
 ghost use Rattle.account_core.specs.Standing.{MovesCall};
-ghost use Rattle.account_core.specs.Ledger.{IsRefusal, answer_of, event_by, refusal_of};
-ghost use Rattle.account_core.specs.Places.{IsClosing};
+ghost use Rattle.account_core.specs.Ledger.{IsRefusal, answer_of, entry_by, refusal_of};
+ghost use Rattle.account_core.specs.Places.{IsOwed};
 
 use crate::laws::answers_fit_their_operations;
 use crate::{Account, AccountFault, Op, Reply};
@@ -54,13 +54,13 @@ impl Port for AccountPort {
         ensures entered { IfOk result (λ reply. self.new.account ≡
             record self.old.account {
               history = self.old.account.history
-                  ++ event_by self.old.seat (asked_of op) reply ∷ [];
+                  ++ entry_by self.old.seat (asked_of op) reply ∷ [];
             }) }
         ensures admitted { OnOk result (refusal_of self.old.account (asked_of op) ≡ None) }
         ensures kept { OnErr result (self.new.account ≡ self.old.account) }
         ensures refused { IfErr result (λ fault. IsRefusal self.old.account (asked_of op) fault) }
         ensures ungated { result ≢ Err AccountFault.GateClosed }
-        ensures closing { IsClosing (reverse self.old.account.history) (asked_of op) → IsOk result }
+        ensures owed { IsOwed (reverse self.old.account.history) (asked_of op) → IsOk result }
         ensures seat { self.new.seat ≡ self.old.seat }
         ensures moves { (call : ℕ) → MovesCall call (known call (reverse self.old.account.history))
             (asked_of op) result

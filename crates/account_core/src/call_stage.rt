@@ -2,7 +2,7 @@
 
 ghost use Rattle.std.specs.Prelude.{◌≡◌, ◌≤◌};
 ghost use Rattle.account_core.specs.CallStages.{stage_of};
-ghost use Rattle.account_core.specs.Events.{asked_of};
+ghost use Rattle.account_core.specs.Entries.{asked_of};
 ghost use Rattle.account_core.specs.Known.{CallFacts, deed_of, known_after};
 ghost use Rattle.account_core.specs.Places.{needed_by, owed_to};
 

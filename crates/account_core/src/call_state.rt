@@ -3,7 +3,7 @@
 ghost use Rattle.std.specs.Prelude.{◌≡◌, ◌≢◌, ◌+◌, ◌≤◌, ℕ, None, false, true};
 ghost use Rattle.account_core.specs.Answers.{accepted_times, misplaced, units_offered, inadmissible_for};
 ghost use Rattle.account_core.specs.CallStages.{stage_of};
-ghost use Rattle.account_core.specs.Events.{asked_of};
+ghost use Rattle.account_core.specs.Entries.{asked_of};
 ghost use Rattle.account_core.specs.Kept.{known_of};
 ghost use Rattle.account_core.specs.Known.{deed_of, is_open, known_after, paid_if_granted, paid_of, plan_in_force, taken_of, Ends, Forfeits, Grants, Reports};
 ghost use Rattle.account_core.specs.Places.{needed_by, owed_to, refusal_for};

@@ -49,7 +49,7 @@ pub enum Op {
 }
 
 impl Op {
-    ghost use Rattle.account_core.specs.Events.{asked_of};
+    ghost use Rattle.account_core.specs.Entries.{asked_of};
 
     /// The call that is asked for, and 0 where it is none, at a Credit.
     pub fn call(&self) -> u64
@@ -144,7 +144,7 @@ pub struct Entry {
 }
 
 impl Entry {
-    ghost use Rattle.account_core.specs.Events.{asked_of};
+    ghost use Rattle.account_core.specs.Entries.{asked_of};
 
     /// What the entry adds to the account's funds.
     pub fn credited(&self) -> u64

@@ -3,7 +3,7 @@
 ghost use Rattle.std.specs.Prelude.{◌≡◌, ◌≤◌, ◌∷◌, [], None, Ok, true, false, map, ℕ, List, Option, IfOk, IfSome, OnErr, OnOk};
 ghost use Rattle.std.specs.Bool.{Decides};
 ghost use Rattle.account_core.specs.Answers.{IsAnswered, IsLegal, IsLegalPast};
-ghost use Rattle.account_core.specs.Events.{entry_data, EntryData, asked_of};
+ghost use Rattle.account_core.specs.Entries.{entry_data, EntryData, asked_of};
 ghost use Rattle.account_core.specs.Asked.{call_of};
 ghost use Rattle.account_core.specs.Checked.{HasOpening, IsCheckOf, SumsUp};
 ghost use Rattle.account_core.specs.Known.{known, nothing_known};

@@ -5,7 +5,7 @@ ghost use Rattle.account_core.specs.Answers.{IsAnswered, shown_by};
 ghost use Rattle.account_core.specs.Asked.{call_of};
 ghost use Rattle.account_core.specs.Available.{credited};
 ghost use Rattle.account_core.specs.CallStates.{AreSame, call_state_of};
-ghost use Rattle.account_core.specs.Events.{entry_data, EntryData, asked_of};
+ghost use Rattle.account_core.specs.Entries.{entry_data, EntryData, asked_of};
 ghost use Rattle.account_core.specs.Expiry.{last_moment_after};
 ghost use Rattle.account_core.specs.Kept.{KnowsEach, known_of};
 ghost use Rattle.account_core.specs.Known.{known, nothing_known};

@@ -1,13 +1,13 @@
 //! What is in front of the message rows of an input: a tariff, a setup and the header.
 
 ghost use Rattle.std.specs.Prelude.{◌≡◌, IfErr, IfOk, IfSome};
-ghost use Rattle.run_texts.specs.FirstParts.{InputFaultMayAlwaysCome};
+ghost use Rattle.run_texts.specs.FirstSections.{InputFaultMayAlwaysCome};
 ghost use Rattle.run_values.specs.Setups.{ListingIsWithin};
 ghost use Rattle.answer_command.specs.Inputs.{is_message_header};
 ghost use Rattle.answer_command.specs.Heads.{IsOfHead, ReadsHead, TakesHeader};
 
 use crate::ServeError;
-use run_texts::{InputFault, read_directory, read_line, read_part, read_tariff};
+use run_texts::{InputFault, read_directory, read_line, read_section, read_tariff};
 use run_values::Directory;
 use std::alloc::Global;
 use std::io::Read;
@@ -33,8 +33,8 @@ pub(crate) fn read_head<I: Read>(alloc: Global, input: &mut I) -> Result<Head, S
     ensures within { IfOk result (λ head. ListingIsWithin head.directory) }
     ensures fault { IfErr result IsOfHead }
 {
-    let tariff = read_part(alloc, input)?;
-    let setup = read_part(alloc, input)?;
+    let tariff = read_section(alloc, input)?;
+    let setup = read_section(alloc, input)?;
     let tariff = read_tariff(alloc, tariff.as_slice())?;
     let directory = read_directory(alloc, setup.as_slice())?;
     if !take_header(alloc, input)? {

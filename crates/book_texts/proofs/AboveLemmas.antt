@@ -19,17 +19,17 @@ module _ {S K F : Type 0} (form : TableForm S K F) where
 
   -- one row more
   rows_more : (header width number : ℕ) (read : S) (rows : List Fields) (fields : Fields) (all next : S) → rows_from form header width number read rows ≡ Ok all
-      → own_fault form.limit width (number + length rows) fields ≡ None → form.judge header all fields ≡ Ok next
+      → own_fault form.most_rows width (number + length rows) fields ≡ None → form.judge header all fields ≡ Ok next
       → rows_from form header width number read (rows ++ fields ∷ []) ≡ Ok next
   unfolding rows_from
   rows_more header width number read [] fields all next is fresh judged =
-      let N : ℕ → Type 0 = λ n. own_fault form.limit width n fields ≡ None in
-      let here : own_fault form.limit width number fields ≡ None = subst N (omega arith) fresh in
+      let N : ℕ → Type 0 = λ n. own_fault form.most_rows width n fields ≡ None in
+      let here : own_fault form.most_rows width number fields ≡ None = subst N (omega arith) fresh in
       let same : read ≡ all = cc in
       rw (same, here, judged) refl
   rows_more header width number read (row ∷ rows) fields all next is fresh judged =
-      let N : ℕ → Type 0 = λ n. own_fault form.limit width n fields ≡ None in
-      rows_more_by number (own_fault form.limit width number row) (form.judge header read row) _ _ all next
+      let N : ℕ → Type 0 = λ n. own_fault form.most_rows width n fields ≡ None in
+      rows_more_by number (own_fault form.most_rows width number row) (form.judge header read row) _ _ all next
       (λ one rest. rows_more header width (number + 1) one rows fields all next rest (subst N (omega arith) fresh) judged) is
 
   table_below : (first : Fields) (rows : List Fields) (header width : ℕ) (read : S) → which_header form.headers first ≡ Some header → width ≡ length first
@@ -61,15 +61,15 @@ module _ {S K F : Type 0} (form : TableForm S K F) where
         record { first = first; rows = []; left = left; rows_are = rows_are; has = has; which = which; wide = wide; number = number; is = refl }
 
     -- a row further
-    pub next_above : (before after : Table R) (read now : S) (text : List ℕ) → before.limit ≡ form.limit → IsNextRow before after → StepsRow remaining before after (Ok true)
+    pub next_above : (before after : Table R) (read now : S) (text : List ℕ) → before.most_rows ≡ form.most_rows → IsNextRow before after → StepsRow remaining before after (Ok true)
         → form.judge before.header read (fields_of after.rows.row) ≡ Ok now → (above : IsAbove before read text)
         → (next : IsAbove after now text) × (next.first ≡ above.first) × (next.rows ≡ above.rows ++ fields_of after.rows.row ∷ [])
-    next_above before after read now text limit next steps judged above =
+    next_above before after read now text most_rows next steps judged above =
         let fields = fields_of after.rows.row in
         let (rest, left_are, has) = steps above.left above.has in
-        let fresh : own_fault form.limit before.width (2 + length above.rows) fields ≡ None =
-        no_fault form.limit before.width (2 + length above.rows) fields (next.width ∙ next.same.width)
-        (omega (arith, next.within, next.number, next.same.limit, limit, above.number)) in (
+        let fresh : own_fault form.most_rows before.width (2 + length above.rows) fields ≡ None =
+        no_fault form.most_rows before.width (2 + length above.rows) fields (next.width ∙ next.same.width)
+        (omega (arith, next.within, next.number, next.same.most_rows, most_rows, above.number)) in (
           record {
             first = above.first;
             rows = above.rows ++ fields ∷ [];

@@ -7,7 +7,7 @@ use Rattle.std.specs.Ordering.{match_ordering, nat_cmp}
 use Rattle.std.specs.Prelude.{◌==◌, IsSome, if◌then◌else◌}
 use Rattle.std.specs.declared.cmp.Ordering.{Ordering}
 use Rattle.std.specs.declared.cmp.Ordering.TheVariants as order
-use Rattle.account_core.specs.Events.{EntryData}
+use Rattle.account_core.specs.Entries.{EntryData}
 use Rattle.entry_rows.specs.Versions.{version_at}
 use Rattle.table_core.specs.Rows.{Fields}
 use Rattle.table_core.specs.declared.fault.RowKind.{RowKind}
@@ -87,14 +87,14 @@ opened_ascends account opening until books next None is ascend =
     let same : with_opening account opening until books ≡ next = cc in rw (← same) (inserted account _ 0 books (omega arith) ascend)
 opened_ascends account opening until books next (Some booked) is ascend = cc
 
-entered_ascends : (account : ℕ) (event : EntryData) (books next : Books) (found : Option Booked) → entered_in_books account event books found ≡ Ok next → Ascend 0 books → Ascend 0 next
-entered_ascends account event books next None is ascend = cc
-entered_ascends account event books next (Some booked) is ascend =
-    let same : books_with_entry account booked event books ≡ next = cc in rw (← same) (set_ascends account _ 0 books ascend)
+entered_ascends : (account : ℕ) (entry : EntryData) (books next : Books) (found : Option Booked) → entered_in_books account entry books found ≡ Ok next → Ascend 0 books → Ascend 0 next
+entered_ascends account entry books next None is ascend = cc
+entered_ascends account entry books next (Some booked) is ascend =
+    let same : books_with_entry account booked entry books ≡ next = cc in rw (← same) (set_ascends account _ 0 books ascend)
 
 judged_ascends : (books next : Books) (said : Result RowSaid RowKind) → Rattle.table_core.specs.Judging.and_then said (judged_books books) ≡ Ok next → Ascend 0 books → Ascend 0 next
 judged_ascends books next (Ok (Opens account opening until)) is ascend = opened_ascends account opening until books next (account_so_far account books) is ascend
-judged_ascends books next (Ok (Enters account event)) is ascend = entered_ascends account event books next (account_so_far account books) is ascend
+judged_ascends books next (Ok (Enters account entry)) is ascend = entered_ascends account entry books next (account_so_far account books) is ascend
 judged_ascends books next (Err why) is ascend = cc
 
 row_ascends : (header : ℕ) (books next : Books) (fields : Fields) → book_row_at (version_at header) books fields ≡ Ok next → Ascend 0 books → Ascend 0 next

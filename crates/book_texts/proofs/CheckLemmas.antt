@@ -9,7 +9,7 @@ use Rattle.std.specs.declared.cmp.Ordering.{Ordering}
 use Rattle.std.specs.declared.cmp.Ordering.TheVariants as order
 use Rattle.account_core.specs.Answers.{IsAnswered, IsLegal}
 use Rattle.account_core.specs.Checked.{IsCheckOf}
-use Rattle.account_core.specs.Events.{EntryData}
+use Rattle.account_core.specs.Entries.{EntryData}
 use Rattle.account_core.specs.Wrong.{IsWrong}
 use Rattle.account_core.specs.declared.entry.Reply.{Reply}
 use Rattle.account_core.specs.declared.fault.AccountFault.{AccountFault}
@@ -155,12 +155,12 @@ fault_booked most known (Ok checked) why P meaning met holds so = absurd met
 fault_booked most known (Err other) why P meaning met holds so = map_known known P _ holds (λ text at. rw met (so text at))
 
 -- an entry was heard, by what the check says of it
-pub heard_by : (booked : Booked) (event : EntryData) (wrong : Option (Result Reply AccountFault))
-    → (wrong ≡ None → IsLegal booked.opening booked.until booked.history → IsAnswered booked.opening booked.until (reverse booked.history) event)
-    → IfSome wrong (λ right. IsLegal booked.opening booked.until booked.history × IsWrong booked.opening booked.until (reverse booked.history) event right)
-    → HearsBy booked event wrong
-heard_by booked event None answers says = answers refl
-heard_by booked event (Some right) answers says = says
+pub heard_by : (booked : Booked) (entry : EntryData) (wrong : Option (Result Reply AccountFault))
+    → (wrong ≡ None → IsLegal booked.opening booked.until booked.history → IsAnswered booked.opening booked.until (reverse booked.history) entry)
+    → IfSome wrong (λ right. IsLegal booked.opening booked.until booked.history × IsWrong booked.opening booked.until (reverse booked.history) entry right)
+    → HearsBy booked entry wrong
+heard_by booked entry None answers says = answers refl
+heard_by booked entry (Some right) answers says = says
 
 -- ---- the wrong rows so far
 
@@ -188,16 +188,16 @@ module _ {R : Type 0} (most : ℕ) (remaining : R → Option (List ℕ)) where
         rw (← with, same) (opening_right most rows more account opening until books before none are)
     opens_so account opening until (Some booked) found is same = cc
 
-    enters_so : (account : ℕ) (event : EntryData) (found : Option Booked) → account_so_far account books ≡ found → entered_in_books account event books found ≡ Ok next
-        → ((booked : Booked) → account_so_far account books ≡ Some booked → NotesEntry number account booked event before after) → HaveVerdicts most (rows ++ more ∷ []) next after
-    enters_so account event None none is noted = cc
-    enters_so account event (Some booked) found is noted =
-        let with : books_with_entry account booked event books ≡ next = cc in
-        rw (← with) (entry_right most rows more account books booked event found number before after number_is so_far (rw (← with) at now) (noted booked found) are)
+    enters_so : (account : ℕ) (entry : EntryData) (found : Option Booked) → account_so_far account books ≡ found → entered_in_books account entry books found ≡ Ok next
+        → ((booked : Booked) → account_so_far account books ≡ Some booked → NotesEntry number account booked entry before after) → HaveVerdicts most (rows ++ more ∷ []) next after
+    enters_so account entry None none is noted = cc
+    enters_so account entry (Some booked) found is noted =
+        let with : books_with_entry account booked entry books ≡ next = cc in
+        rw (← with) (entry_right most rows more account books booked entry found number before after number_is so_far (rw (← with) at now) (noted booked found) are)
 
     pub right_next : (said : Result RowSaid RowKind) → after_row said (judged_books books) ≡ Ok next → AreNoted number books said before after → HaveVerdicts most (rows ++ more ∷ []) next after
     right_next (Ok (Opens account opening until)) is noted = opens_so account opening until (account_so_far account books) refl is noted
-    right_next (Ok (Enters account event)) is noted = enters_so account event (account_so_far account books) refl is noted
+    right_next (Ok (Enters account entry)) is noted = enters_so account entry (account_so_far account books) refl is noted
     right_next (Err why) is noted = cc
 
 both_known : {X : Type 0} (known : Option X) (P Q : X → Type 0) → IfSome known P → IfSome known Q → IfSome known (λ x. P x × Q x)
@@ -206,14 +206,14 @@ both_known (Some x) P Q one other = (one, other)
 
 module _ {R : Type 0} (most : ℕ) (remaining : R → Option (List ℕ)) (known : Option (List ℕ)) (table after : Table R) (books next : Books) where
   -- the same after a row
-  pub right_so_far : (wrongs now : List (ℕ × WrongRow)) → table.limit ≡ most → IsNextRow table after → StepsRow remaining table after (Ok true)
+  pub right_so_far : (wrongs now : List (ℕ × WrongRow)) → table.most_rows ≡ most → IsNextRow table after → StepsRow remaining table after (Ok true)
       → book_row_at (version_at table.header) books (fields_of after.rows.row) ≡ Ok next
       → AreNoted after.number books (row_said_in (columns_in (version_at table.header) (fields_of after.rows.row))) wrongs now
       → IfSome known (AreRightSoFar most remaining table books wrongs) → IfSome known (AreRightSoFar most remaining after next now)
   unfolding book_row_at
-  right_so_far wrongs now limit moves steps is noted right = map_known known _ _ right (λ text (above, are).
+  right_so_far wrongs now most_rows moves steps is noted right = map_known known _ _ right (λ text (above, are).
       let fields = fields_of after.rows.row in
-      let (further, first_is, rows_are) = next_above (books_form most) remaining table after books next text limit moves steps is above in
+      let (further, first_is, rows_are) = next_above (books_form most) remaining table after books next text most_rows moves steps is above in
       let so_far = above_is (books_form most) remaining table books text above in
       let whole : books_of most ((above.first ∷ above.rows) ++ fields ∷ []) ≡ Ok next = rw (first_is, rows_are) at (above_is (books_form most) remaining after next text further) in
       let held = right_next most remaining after.number (above.first ∷ above.rows) fields books next wrongs now

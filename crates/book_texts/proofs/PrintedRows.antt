@@ -7,14 +7,14 @@ use Rattle.std.proofs.lemmas.List.Concat.{flat_map-append}
 use Rattle.std.proofs.lemmas.List.Elements.{All-append, All-cons, All-from_recursion, All-head, All-nil, All-tail}
 use Rattle.csv.specs.Reading.{strip_bom}
 use Rattle.account_core.specs.Asked.{Asked, Credits, Reserves, Returns, Settles}
-use Rattle.account_core.specs.Events.{EntryData}
+use Rattle.account_core.specs.Entries.{EntryData}
 use Rattle.account_core.specs.Laws.{IsReplyInRange}
 use Rattle.account_core.specs.declared.entry.Reply.{Reply}
 use Rattle.account_core.specs.declared.entry.Reply.TheVariants as reply
 use Rattle.entry_rows.specs.Columns.{Answer, Operation, reply_fields, in_fourth, no_answer, number_or_empty, opening_columns, operation_of}
 use Rattle.entry_rows.specs.declared.version.Version.{Version}
 use Rattle.entry_rows.specs.declared.version.Version.TheVariants as version
-use Rattle.entry_rows.specs.Fits.{FitsAsked, FitsEvent, IsInterval, IsMoment, IsRate}
+use Rattle.entry_rows.specs.Fits.{FitsAsked, FitsEntry, IsInterval, IsMoment, IsRate}
 use Rattle.shared_account.specs.Closed.{Closed}
 use Rattle.table_core.specs.Printed.{DecimalsArePlain, IsPlain, IsPlainRow, line_of, lines_of}
 use Rattle.table_core.specs.Rows.{Fields}
@@ -35,7 +35,7 @@ row_fields account seat o a =
     account ∷ seat ∷ o.op ∷ o.call ∷ o.x1 ∷ o.x2 ∷ o.x3 ∷ o.x4 ∷ o.x5 ∷ o.x6 ∷ o.x7 ∷ steps_fields o.version o.x8 o.x9 (a.reply ∷ a.y1 ∷ a.y2 ∷ a.y3 ∷ [])
 
 abbrev pub entry_fields : Version → ℕ → EntryData → Fields
-entry_fields version account event = row_fields (decimal account) (decimal event.seat) (operation_of version event.asked) (reply_fields event.reply)
+entry_fields version account entry = row_fields (decimal account) (decimal entry.seat) (operation_of version entry.asked) (reply_fields entry.reply)
 
 abbrev pub opening_fields : Version → Closed → Fields
 opening_fields version book = row_fields (decimal book.account) [] (opening_columns version book.opening book.until) no_answer
@@ -64,8 +64,8 @@ row_line account seat o a = by o.version refl
 entry_lines : (version : Version) (account : ℕ) (history : List EntryData)
     → flat_map (entry_row version account) history ≡ flat_map line_of (map (entry_fields version account) history)
 entry_lines version account [] = refl
-entry_lines version account (event ∷ history) =
-    rw (row_line account (decimal event.seat) (operation_of version event.asked) (reply_fields event.reply), entry_lines version account history) refl
+entry_lines version account (entry ∷ history) =
+    rw (row_line account (decimal entry.seat) (operation_of version entry.asked) (reply_fields entry.reply), entry_lines version account history) refl
 
 book_lines : (version : Version) (book : Closed) → book_rows version book ≡ flat_map line_of (book_fields version book)
 book_lines version book =
@@ -224,15 +224,15 @@ module _ (plain : DecimalsArePlain) where
 
   -- ---- plain rows
 
-  entries_plain : (version : Version) (account : ℕ) (history : List EntryData) → account ≤ 4294967295 → All FitsEvent history
+  entries_plain : (version : Version) (account : ℕ) (history : List EntryData) → account ≤ 4294967295 → All FitsEntry history
       → All IsPlainRow (map (entry_fields version account) history)
   entries_plain version account [] small fit = All-nil IsPlainRow
-  entries_plain version account (event ∷ history) small fit =
-      let fits : FitsEvent event = All-head FitsEvent event history fit in
-      All-cons IsPlainRow (entry_fields version account event) (map (entry_fields version account) history)
-      (row_plain _ _ _ _ (plain account (omega (arith, small))) (plain event.seat (omega (arith, fits.seat))) (operation_plain version event.asked fits.asked)
-      (answer_plain event.reply fits.reply))
-      (entries_plain version account history small (All-tail FitsEvent event history fit))
+  entries_plain version account (entry ∷ history) small fit =
+      let fits : FitsEntry entry = All-head FitsEntry entry history fit in
+      All-cons IsPlainRow (entry_fields version account entry) (map (entry_fields version account) history)
+      (row_plain _ _ _ _ (plain account (omega (arith, small))) (plain entry.seat (omega (arith, fits.seat))) (operation_plain version entry.asked fits.asked)
+      (answer_plain entry.reply fits.reply))
+      (entries_plain version account history small (All-tail FitsEntry entry history fit))
 
   opening_plain : (version : Version) (book : Closed) → FitsBook book → IsPlainRow (opening_fields version book)
   opening_plain version book fits =

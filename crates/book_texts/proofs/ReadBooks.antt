@@ -15,10 +15,10 @@ use Rattle.std.proofs.lemmas.List.Elements.{All-head, All-tail}
 use Rattle.account_core.specs.Answers.{IsLegal}
 use Rattle.account_core.specs.Asked.{Asked, Credits, Reserves, Returns, Settles}
 use Rattle.account_core.specs.Checked.{entries_counted}
-use Rattle.account_core.specs.Events.{EntryData}
+use Rattle.account_core.specs.Entries.{EntryData}
 use Rattle.entry_rows.specs.Column.{is_empty_column, moment_column, money_of, number_column, optional_moment_of, seat_of}
 use Rattle.entry_rows.specs.Columns.{Answer, Operation, reply_fields, no_answer, number_or_empty, opening_columns, operation_at, operation_of}
-use Rattle.entry_rows.specs.Fits.{FitsEvent, IsMoment, IsMoney}
+use Rattle.entry_rows.specs.Fits.{FitsEntry, IsMoment, IsMoney}
 use Rattle.entry_rows.specs.Laws.{OperationsAreRead, PrintsWhole, RepliesAreRead}
 use Rattle.entry_rows.specs.Versions.{version_at}
 use Rattle.entry_rows.specs.declared.version.Version.{Version}
@@ -174,17 +174,17 @@ or_parts false b none = (refl, none)
 
 -- each operation of a history is printed whole
 abbrev PrintsAll : Version → List EntryData → Type 0
-PrintsAll version history = AllByRecursion (λ event. PrintsWhole version event.asked) history
+PrintsAll version history = AllByRecursion (λ entry. PrintsWhole version entry.asked) history
 
 history_whole : (history : List EntryData) → history_has_steps history ≡ false → PrintsAll version.Three history
 history_whole [] none = tt
-history_whole (event ∷ history) none =
-    let parts = or_parts (asks_steps event.asked) (history_has_steps history) none in
-    (whole event.asked parts.0, history_whole history parts.1)
+history_whole (entry ∷ history) none =
+    let parts = or_parts (asks_steps entry.asked) (history_has_steps history) none in
+    (whole entry.asked parts.0, history_whole history parts.1)
 
 history_fourth : (history : List EntryData) → PrintsAll version.Four history
 history_fourth [] = tt
-history_fourth (event ∷ history) = (tt, history_fourth history)
+history_fourth (entry ∷ history) = (tt, history_fourth history)
 
 abbrev PrintsBooks : Version → List Closed → Type 0
 PrintsBooks version books = AllByRecursion (λ book. PrintsAll version book.history) books
@@ -241,38 +241,38 @@ module _ (reads : DecimalsAreRead) (operations : OperationsAreRead) (replies : R
   opening_said version.Four printed book fits =
       rw (account_read book.account fits.account, money_read book.opening fits.opening, optional_moment_read book.until fits.until) refl
 
-  entry_said : (version : Version) → IsPrinted version → (account : ℕ) (event : EntryData) → account ≤ 4294967295 → FitsEvent event → PrintsWhole version event.asked
-      → row_said_in (columns_in version (entry_fields version account event)) ≡ Ok (Enters account event)
+  entry_said : (version : Version) → IsPrinted version → (account : ℕ) (entry : EntryData) → account ≤ 4294967295 → FitsEntry entry → PrintsWhole version entry.asked
+      → row_said_in (columns_in version (entry_fields version account entry)) ≡ Ok (Enters account entry)
   unfolding entry_in
-  entry_said version.One printed account event small fits prints = absurd printed
-  entry_said version.Two printed account event small fits prints = absurd printed
-  entry_said version.Three printed account event small fits prints =
-      let asked = operations version.Three event.asked fits.asked prints in
-      let reply = replies event.reply fits.reply in
+  entry_said version.One printed account entry small fits prints = absurd printed
+  entry_said version.Two printed account entry small fits prints = absurd printed
+  entry_said version.Three printed account entry small fits prints =
+      let asked = operations version.Three entry.asked fits.asked prints in
+      let reply = replies entry.reply fits.reply in
       rw (
-        same_operation version.Three tt (decimal account) (decimal event.seat) event.asked (reply_fields event.reply),
-        own_version version.Three event.asked,
-        not_opening version.Three event.asked,
+        same_operation version.Three tt (decimal account) (decimal entry.seat) entry.asked (reply_fields entry.reply),
+        own_version version.Three entry.asked,
+        not_opening version.Three entry.asked,
         asked.known,
         reply.known,
         account_read account small,
-        seat_read event.seat fits.seat,
+        seat_read entry.seat fits.seat,
         asked.read,
         reply.read,
         asked.blank,
         reply.blank,
       ) refl
-  entry_said version.Four printed account event small fits prints =
-      let asked = operations version.Four event.asked fits.asked prints in
-      let reply = replies event.reply fits.reply in
+  entry_said version.Four printed account entry small fits prints =
+      let asked = operations version.Four entry.asked fits.asked prints in
+      let reply = replies entry.reply fits.reply in
       rw (
-        same_operation version.Four tt (decimal account) (decimal event.seat) event.asked (reply_fields event.reply),
-        own_version version.Four event.asked,
-        not_opening version.Four event.asked,
+        same_operation version.Four tt (decimal account) (decimal entry.seat) entry.asked (reply_fields entry.reply),
+        own_version version.Four entry.asked,
+        not_opening version.Four entry.asked,
         asked.known,
         reply.known,
         account_read account small,
-        seat_read event.seat fits.seat,
+        seat_read entry.seat fits.seat,
         asked.read,
         reply.read,
         asked.blank,
@@ -285,13 +285,13 @@ module _ (reads : DecimalsAreRead) (operations : OperationsAreRead) (replies : R
     unfolding book_row_at
     opening_at book front fits above = rw (opening_said version printed book fits, not_booked book.account front above, opened_last book.account front _ above) refl
 
-    entry_at : (account opening : ℕ) (until : Option ℕ) (before : List EntryData) (event : EntryData) (front : Books) → account ≤ 4294967295 → FitsEvent event
-        → PrintsWhole version event.asked → IsAbove account front
-        → book_row_at version (front ++ (account, record { opening = opening; until = until; history = before }) ∷ []) (entry_fields version account event)
-        ≡ Ok (front ++ (account, record { opening = opening; until = until; history = before ++ event ∷ [] }) ∷ [])
+    entry_at : (account opening : ℕ) (until : Option ℕ) (before : List EntryData) (entry : EntryData) (front : Books) → account ≤ 4294967295 → FitsEntry entry
+        → PrintsWhole version entry.asked → IsAbove account front
+        → book_row_at version (front ++ (account, record { opening = opening; until = until; history = before }) ∷ []) (entry_fields version account entry)
+        ≡ Ok (front ++ (account, record { opening = opening; until = until; history = before ++ entry ∷ [] }) ∷ [])
     unfolding book_row_at
-    entry_at account opening until before event front small fits prints above =
-        rw (entry_said version printed account event small fits prints, booked_last account front _ above, set_last account front _ _ above) refl
+    entry_at account opening until before entry front small fits prints above =
+        rw (entry_said version printed account entry small fits prints, booked_last account front _ above, set_last account front _ _ above) refl
 
     -- ---- books
 
@@ -300,17 +300,17 @@ module _ (reads : DecimalsAreRead) (operations : OperationsAreRead) (replies : R
     from most number books rows = rows_from (books_form most) (header_place version) (columns_of version) number books rows
 
     entries_from : (most account opening : ℕ) (until : Option ℕ) (front : Books) → account ≤ 4294967295 → IsAbove account front → (history before : List EntryData) (number : ℕ)
-        (rest : List Fields) → All FitsEvent history → PrintsAll version history → number + length history ≤ most + 2
+        (rest : List Fields) → All FitsEntry history → PrintsAll version history → number + length history ≤ most + 2
         → from most number (front ++ (account, record { opening = opening; until = until; history = before }) ∷ []) (map (entry_fields version account) history ++ rest)
         ≡ from most (number + length history) (front ++ (account, record { opening = opening; until = until; history = before ++ history }) ∷ []) rest
     entries_from most account opening until front small above [] before number rest fit prints room = rw (add-zero number, append-nil before) refl
-    entries_from most account opening until front small above (event ∷ history) before number rest fit prints room =
-        let entries_counted : (number + 1) + length history ≡ number + length (event ∷ history) = omega arith in
-        let more = entries_from most account opening until front small above history (before ++ event ∷ []) (number + 1) rest (All-tail FitsEvent event history fit) prints.1 (omega arith) in
-        one_row version printed most number _ _ (entry_fields version account event) (map (entry_fields version account) history ++ rest)
-        (wide version (decimal account) (decimal event.seat) (operation_of version event.asked) (reply_fields event.reply) (own_version version event.asked)) (omega arith)
-        (entry_at account opening until before event front small (All-head FitsEvent event history fit) prints.0 above)
-        ∙ rw (entries_counted, append_assoc before (event ∷ []) history) at more
+    entries_from most account opening until front small above (entry ∷ history) before number rest fit prints room =
+        let entries_counted : (number + 1) + length history ≡ number + length (entry ∷ history) = omega arith in
+        let more = entries_from most account opening until front small above history (before ++ entry ∷ []) (number + 1) rest (All-tail FitsEntry entry history fit) prints.1 (omega arith) in
+        one_row version printed most number _ _ (entry_fields version account entry) (map (entry_fields version account) history ++ rest)
+        (wide version (decimal account) (decimal entry.seat) (operation_of version entry.asked) (reply_fields entry.reply) (own_version version entry.asked)) (omega arith)
+        (entry_at account opening until before entry front small (All-head FitsEntry entry history fit) prints.0 above)
+        ∙ rw (entries_counted, append_assoc before (entry ∷ []) history) at more
 
     books_from : (most : ℕ) (books : List Closed) (front : Books) (number : ℕ) → AreAbove books front → IsStrictlySortedBy nat_cmp (map (λ book. book.account) books)
         → All FitsBook books → PrintsBooks version books → number + row_count books ≤ most + 2

@@ -4,7 +4,7 @@ use Rattle.std.specs.Prelude.{is_none, is_some, not}
 use Rattle.std.specs.List.{filter_map, list_all}
 use Rattle.std.proofs.lemmas.List.{append-nil, length-reverse, take_all}
 use Rattle.account_core.specs.Checked.{IsCheckOf, SumsUp}
-use Rattle.account_core.specs.Events.{EntryData}
+use Rattle.account_core.specs.Entries.{EntryData}
 use Rattle.account_core.specs.declared.account_sum.AccountSum.{AccountSum}
 use Rattle.account_core.specs.declared.history_check.HistoryCheck.{HistoryCheck}
 use Rattle.table_core.specs.Rows.{Fields}

@@ -5,7 +5,7 @@ use Rattle.std.proofs.lemmas.List.Concat.{flat_map-append}
 use Rattle.std.proofs.lemmas.List.Elements.{All-more}
 use Rattle.std.specs.List.{All, flat_map, list_any}
 use Rattle.account_core.specs.Available.{available}
-use Rattle.account_core.specs.Events.{asked_of, entry_data}
+use Rattle.account_core.specs.Entries.{asked_of, entry_data}
 use Rattle.account_core.specs.declared.entry.Entry.{Entry}
 use Rattle.shared_account.specs.Closed.{Closed}
 use Rattle.book_texts.specs.BookTexts.{asks_steps, history_has_steps}

@@ -4,7 +4,7 @@ use Rattle.std.proofs.lemmas.Bool.Decides.{nat_tests}
 use Rattle.std.proofs.lemmas.List.{append_assoc, reverse-append}
 use Rattle.std.specs.Prelude.{◌==◌, if◌then◌else◌}
 use Rattle.account_core.specs.Answers.{IsAnswered, IsLegal, IsLegalPast, answer}
-use Rattle.account_core.specs.Events.{EntryData}
+use Rattle.account_core.specs.Entries.{EntryData}
 use Rattle.account_core.specs.Wrong.{IsWrong, response as response_after, reply_or_fault}
 use Rattle.account_core.specs.declared.entry.Reply.{Reply}
 use Rattle.account_core.specs.declared.fault.AccountFault.{AccountFault}
@@ -18,26 +18,26 @@ use Rattle.book_texts.specs.declared.wrong_row.WrongRow.{WrongRow}
 use Rattle.book_texts.proofs.BookedLemmas.{booked_set}
 
 -- what is booked of an account with one entry more
-abbrev with_event : Booked → EntryData → Booked
-with_event booked event = record booked { history = booked.history ++ event ∷ [] }
+abbrev with_entry : Booked → EntryData → Booked
+with_entry booked entry = record booked { history = booked.history ++ entry ∷ [] }
 
-module _ (booked : Booked) (event : EntryData) where
-  legal_is : IsLegal booked.opening booked.until (booked.history ++ event ∷ []) ≡ IsLegalPast booked.opening booked.until (event ∷ reverse booked.history)
-  legal_is = ap (IsLegalPast booked.opening booked.until) (reverse-append booked.history (event ∷ []))
+module _ (booked : Booked) (entry : EntryData) where
+  legal_is : IsLegal booked.opening booked.until (booked.history ++ entry ∷ []) ≡ IsLegalPast booked.opening booked.until (entry ∷ reverse booked.history)
+  legal_is = ap (IsLegalPast booked.opening booked.until) (reverse-append booked.history (entry ∷ []))
 
-  still_legal : IsLegal booked.opening booked.until booked.history → IsAnswered booked.opening booked.until (reverse booked.history) event
-      → IsLegal booked.opening booked.until (booked.history ++ event ∷ [])
-  still_legal legal answered = rw (reverse-append booked.history (event ∷ [])) (legal, answered)
+  still_legal : IsLegal booked.opening booked.until booked.history → IsAnswered booked.opening booked.until (reverse booked.history) entry
+      → IsLegal booked.opening booked.until (booked.history ++ entry ∷ [])
+  still_legal legal answered = rw (reverse-append booked.history (entry ∷ [])) (legal, answered)
 
-  was_legal : IsLegal booked.opening booked.until (booked.history ++ event ∷ []) → IsLegalPast booked.opening booked.until (event ∷ reverse booked.history)
-  was_legal legal = rw (reverse-append booked.history (event ∷ [])) at legal
+  was_legal : IsLegal booked.opening booked.until (booked.history ++ entry ∷ []) → IsLegalPast booked.opening booked.until (entry ∷ reverse booked.history)
+  was_legal legal = rw (reverse-append booked.history (entry ∷ [])) at legal
 
-  booked_right : IsAnswered booked.opening booked.until (reverse booked.history) event → response_after booked.opening booked.until (reverse booked.history) event.asked ≡ Ok event.reply
+  booked_right : IsAnswered booked.opening booked.until (reverse booked.history) entry → response_after booked.opening booked.until (reverse booked.history) entry.asked ≡ Ok entry.reply
   booked_right answered =
-      ap (λ refused. reply_or_fault refused (answer booked.opening booked.until (reverse booked.history) event.asked)) answered.admissible ∙ ap Ok (sym answered.answered)
+      ap (λ refused. reply_or_fault refused (answer booked.opening booked.until (reverse booked.history) entry.asked)) answered.admissible ∙ ap Ok (sym answered.answered)
 
-  not_legal : (right : Result Reply AccountFault) → IsWrong booked.opening booked.until (reverse booked.history) event right
-      → IsLegal booked.opening booked.until (booked.history ++ event ∷ []) → ⊥
+  not_legal : (right : Result Reply AccountFault) → IsWrong booked.opening booked.until (reverse booked.history) entry right
+      → IsLegal booked.opening booked.until (booked.history ++ entry ∷ []) → ⊥
   not_legal right wrong legal = wrong.differs (wrong.is_response ∙ booked_right (was_legal legal).1)
 
 -- ---- a row further
@@ -91,16 +91,16 @@ module _ (most : ℕ) (rows : List Fields) (more : Fields) where
 
   -- ---- an entry
 
-  module _ (account : ℕ) (books : Books) (booked : Booked) (event : EntryData) (found : account_so_far account books ≡ Some booked) where
-    entered_legal : (wrong : Option WrongRow) → (IsLegal booked.opening booked.until booked.history → IsAnswered booked.opening booked.until (reverse booked.history) event)
-        → HasVerdict most rows account booked wrong → HasVerdict most (rows ++ more ∷ []) account (with_event booked event) wrong
-    entered_legal None answers legal = still_legal booked event legal (answers legal)
-    entered_legal (Some wrong) answers (not, row) = (λ legal. not (was_legal booked event legal).0, row_kept account wrong row)
+  module _ (account : ℕ) (books : Books) (booked : Booked) (entry : EntryData) (found : account_so_far account books ≡ Some booked) where
+    entered_legal : (wrong : Option WrongRow) → (IsLegal booked.opening booked.until booked.history → IsAnswered booked.opening booked.until (reverse booked.history) entry)
+        → HasVerdict most rows account booked wrong → HasVerdict most (rows ++ more ∷ []) account (with_entry booked entry) wrong
+    entered_legal None answers legal = still_legal booked entry legal (answers legal)
+    entered_legal (Some wrong) answers (not, row) = (λ legal. not (was_legal booked entry legal).0, row_kept account wrong row)
 
     entered_at : (same : Bool) (other : ℕ) (wrong : Option WrongRow) → (same ≡ true → other ≡ account)
-        → (IsLegal booked.opening booked.until booked.history → IsAnswered booked.opening booked.until (reverse booked.history) event)
+        → (IsLegal booked.opening booked.until booked.history → IsAnswered booked.opening booked.until (reverse booked.history) entry)
         → HasItsVerdict most rows other (account_so_far other books) wrong
-        → HasItsVerdict most (rows ++ more ∷ []) other (if same then Some (with_event booked event) else account_so_far other books) wrong
+        → HasItsVerdict most (rows ++ more ∷ []) other (if same then Some (with_entry booked entry) else account_so_far other books) wrong
     entered_at true other wrong one answers is =
         let H : Option Booked → Type 0 = λ t. HasItsVerdict most rows account t wrong in
         let here = subst H found (rw (one refl) at is) in
@@ -108,21 +108,21 @@ module _ (most : ℕ) (rows : List Fields) (more : Fields) where
     entered_at false other wrong one answers is = right_kept other (account_so_far other books) wrong is
 
     noted_at : (same : Bool) (other : ℕ) (old : Option WrongRow) (wrong : WrongRow) → (same ≡ true → other ≡ account)
-        → HasVerdict most (rows ++ more ∷ []) account (with_event booked event) (Some wrong)
+        → HasVerdict most (rows ++ more ∷ []) account (with_entry booked entry) (Some wrong)
         → HasItsVerdict most rows other (account_so_far other books) old
-        → HasItsVerdict most (rows ++ more ∷ []) other (if same then Some (with_event booked event) else account_so_far other books) (if same then Some wrong else old)
+        → HasItsVerdict most (rows ++ more ∷ []) other (if same then Some (with_entry booked entry) else account_so_far other books) (if same then Some wrong else old)
     noted_at true other old wrong one has is = rw (one refl) has
     noted_at false other old wrong one has is = right_kept other (account_so_far other books) old is
 
     pub entry_right : (number : ℕ) (before after : List (ℕ × WrongRow)) → number ≡ length rows + 1 → books_of most rows ≡ Ok books
-        → books_of most (rows ++ more ∷ []) ≡ Ok (books_with_entry account booked event books) → NotesEntry number account booked event before after → HaveVerdicts most rows books before
-        → HaveVerdicts most (rows ++ more ∷ []) (books_with_entry account booked event books) after
+        → books_of most (rows ++ more ∷ []) ≡ Ok (books_with_entry account booked entry books) → NotesEntry number account booked entry before after → HaveVerdicts most rows books before
+        → HaveVerdicts most (rows ++ more ∷ []) (books_with_entry account booked entry books) after
     entry_right number before after number_is so_far now (inl (answers, same)) are = λ other.
-        rw (booked_set account (with_event booked event) other books (rw found refl), same)
+        rw (booked_set account (with_entry booked entry) other books (rw found refl), same)
         (entered_at (other == account) other (wrong_of other before) (same_number other account) answers (are other))
     entry_right number before after number_is so_far now (inr (wrong, row_is, says, heard, added)) are = λ other.
-        let has : HasVerdict most (rows ++ more ∷ []) account (with_event booked event) (Some wrong) = (
-          not_legal booked event wrong.right heard.1,
+        let has : HasVerdict most (rows ++ more ∷ []) account (with_entry booked entry) (Some wrong) = (
+          not_legal booked entry wrong.right heard.1,
           record {
             above = rows;
             row = more;
@@ -138,5 +138,5 @@ module _ (most : ℕ) (rows : List Fields) (more : Fields) where
             is_wrong = rw says heard.1;
           },
         ) in
-        rw (booked_set account (with_event booked event) other books (rw found refl), added, looked_up_at account wrong other before)
+        rw (booked_set account (with_entry booked entry) other books (rw found refl), added, looked_up_at account wrong other before)
         (noted_at (other == account) other (wrong_of other before) wrong (same_number other account) has (are other))

@@ -1,7 +1,7 @@
 -- What a row of the table of books says.
 use Rattle.std.specs.Prelude.{◌&&◌, ◌<◌, ◌+◌, ℕ, Bool, List, Option, length, Result, Ok, Err, codes, if◌then◌else◌}
 use Rattle.std.specs.Str.{bytes_eq}
-use Rattle.account_core.specs.Events.{EntryData}
+use Rattle.account_core.specs.Entries.{EntryData}
 use Rattle.entry_rows.specs.Column.{is_empty_column, money_of, number_column, seat_of}
 use Rattle.entry_rows.specs.Columns.{Answer, HasOperation, Operation, answer_at, operation_at}
 use Rattle.entry_rows.specs.Operations.{asked_in, is_asked_blank, is_money_blank, until_of}
@@ -41,7 +41,7 @@ columns_in version fields = record {
 -- what a row says: an account opens with a credit and its last moment, if it has one, or has one more entry
 pub data RowSaid : Type 0 where
   Opens : (account opening : ℕ) (until : Option ℕ) → RowSaid
-  Enters : (account : ℕ) (event : EntryData) → RowSaid
+  Enters : (account : ℕ) (entry : EntryData) → RowSaid
 
 -- what is said, where the columns that must be empty are
 abbrev pub book_when_blank : Bool → RowSaid → Result RowSaid RowKind

@@ -3,7 +3,7 @@ use Rattle.std.specs.Prelude.{◌||◌, ℕ, Bool, false, List, [], ◌++◌, co
 use Rattle.std.specs.Fmt.{decimal}
 use Rattle.std.specs.List.{flat_map, list_any}
 use Rattle.account_core.specs.Asked.{Asked, Reserves}
-use Rattle.account_core.specs.Events.{EntryData}
+use Rattle.account_core.specs.Entries.{EntryData}
 use Rattle.tariff_core.specs.Rates.{has_steps}
 use Rattle.shared_account.specs.Closed.{Closed}
 use Rattle.entry_rows.specs.Columns.{Answer, Operation, reply_fields, answer_text, field, no_answer, opening_columns, operation_of, operation_text}
@@ -20,7 +20,7 @@ opening_row version book = book_row book.account [] (opening_columns version boo
 
 -- the row of an entry
 abbrev pub entry_row : Version → ℕ → EntryData → List ℕ
-entry_row version account event = book_row account (decimal event.seat) (operation_of version event.asked) (reply_fields event.reply)
+entry_row version account entry = book_row account (decimal entry.seat) (operation_of version entry.asked) (reply_fields entry.reply)
 
 -- the opening of a book, and its entries
 abbrev pub book_rows : Version → Closed → List ℕ
@@ -42,7 +42,7 @@ asks_steps asked = false
 
 -- whether any operation of a history does
 abbrev pub history_has_steps : List EntryData → Bool
-history_has_steps history = list_any (λ event. asks_steps event.asked) history
+history_has_steps history = list_any (λ entry. asks_steps entry.asked) history
 
 -- the version of the table of books: 4 where the tariff has steps or an operation has, else 3
 abbrev pub version_of : Bool → List Closed → Version

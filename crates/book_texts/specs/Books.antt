@@ -3,7 +3,7 @@ use Rattle.std.specs.Prelude.{ℕ, Option, Some, None, List, [], ◌∷◌, ◌+
 use Rattle.std.specs.BTreeMap.{insert_entry, is_at}
 use Rattle.std.specs.Map.{lookup, set_value}
 use Rattle.std.specs.Ordering.{nat_cmp}
-use Rattle.account_core.specs.Events.{EntryData}
+use Rattle.account_core.specs.Entries.{EntryData}
 use Rattle.entry_rows.specs.Versions.{version_at}
 use Rattle.entry_rows.specs.declared.version.Version.{Version}
 use Rattle.table_core.specs.Judging.{and_then}
@@ -33,7 +33,7 @@ with_opening account opening until books = insert_entry nat_cmp books account (r
 
 -- the books with one entry more of an account
 abbrev pub books_with_entry : ℕ → Booked → EntryData → Books → Books
-books_with_entry account booked event books = set_value (is_at (nat_cmp account)) books (record booked { history = booked.history ++ event ∷ [] })
+books_with_entry account booked entry books = set_value (is_at (nat_cmp account)) books (record booked { history = booked.history ++ entry ∷ [] })
 
 -- an account opens once
 abbrev pub opened : ℕ → ℕ → Option ℕ → Books → Option Booked → Result Books RowKind
@@ -42,13 +42,13 @@ opened account opening until books (Some booked) = Err kind.Repeated
 
 -- and has entries after that
 abbrev pub entered_in_books : ℕ → EntryData → Books → Option Booked → Result Books RowKind
-entered_in_books account event books None = Err kind.Unknown
-entered_in_books account event books (Some booked) = Ok (books_with_entry account booked event books)
+entered_in_books account entry books None = Err kind.Unknown
+entered_in_books account entry books (Some booked) = Ok (books_with_entry account booked entry books)
 
 -- the books after a row that says this
 abbrev pub judged_books : Books → RowSaid → Result Books RowKind
 judged_books books (Opens account opening until) = opened account opening until books (account_so_far account books)
-judged_books books (Enters account event) = entered_in_books account event books (account_so_far account books)
+judged_books books (Enters account entry) = entered_in_books account entry books (account_so_far account books)
 
 -- the books after a row of a table of this version
 unfoldable pub book_row_at : Version → Books → List (List ℕ) → Result Books RowKind

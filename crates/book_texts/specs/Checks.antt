@@ -6,7 +6,7 @@ use Rattle.std.specs.Map.{lookup}
 use Rattle.std.specs.Ordering.{nat_cmp}
 use Rattle.account_core.specs.Answers.{IsAnswered, IsLegal}
 use Rattle.account_core.specs.Checked.{IsCheckOf}
-use Rattle.account_core.specs.Events.{EntryData, entry_data}
+use Rattle.account_core.specs.Entries.{EntryData, entry_data}
 use Rattle.account_core.specs.Wrong.{IsWrong}
 use Rattle.account_core.specs.declared.entry.Reply.{Reply}
 use Rattle.account_core.specs.declared.fault.AccountFault.{AccountFault}
@@ -64,14 +64,14 @@ Comes before (Some kind) (Err why) checks = (kind ≡ why) × HaveChecks before 
 
 -- an entry of an account was heard: it is what the account answers, where the history before it is legal; or that history is legal, and this is what the account answers in its place
 abbrev pub HearsBy : Booked → EntryData → Option (Result Reply AccountFault) → Type 0
-HearsBy booked event None = IsLegal booked.opening booked.until booked.history → IsAnswered booked.opening booked.until (reverse booked.history) event
-HearsBy booked event (Some right) = IsLegal booked.opening booked.until booked.history × IsWrong booked.opening booked.until (reverse booked.history) event right
+HearsBy booked entry None = IsLegal booked.opening booked.until booked.history → IsAnswered booked.opening booked.until (reverse booked.history) entry
+HearsBy booked entry (Some right) = IsLegal booked.opening booked.until booked.history × IsWrong booked.opening booked.until (reverse booked.history) entry right
 
 -- an entry was heard, or refused, since its account isn't open
 abbrev pub IsHeard : Option Booked → EntryData → Result (Option (Result Reply AccountFault)) RowKind → Type 0
-IsHeard None event (Ok wrong) = ⊥
-IsHeard (Some booked) event (Ok wrong) = HearsBy booked event wrong
-IsHeard booked event (Err kind) = booked ≡ None
+IsHeard None entry (Ok wrong) = ⊥
+IsHeard (Some booked) entry (Ok wrong) = HearsBy booked entry wrong
+IsHeard booked entry (Err kind) = booked ≡ None
 
 -- ---- wrong rows
 
@@ -90,13 +90,13 @@ HaveVerdicts most rows books wrongs = (account : ℕ) → HasItsVerdict most row
 
 -- an entry of an account in the row of a number adds itself to the wrong rows, where it is the first that is wrong
 abbrev pub NotesEntry : ℕ → ℕ → Booked → EntryData → List (ℕ × WrongRow) → List (ℕ × WrongRow) → Type 0
-NotesEntry number account booked event before after =
-    ((IsLegal booked.opening booked.until booked.history → IsAnswered booked.opening booked.until (reverse booked.history) event) × (after ≡ before))
-    ⊎ ((wrong : WrongRow) × (wrong.row ≡ number) × (entry_data wrong.entry ≡ event) × HearsBy booked event (Some wrong.right) × (after ≡ insert_entry nat_cmp before account wrong))
+NotesEntry number account booked entry before after =
+    ((IsLegal booked.opening booked.until booked.history → IsAnswered booked.opening booked.until (reverse booked.history) entry) × (after ≡ before))
+    ⊎ ((wrong : WrongRow) × (wrong.row ≡ number) × (entry_data wrong.entry ≡ entry) × HearsBy booked entry (Some wrong.right) × (after ≡ insert_entry nat_cmp before account wrong))
 
 -- what a row says is noted so: an opening adds nothing
 abbrev pub AreNoted : ℕ → Books → Result RowSaid RowKind → List (ℕ × WrongRow) → List (ℕ × WrongRow) → Type 0
-AreNoted number books (Ok (Enters account event)) before after = (booked : Booked) → account_so_far account books ≡ Some booked → NotesEntry number account booked event before after
+AreNoted number books (Ok (Enters account entry)) before after = (booked : Booked) → account_so_far account books ≡ Some booked → NotesEntry number account booked entry before after
 AreNoted number books said before after = after ≡ before
 
 -- ---- all of a table

@@ -3,7 +3,7 @@ use Rattle.std.specs.Prelude.{◌+◌, ◌≤◌, ℕ, List, [], ◌∷◌, leng
 use Rattle.std.specs.List.{All}
 use Rattle.std.specs.List.Sorted.{IsStrictlySortedBy}
 use Rattle.std.specs.Ordering.{nat_cmp}
-use Rattle.entry_rows.specs.Fits.{FitsEvent, IsMoment, IsMoney}
+use Rattle.entry_rows.specs.Fits.{FitsEntry, IsMoment, IsMoney}
 use Rattle.shared_account.specs.Closed.{Closed}
 use Rattle.book_texts.specs.Books.{Booked}
 
@@ -12,7 +12,7 @@ pub record FitsBook (book : Closed) : Type 0 where
   pub account : book.account ≤ 4294967295
   pub opening : IsMoney book.opening
   pub until : IfSome book.until IsMoment
-  pub history : All FitsEvent book.history
+  pub history : All FitsEntry book.history
 
 -- how many rows books have, the header not counted
 abbrev pub row_count : List Closed → ℕ

@@ -1,6 +1,6 @@
 -- What a row of the code says.
 use Rattle.std.specs.Prelude.{◌≤◌}
-use Rattle.account_core.specs.Events.{entry_data}
+use Rattle.account_core.specs.Entries.{entry_data}
 use Rattle.book_texts.specs.BookRows.{Enters, Opens, RowSaid}
 use Rattle.book_texts.specs.declared.book_row.BookRow.{BookRow}
 use Rattle.book_texts.specs.declared.book_row.BookRow.TheVariants as row

@@ -2,7 +2,7 @@
 use Rattle.std.specs.Prelude.{◌≤◌, length}
 use Rattle.std.specs.List.{All}
 use Rattle.account_core.specs.Asked.{Asked, Credits, Reserves, Settles, Returns}
-use Rattle.account_core.specs.Events.{EntryData}
+use Rattle.account_core.specs.Entries.{EntryData}
 use Rattle.entry_rows.specs.Fits.{FitsPlan, IsWide}
 use Rattle.shared_account.specs.Closed.{Closed}
 
@@ -15,7 +15,7 @@ IsTypedAsked (Returns call) = IsWide call
 
 -- the same of the operation of an entry
 abbrev pub IsTypedEntry : EntryData → Type 0
-IsTypedEntry event = IsTypedAsked event.asked
+IsTypedEntry entry = IsTypedAsked entry.asked
 
 -- the number of an account has 32 bits, each entry is as its types have it, and the history keeps within its limit
 pub record IsTyped (book : Closed) : Type 0 where

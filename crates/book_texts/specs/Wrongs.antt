@@ -2,7 +2,7 @@
 use Rattle.std.specs.Prelude.{◌≡◌, ◌+◌, ℕ, List, [], ◌∷◌, ◌++◌, length, Some, Ok, codes, reverse}
 use Rattle.std.specs.Fmt.{decimal}
 use Rattle.account_core.specs.Answers.{IsLegal}
-use Rattle.account_core.specs.Events.{entry_data}
+use Rattle.account_core.specs.Entries.{entry_data}
 use Rattle.account_core.specs.Wrong.{IsWrong}
 use Rattle.entry_rows.specs.Responses.{reply_text, response_text, operation_word}
 use Rattle.table_core.specs.Rows.{Fields}

@@ -3,7 +3,7 @@
 ghost use Rattle.std.specs.Prelude.{◌≡◌, ◌≤◌, ℕ, Option, [], IfOk, OnOk};
 ghost use Rattle.std.specs.Result.{result_err};
 ghost use Rattle.account_core.specs.Checked.{IsCheckOf};
-ghost use Rattle.account_core.specs.Events.{entry_data};
+ghost use Rattle.account_core.specs.Entries.{entry_data};
 ghost use Rattle.book_texts.specs.Books.{Books, entered_in_books, opened, account_so_far};
 ghost use Rattle.book_texts.specs.Checks.{AreChecks, Comes, HaveChecks, IsHeard, ListComes, checks_by_account};
 ghost use Rattle.rising_map.specs.Rising.{AreRising};
@@ -73,7 +73,7 @@ impl AccountChecks {
 
     /// Gives an entry to the check of its account, which answers as `HistoryCheck::hear` does.
     /// `Unknown` where the account isn't open. A refused entry changes nothing.
-    pub fn enter(&mut self, account: u32, entry: Entry) -> Result<Heard, AllocError>
+    pub fn hear(&mut self, account: u32, entry: Entry) -> Result<Heard, AllocError>
         requires { (books : Books) × HaveChecks books self.old }
         ensures comes { IfOk result (λ heard. (books : Books) → HaveChecks books self.old
             → Comes books (result_err heard) (entered_in_books account (entry_data entry) books
@@ -83,8 +83,8 @@ impl AccountChecks {
     {
         let account = u64::from(account);
         match self {
-            AccountChecks::Rising(list) => enter_list(list, account, entry),
-            AccountChecks::Mixed(map) => enter_map(map, account, entry),
+            AccountChecks::Rising(list) => hear_list(list, account, entry),
+            AccountChecks::Mixed(map) => hear_map(map, account, entry),
         }
     }
 
@@ -101,7 +101,7 @@ impl AccountChecks {
 
 /// Gives an entry to the check of its account in a list.
 #[inline(always)]
-fn enter_list(
+fn hear_list(
     list: &mut Vec<(u64, HistoryCheck)>,
     account: u64,
     entry: Entry,
@@ -122,7 +122,7 @@ fn enter_list(
 }
 
 /// Gives an entry to the check of its account in a map.
-fn enter_map(
+fn hear_map(
     map: &mut BTreeMap<u64, HistoryCheck>,
     account: u64,
     entry: Entry,

@@ -2,7 +2,7 @@
 
 ghost use Rattle.std.specs.Prelude.{◌≡◌, ◌++◌, ℕ, List, IfOk, IfSome, Ok, OnOk, map, string_bytes};
 ghost use Rattle.std.specs.Result.{result_map_both};
-ghost use Rattle.account_core.specs.Events.{entry_data};
+ghost use Rattle.account_core.specs.Entries.{entry_data};
 ghost use Rattle.book_texts.specs.Audits.{AreVerdicts, GivesAudit, IsSummedUp, audited, verdict_lines, yes_or_no};
 ghost use Rattle.book_texts.specs.BookRows.{Enters, HasBookColumns, columns_in, row_said_in};
 ghost use Rattle.book_texts.specs.Books.{Books, books_of, entered_in_books, book_row_at, account_so_far};
@@ -184,7 +184,7 @@ fn check_books<I: Read + Drop>(
     let mut checks = AccountChecks::new(alloc);
     let mut wrongs = RisingMap::new(alloc);
     while table.next_row()? {
-        let version = Version::at(table.header());
+        let version = Version::of_header(table.header());
         let number = table.number();
         if let Some(kind) = take_row(
             alloc,
@@ -230,13 +230,13 @@ fn take_row(
                 until,
             },
         ) => checks.open(alloc, account, opening, until),
-        Ok(BookRow::Entry { account, entry }) => enter(checks, wrongs, account, entry, number),
+        Ok(BookRow::Entry { account, entry }) => hear_entry(checks, wrongs, account, entry, number),
         Err(kind) => Ok(Some(kind)),
     }
 }
 
 /// Gives an entry to the check of its account, and keeps its row where it is the first wrong one.
-fn enter(
+fn hear_entry(
     checks: &mut AccountChecks,
     wrongs: &mut RisingMap<WrongRow>,
     account: u32,
@@ -251,7 +251,7 @@ fn enter(
     ensures noted { IfOk result (λ refused. (books : Books) → HaveChecks books checks.old
         → AreNoted number books (Ok (Enters account (entry_data entry))) wrongs.old wrongs.new) }
 {
-    match checks.enter(account, entry)? {
+    match checks.hear(account, entry)? {
         Err(kind) => Ok(Some(kind)),
         Ok(None) => Ok(None),
         Ok(Some(right)) => {

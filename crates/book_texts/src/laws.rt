@@ -1,6 +1,6 @@
 //! Laws of the texts of books, each the contract of a function that does nothing else.
 
-ghost use Rattle.account_core.specs.Events.{asked_of};
+ghost use Rattle.account_core.specs.Entries.{asked_of};
 ghost use Rattle.tariff_core.specs.RatesOf.{rates_of};
 ghost use Rattle.entry_rows.specs.Fits.{FitsPlan};
 ghost use Rattle.book_texts.specs.Typed.{IsTypedAsked};

@@ -2,7 +2,7 @@
 
 ghost use Rattle.std.specs.Prelude.{◌≡◌, ◌++◌, All, OnOk, IfOk, string_bytes};
 ghost use Rattle.std.specs.List.{list_any};
-ghost use Rattle.account_core.specs.Events.{asked_of, entry_data};
+ghost use Rattle.account_core.specs.Entries.{asked_of, entry_data};
 ghost use Rattle.book_texts.specs.BookTexts.{asks_steps, book_rows, book_text, entry_row, book_header, history_has_steps, version_of};
 ghost use Rattle.book_texts.specs.Typed.{IsTyped, IsTypedAsked};
 

@@ -37,15 +37,15 @@ abbrev pub known_or : Option ℕ → Option ℕ → Option ℕ
 known_or known None = known
 known_or known (Some moment) = option_or known (Some moment)
 
-is_known_or : (known said_so : Option ℕ) → option_or known said_so ≡ known_or known said_so
+is_known_or : (known later : Option ℕ) → option_or known later ≡ known_or known later
 is_known_or known None = or_none known
 is_known_or known (Some moment) = refl
 
-is_said_so : (known said_so : Option ℕ) → is_some (option_or known said_so) ≡ is_some said_so || is_some known
-is_said_so None None = refl
-is_said_so None (Some moment) = refl
-is_said_so (Some known) None = refl
-is_said_so (Some known) (Some moment) = refl
+some_known_or : (known later : Option ℕ) → is_some (option_or known later) ≡ is_some later || is_some known
+some_known_or None None = refl
+some_known_or None (Some moment) = refl
+some_known_or (Some known) None = refl
+some_known_or (Some known) (Some moment) = refl
 
 -- the reports after a post that says this
 abbrev pub reports_with : CallReports → ((ℕ → SsfMsg → Option ℕ) → Option ℕ) → CallReports
@@ -67,7 +67,7 @@ module _ (call : ℕ) (given : List (ℕ × Body)) (post : ℕ × Body) where
   moment_more tell = said_more call tell given post ∙ is_known_or (first_said call tell given) (tells tell)
 
   mark_more : (tell : ℕ → SsfMsg → Option ℕ) → is_some (first_said call tell (given ++ post ∷ [])) ≡ is_some (tells tell) || is_some (first_said call tell given)
-  mark_more tell = ap is_some (said_more call tell given post) ∙ is_said_so (first_said call tell given) (tells tell)
+  mark_more tell = ap is_some (said_more call tell given post) ∙ some_known_or (first_said call tell given) (tells tell)
 
   pub reports_more : call_reports_of call (given ++ post ∷ []) ≡ reports_with (call_reports_of call given) tells
   reports_more = λ i. record {

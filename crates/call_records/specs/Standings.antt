@@ -3,7 +3,7 @@ use Rattle.std.specs.Prelude.{◌==◌, ◌+◌, ◌&&◌, ◌||◌, ℕ, Bool, 
 use Rattle.std.specs.List.{find, list_any}
 use Rattle.std.specs.Option.{option_or}
 use Rattle.account_core.specs.Asked.{Asked, Reserves, call_of}
-use Rattle.account_core.specs.Events.{EntryData}
+use Rattle.account_core.specs.Entries.{EntryData}
 use Rattle.account_core.specs.Known.{CallFacts, known, paid_if_granted}
 use Rattle.account_core.specs.declared.entry.Reply.{Reply}
 use Rattle.account_core.specs.declared.entry.Reply.TheVariants as reply
@@ -17,7 +17,7 @@ denies asked answer = false
 
 -- whether this entry denies a call
 abbrev pub denies_call : ℕ → EntryData → Bool
-denies_call call event = call_of event.asked == call && denies event.asked event.reply
+denies_call call entry = call_of entry.asked == call && denies entry.asked entry.reply
 
 -- whether an entry of the history denies the call
 abbrev pub is_denied : ℕ → List EntryData → Bool
@@ -26,7 +26,7 @@ is_denied call h = list_any (denies_call call) h
 -- whether one does after the call was granted something
 abbrev pub is_denied_later : ℕ → List EntryData → Bool
 is_denied_later call [] = false
-is_denied_later call (event ∷ h) = denies_call call event && is_some (known call h).plan || is_denied_later call h
+is_denied_later call (entry ∷ h) = denies_call call entry && is_some (known call h).plan || is_denied_later call h
 
 -- whether a grant is the last one, less than was wanted
 abbrev pub last_by : Asked → Reply → Option Bool
@@ -36,7 +36,7 @@ last_by asked answer = None
 -- whether the newest grant of a call is the last one
 abbrev pub last_grant : ℕ → List EntryData → Option Bool
 last_grant call [] = None
-last_grant call (event ∷ h) = option_or (if call_of event.asked == call then last_by event.asked event.reply else None) (last_grant call h)
+last_grant call (entry ∷ h) = option_or (if call_of entry.asked == call then last_by entry.asked entry.reply else None) (last_grant call h)
 
 -- whether the times of a call are all that was granted
 abbrev pub is_used_up : CallFacts → Bool

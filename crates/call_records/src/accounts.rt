@@ -5,7 +5,7 @@ ghost use Rattle.std.specs.BTreeMap.{is_at};
 ghost use Rattle.std.specs.Map.{lookup};
 ghost use Rattle.std.specs.Option.{option_or};
 ghost use Rattle.std.specs.Ordering.{nat_cmp};
-ghost use Rattle.account_core.specs.Events.{EntryData};
+ghost use Rattle.account_core.specs.Entries.{EntryData};
 ghost use Rattle.account_core.specs.Sums.{AreSums};
 ghost use Rattle.call_records.specs.Kept.{HaveAccounts, HavePaid, KnowCalls};
 ghost use Rattle.call_records.specs.Standings.{past_of, standing_of};

@@ -2,7 +2,7 @@
 
 ghost use Rattle.std.specs.Prelude.{◌≡◌, ◌==◌, if◌then◌else◌, ◌∷◌, ℕ, List, map, reverse, IfOk, OnOk};
 ghost use Rattle.account_core.specs.Asked.{call_of};
-ghost use Rattle.account_core.specs.Events.{EntryData, asked_of, entry_data};
+ghost use Rattle.account_core.specs.Entries.{EntryData, asked_of, entry_data};
 ghost use Rattle.call_records.specs.Kept.{HaveMarks, marks_in, marks_of};
 
 use account_core::{Entry, Op, Reply};

@@ -122,7 +122,7 @@ A fault is one line on standard error, and then nothing is printed:
   prepaid: tariff row N: KIND
   prepaid: setup row N: KIND
   prepaid: script row N: KIND
-      Rows count from 1, which is the header of that part; empty lines don't count
+      Rows count from 1, which is the header of that table; empty lines don't count
   prepaid: into: Device
       A file of FOLDER couldn't be written, or there is no such folder
   prepaid: run: Workers
@@ -348,7 +348,7 @@ A fault is one line on standard error; with status 1 nothing is printed:
       A line that is %% alone comes behind the tariff and behind the setup
   prepaid: tariff row N: KIND
   prepaid: setup row N: KIND
-      Rows count from 1, which is the header of that part; empty lines don't count
+      Rows count from 1, which is the header of that table; empty lines don't count
   prepaid: messages row N: KIND
       Only row 1 and Header: the header of the messages isn't exactly the one above
   prepaid: log: Other

@@ -7,7 +7,7 @@ ghost use Rattle.command_words.specs.RateWords.{rate_in, times_by, wished_times}
 
 use crate::options::{has_flag, option_text};
 use clap::ArgMatches;
-use rating::{Names, RateAsk, Times};
+use rating::{Names, RateAsk, TimeNames};
 
 /// What the options ask for; none where they name the times of a call in two ways, or only one of
 /// the columns before the tariff switch and after it.
@@ -30,7 +30,7 @@ pub(crate) fn rate_ask<'a>(options: &ArgMatches<'a>) -> Option<RateAsk<'a>>
 }
 
 /// By which columns the times of a call are found.
-fn named_times<'a>(options: &ArgMatches<'a>) -> Option<Times<'a>>
+fn named_times<'a>(options: &ArgMatches<'a>) -> Option<TimeNames<'a>>
     ensures { option_map times_of result ≡ wished_times (rows_of (found_of options.now)) }
 {
     let time = option_text(options, "time");
@@ -38,10 +38,10 @@ fn named_times<'a>(options: &ArgMatches<'a>) -> Option<Times<'a>>
     let before = option_text(options, "before");
     let after = option_text(options, "after");
     match (time, end, before, after) {
-        (None, None, None, None) => Some(Times::UsualNames),
-        (Some(name), None, None, None) => Some(Times::Time(name)),
-        (None, Some(name), None, None) => Some(Times::End(name)),
-        (None, None, Some(before), Some(after)) => Some(Times::Split(before, after)),
+        (None, None, None, None) => Some(TimeNames::UsualNames),
+        (Some(name), None, None, None) => Some(TimeNames::Time(name)),
+        (None, Some(name), None, None) => Some(TimeNames::End(name)),
+        (None, None, Some(before), Some(after)) => Some(TimeNames::Split(before, after)),
         _ => None,
     }
 }

@@ -7,7 +7,7 @@ use Rattle.account_core.specs.declared.entry.Reply.TheVariants.{Granted, Settled
 use Rattle.cap_values.specs.Orders.{Order}
 use Rattle.dialogue_core.specs.Phases.{Phase, Says, Sequel, FirstAsk, Running, Settling, MoreAsk, Returning, Ending, Closed, Sends}
 use Rattle.dialogue_core.specs.Phases as phase
-use Rattle.dialogue_core.specs.Table.{Step, are_units, on_reply, sequel, on_refusal}
+use Rattle.dialogue_core.specs.Rules.{Step, are_units, on_reply, sequel, on_refusal}
 use Rattle.dialogue_core.specs.Talks.{Got, after_got, asks_after, asks_left, or_done}
 use Rattle.dialogue_core.specs.Views.{phase_of, says_of}
 use Rattle.dialogue_core.specs.declared.dialogue.Dialogue.{Dialogue}
@@ -16,7 +16,7 @@ use Rattle.dialogue_core.specs.declared.fault.DialogueFault.TheVariants.{Unexpec
 use Rattle.dialogue_core.specs.declared.dialogue.Turn.{Turn}
 use Rattle.dialogue_core.specs.declared.dialogue.Turn.TheVariants as turn
 
--- it goes on as the table says, or refuses the answer and is unchanged
+-- it goes on as the rules say, or refuses the answer and is unchanged
 pub got_by : (was is : Dialogue) (step : Step) (result : Result Turn DialogueFault) → IfOk result (λ said. step ≡ Ok (says_of said, phase_of is))
     → IfErr result (λ fault. step ≡ Err fault) → IfErr result (λ fault. is ≡ was)
     → or_done (phase_of was) step ≡ (says_of (result_unwrap_or result turn.Done), phase_of is)

@@ -1,4 +1,4 @@
--- A reply of the kind that an account gives has its place in the table.
+-- A reply of the kind that an account gives has its place in the rules.
 use Rattle.std.proofs.Common.{◌≡◌, ℕ, ◌≤◌, Bool, true, false, List, [], ◌∷◌, Option, Some, None, Ok, Err, refl, arith}
 use Rattle.std.specs.Prelude.{if◌then◌else◌, IsOk, ⊤}
 use Rattle.std.proofs.lemmas.Bool.Decides.{nat_tests}
@@ -14,7 +14,7 @@ use Rattle.cap_values.specs.declared.mode.Mode.{Mode}
 use Rattle.dialogue_core.specs.Phases.{Conditions, Phase, Says, Sequel, FirstAsk, Running, Settling, MoreAsk, Returning, Ending, Closed, Asks, Sends, Finished}
 use Rattle.dialogue_core.specs.Phases as phase
 use Rattle.dialogue_core.specs.Runs.{Exchange, Input, IsHonest, IsDialogueRun, Message, Answer, Refusal, last_said, step}
-use Rattle.dialogue_core.specs.Table.{Step, are_units, on_begin, ending, says_first_period, going_on, on_reply, event_reported, while_running, sequel}
+use Rattle.dialogue_core.specs.Rules.{Step, are_units, on_begin, ending, says_first_period, going_on, on_reply, event_reported, while_running, sequel}
 use Rattle.dialogue_core.specs.declared.fault.DialogueFault.TheVariants.{Unexpected}
 use Rattle.tariff_core.specs.declared.route.Route.{Route}
 

@@ -1,3 +1,3 @@
+pub mod AskCounts
 pub mod Asking
 pub mod Honest
-pub mod Tallies

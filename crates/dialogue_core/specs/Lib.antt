@@ -1,8 +1,8 @@
 pub mod Configs
 pub mod Faults
 pub mod Phases
+pub mod Rules
 pub mod Runs
 pub mod ServiceArms
-pub mod Table
 pub mod Talks
 pub mod Views

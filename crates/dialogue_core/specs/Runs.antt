@@ -1,11 +1,11 @@
--- Runs of a dialogue: what it was handed and what it said to that, by the table of the service.
+-- Runs of a dialogue: what it was handed and what it said to that, by the rules of the service.
 use Rattle.std.specs.Prelude.{◌≡◌, ◌+◌, ◌≤◌, ◌||◌, ℕ, Bool, true, false, Option, Ok, IsOk, List, [], ◌∷◌, ⊤, if◌then◌else◌}
 use Rattle.account_core.specs.Asked.{Asked, Reserves, Settles, Returns}
 use Rattle.account_core.specs.declared.entry.Reply.{Reply}
 use Rattle.account_core.specs.declared.entry.Reply.TheVariants.{Granted, Denied, Settled, Forfeit, Returned}
 use Rattle.cap_values.specs.declared.message.SsfMsg.{SsfMsg}
 use Rattle.dialogue_core.specs.Phases.{Phase, Says, Ending, Closed, Asks}
-use Rattle.dialogue_core.specs.Table.{Step, on_begin, on_reply, on_message, on_refusal}
+use Rattle.dialogue_core.specs.Rules.{Step, on_begin, on_reply, on_message, on_refusal}
 use Rattle.tariff_core.specs.declared.route.Route.{Route}
 use Rattle.tariff_core.specs.declared.times.TheConstants.{DAY}
 
@@ -15,7 +15,7 @@ pub data Input : Type 0 where
   Answer : Reply → Input
   Refusal : Input
 
--- the table
+-- the rules
 abbrev pub step : Phase → Input → Step
 step phase (Message number at message) = on_message phase number at message
 step phase (Answer reply) = on_reply phase reply
@@ -96,7 +96,7 @@ abbrev pub OneReturnIfGranted : Type 0
 OneReturnIfGranted = (call now wanted least : ℕ) (route : Option Route) (run : List Exchange) (phase : Phase)
     → IsDialogueRun (on_begin call now wanted least route) run phase → is_over phase ≡ true → returns_asked run ≡ (if was_granted run then 1 else 0)
 
--- a reply of the kind that an account gives to what was asked last has its place in the table
+-- a reply of the kind that an account gives to what was asked last has its place in the rules
 abbrev pub HonestRepliesAreExpected : Type 0
 HonestRepliesAreExpected = (call now wanted least : ℕ) (route : Option Route) (run : List Exchange) (phase : Phase) (asked : Asked) (reply : Reply)
     → IsDialogueRun (on_begin call now wanted least route) run phase → last_said (on_begin call now wanted least route) run ≡ Asks asked

@@ -5,7 +5,7 @@ use Rattle.account_core.specs.declared.entry.Reply.{Reply}
 use Rattle.account_core.specs.declared.fault.AccountFault.{AccountFault}
 use Rattle.cap_values.specs.Orders.{Order}
 use Rattle.dialogue_core.specs.Phases.{Phase, Says, Settling, MoreAsk, Asks, Sends, Finished}
-use Rattle.dialogue_core.specs.Table.{Step, on_reply, on_refusal}
+use Rattle.dialogue_core.specs.Rules.{Step, on_reply, on_refusal}
 
 -- what an ask gets: the account's reply, or its refusal
 abbrev pub Got : Type 0
@@ -16,7 +16,7 @@ abbrev pub or_done : Phase → Step → Says × Phase
 or_done phase (Ok next) = next
 or_done phase (Err fault) = (Finished, phase)
 
--- what the dialogue says to what its ask got, and where it is then: by the table of the service
+-- what the dialogue says to what its ask got, and where it is then: by the rules of the service
 abbrev pub after_got : Phase → Got → Says × Phase
 after_got phase (Ok reply) = or_done phase (on_reply phase reply)
 after_got phase (Err fault) = or_done phase (on_refusal phase)

@@ -1,11 +1,11 @@
 -- What a dialogue of the code stands for.
 use Rattle.std.specs.Prelude.{◌≡◌, Result, Ok, Err}
-use Rattle.account_core.specs.Events.{asked_of}
+use Rattle.account_core.specs.Entries.{asked_of}
 use Rattle.cap_values.specs.Orders.{orders_of}
 use Rattle.tariff_core.specs.RatesOf.{rates_of}
 use Rattle.dialogue_core.specs.Phases.{Conditions, Phase, Says, Sequel}
 use Rattle.dialogue_core.specs.Phases as phase
-use Rattle.dialogue_core.specs.Table.{Step}
+use Rattle.dialogue_core.specs.Rules.{Step}
 use Rattle.dialogue_core.specs.declared.dialogue.Dialogue.{Dialogue}
 use Rattle.dialogue_core.specs.declared.fault.DialogueFault.{DialogueFault}
 use Rattle.dialogue_core.specs.declared.state.State.{State}
@@ -49,7 +49,7 @@ says_of (turn.Ask op) = phase.Asks (asked_of op)
 says_of (turn.Send ops) = phase.Sends (orders_of ops.items)
 says_of turn.Done = phase.Finished
 
--- what is done, and the state after, are the table's; a refusal is the table's too
-abbrev pub FollowsTable : Result (Turn × State) DialogueFault → Step → Type 0
-FollowsTable (Ok next) step = step ≡ Ok (says_of next.0, phase_at next.1)
-FollowsTable (Err fault) step = step ≡ Err fault
+-- what is done, and the state after, are by the rules, and so is a refusal
+abbrev pub FollowsRules : Result (Turn × State) DialogueFault → Step → Type 0
+FollowsRules (Ok next) step = step ≡ Ok (says_of next.0, phase_at next.1)
+FollowsRules (Err fault) step = step ≡ Err fault

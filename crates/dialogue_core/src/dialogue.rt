@@ -3,9 +3,9 @@
 ghost use Rattle.std.specs.Prelude.{◌≡◌, ◌+◌, ◌<◌, ◌≤◌, Ok, Err, IfOk, IfErr};
 ghost use Rattle.std.specs.Option.{ForSome};
 ghost use Rattle.cap_values.specs.Orders.{orders_of};
-ghost use Rattle.dialogue_core.specs.Table.{on_begin, on_reply, seconds_to, on_message, on_refusal, ending, give_back, going_on, event_reported, while_running, active_reply, are_units, first_reply, last_reply, more_reply, reserve, on_return_reply, sequel};
+ghost use Rattle.dialogue_core.specs.Rules.{on_begin, on_reply, seconds_to, on_message, on_refusal, ending, give_back, going_on, event_reported, while_running, active_reply, are_units, first_reply, last_reply, more_reply, reserve, on_return_reply, sequel};
 ghost use Rattle.dialogue_core.specs.Talks.{after_got, asks_after, asks_left, orders_sent_by};
-ghost use Rattle.dialogue_core.specs.Views.{FollowsTable, phase_at, phase_of, says_of, conditions_of, sequel_of};
+ghost use Rattle.dialogue_core.specs.Views.{FollowsRules, phase_at, phase_of, says_of, conditions_of, sequel_of};
 ghost use Rattle.dialogue_core.specs.Phases.{Asks};
 
 use crate::operations::{first_period, further_period, go_on, nothing, release};
@@ -135,14 +135,14 @@ impl Dialogue {
     }
 }
 
-/// The table's rows for a message.
+/// The rules for a message.
 fn on_message(
     state: State,
     number: u64,
     at: u64,
     message: SsfMsg,
 ) -> Result<(Turn, State), DialogueFault>
-    ensures { FollowsTable result (on_message (phase_at state) number at message) }
+    ensures { FollowsRules result (on_message (phase_at state) number at message) }
 {
     match state {
         State::Running(terms) => running(terms, number, at, message),
@@ -155,9 +155,9 @@ fn on_message(
     }
 }
 
-/// The table's rows for a reply.
+/// The rules for a reply.
 fn on_reply(state: State, reply: Reply) -> Result<(Turn, State), DialogueFault>
-    ensures { FollowsTable result (on_reply (phase_at state) reply) }
+    ensures { FollowsRules result (on_reply (phase_at state) reply) }
 {
     match state {
         State::FirstAsk(terms) => first_reply(terms, reply),
@@ -176,9 +176,9 @@ fn on_reply(state: State, reply: Reply) -> Result<(Turn, State), DialogueFault>
     }
 }
 
-/// The table's rows for a refusal.
+/// The rules for a refusal.
 fn on_refusal(state: State) -> Result<(Turn, State), DialogueFault>
-    ensures { FollowsTable result (on_refusal (phase_at state)) }
+    ensures { FollowsRules result (on_refusal (phase_at state)) }
 {
     match state {
         State::FirstAsk(_) => Ok((release(Cause::temporary_failure()), State::Ending)),
@@ -216,7 +216,7 @@ fn running(
     at: u64,
     message: SsfMsg,
 ) -> Result<(Turn, State), DialogueFault>
-    ensures { FollowsTable result (while_running (conditions_of terms) number at message) }
+    ensures { FollowsRules result (while_running (conditions_of terms) number at message) }
 {
     match message {
         SsfMsg::InitialDp { .. } => Err(DialogueFault::Unexpected),
@@ -232,7 +232,7 @@ fn running(
 
 /// An event of a call that was granted time: any but the answer ends it.
 fn reported(terms: Terms, event: Event, mode: Mode) -> Result<(Turn, State), DialogueFault>
-    ensures { FollowsTable result (event_reported (conditions_of terms) event mode) }
+    ensures { FollowsRules result (event_reported (conditions_of terms) event mode) }
 {
     match event {
         Event::Answer => Ok((nothing(), State::Running(terms))),
@@ -242,7 +242,7 @@ fn reported(terms: Terms, event: Event, mode: Mode) -> Result<(Turn, State), Dia
 
 /// A message after the account is done with.
 fn ending(message: SsfMsg) -> Result<(Turn, State), DialogueFault>
-    ensures { FollowsTable result (ending message) }
+    ensures { FollowsRules result (ending message) }
 {
     match message {
         SsfMsg::EventReport { mode, .. } => Ok(sequel(going_on(mode))),
@@ -263,7 +263,7 @@ fn going_on(mode: Mode) -> Then
 
 /// The reply to the first reserve.
 fn first_reply(terms: Terms, reply: Reply) -> Result<(Turn, State), DialogueFault>
-    ensures { FollowsTable result (first_reply (conditions_of terms) reply) }
+    ensures { FollowsRules result (first_reply (conditions_of terms) reply) }
 {
     match reply {
         Reply::Granted { units, last, .. } => {
@@ -280,7 +280,7 @@ fn first_reply(terms: Terms, reply: Reply) -> Result<(Turn, State), DialogueFaul
 
 /// The reply to a report of a call that goes on, taken at a moment.
 fn active_reply(terms: Terms, at: u64, reply: Reply) -> Result<(Turn, State), DialogueFault>
-    ensures { FollowsTable result (active_reply (conditions_of terms) at reply) }
+    ensures { FollowsRules result (active_reply (conditions_of terms) at reply) }
 {
     match reply {
         Reply::Settled { .. } => Ok((reserve(terms, at), State::MoreAsk(terms))),
@@ -291,7 +291,7 @@ fn active_reply(terms: Terms, at: u64, reply: Reply) -> Result<(Turn, State), Di
 
 /// The reply to the last report of a call.
 fn last_reply(terms: Terms, reply: Reply) -> Result<(Turn, State), DialogueFault>
-    ensures { FollowsTable result (last_reply (conditions_of terms) reply) }
+    ensures { FollowsRules result (last_reply (conditions_of terms) reply) }
 {
     match reply {
         Reply::Settled { .. } => Ok(give_back(terms, Then::Nothing)),
@@ -302,7 +302,7 @@ fn last_reply(terms: Terms, reply: Reply) -> Result<(Turn, State), DialogueFault
 
 /// The reply to a further reserve.
 fn more_reply(terms: Terms, reply: Reply) -> Result<(Turn, State), DialogueFault>
-    ensures { FollowsTable result (more_reply (conditions_of terms) reply) }
+    ensures { FollowsRules result (more_reply (conditions_of terms) reply) }
 {
     match reply {
         Reply::Granted { units, last, .. } => {
@@ -318,7 +318,7 @@ fn more_reply(terms: Terms, reply: Reply) -> Result<(Turn, State), DialogueFault
 
 /// The reply to a return.
 fn return_reply(next: Then, reply: Reply) -> Result<(Turn, State), DialogueFault>
-    ensures { FollowsTable result (on_return_reply (sequel_of next) reply) }
+    ensures { FollowsRules result (on_return_reply (sequel_of next) reply) }
 {
     match reply {
         Reply::Returned { .. } => Ok(sequel(next)),

@@ -17,7 +17,7 @@ use cap_values::ScfOp;
 pub trait Asker<P> {
     ghost use Rattle.std.specs.Prelude.{IfOk, IfErr, OnOk};
     ghost use Rattle.account_core.specs.Asked.{Asked};
-    ghost use Rattle.account_core.specs.Events.{asked_of};
+    ghost use Rattle.account_core.specs.Entries.{asked_of};
     ghost use Rattle.dialogue_core.specs.Talks.{Got};
 
     /// Why an ask got nothing.

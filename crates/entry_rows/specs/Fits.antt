@@ -1,7 +1,7 @@
 -- The operations whose numbers a row may have, and the entries.
 use Rattle.std.specs.Prelude.{◌≤◌, ℕ, IfSome}
 use Rattle.account_core.specs.Asked.{Asked, Credits, Reserves, Settles, Returns}
-use Rattle.account_core.specs.Events.{EntryData}
+use Rattle.account_core.specs.Entries.{EntryData}
 use Rattle.account_core.specs.Laws.{IsReplyInRange}
 use Rattle.tariff_core.specs.Rates.{Rates}
 use Rattle.tariff_core.specs.declared.times.TimeInfo.{TimeInfo}
@@ -56,7 +56,7 @@ FitsAsked (Settles call number report) = IsWide call × IsWide number × FitsRep
 FitsAsked (Returns call) = IsWide call
 
 -- an entry of one of 16 seats
-pub record FitsEvent (event : EntryData) : Type 0 where
-  pub seat : event.seat ≤ 15
-  pub asked : FitsAsked event.asked
-  pub reply : IsReplyInRange event.reply
+pub record FitsEntry (entry : EntryData) : Type 0 where
+  pub seat : entry.seat ≤ 15
+  pub asked : FitsAsked entry.asked
+  pub reply : IsReplyInRange entry.reply

@@ -1,7 +1,7 @@
 //! What is written of an operation and of a reply, in the columns of the table of books.
 
 ghost use Rattle.std.specs.Prelude.{◌≡◌, ◌++◌, [], OnOk, string_bytes};
-ghost use Rattle.account_core.specs.Events.{asked_of};
+ghost use Rattle.account_core.specs.Entries.{asked_of};
 ghost use Rattle.entry_rows.specs.Columns.{reply_fields, answer_text, in_fourth, opening_columns, operation_of, operation_text, settle_of, steps_columns};
 
 use crate::{Field, Version};

@@ -7,8 +7,8 @@
 mod columns;
 mod field;
 mod laws;
+mod offsets;
 mod operation;
-mod places;
 mod reply;
 mod response;
 mod seat;

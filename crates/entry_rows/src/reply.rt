@@ -7,8 +7,8 @@ ghost use Rattle.entry_rows.specs.Column.{money_of};
 ghost use Rattle.entry_rows.specs.Columns.{answer_at};
 ghost use Rattle.entry_rows.specs.Replies.{granted_in, is_reply_blank, reply_in};
 
+use crate::offsets::{Y1, Y2, Y3};
 use crate::operation::read_units;
-use crate::places::{Y1, Y2, Y3};
 use crate::words::ReplyWord;
 use account_core::Reply;
 use csv::ByteRecord;

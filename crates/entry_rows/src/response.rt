@@ -1,7 +1,7 @@
 //! What an account is asked and what it answers, in words.
 
 ghost use Rattle.std.specs.Prelude.{◌≡◌, ◌++◌, OnOk, string_bytes};
-ghost use Rattle.account_core.specs.Events.{asked_of};
+ghost use Rattle.account_core.specs.Entries.{asked_of};
 ghost use Rattle.entry_rows.specs.Responses.{granted_text, reply_text, response_text, operation_word};
 
 use account_core::{AccountFault, Op, Reply};

@@ -20,7 +20,7 @@ pub enum Version {
 impl Version {
     /// The version of a header, by its place from 0 among the headers of all versions, oldest
     /// first.
-    pub fn at(header: usize) -> Version
+    pub fn of_header(header: usize) -> Version
         ensures { result ≡ version_at header }
     {
         match header {

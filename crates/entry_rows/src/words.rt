@@ -6,7 +6,7 @@ ghost use Rattle.table_core.specs.Fields.{field_in};
 ghost use Rattle.entry_rows.specs.Columns.{answer_at, first_operation_at};
 ghost use Rattle.entry_rows.specs.Words.{granted_word_in, op_word_in, reply_word_in, report_word_in};
 
-use crate::places::{X2, Y2};
+use crate::offsets::{X2, Y2};
 use csv::ByteRecord;
 use table_core::{RowKind, field};
 

@@ -1,4 +1,4 @@
--- A part of an input begins within it.
+-- A section of an input begins within it.
 use Rattle.std.proofs.Common.{◌≤◌, ℕ, List, length, arith}
 use Rattle.explanations.specs.Sections.{IsSection}
 use Rattle.explanations.specs.declared.sections.Section.{Section}

@@ -34,8 +34,8 @@ unfoldable pub shown_columns : ℕ → List ℕ → List ℕ
 shown_columns room [] = []
 shown_columns room (byte ∷ text) = if ends_shown room byte then [] else shown_byte byte ++ shown_columns (room - shown_width byte) text
 
--- `line 24 of the input: 400,1,disconnect,1`: the line in which a row begins at a byte of a part that has this text in front of it, one more than the LF in front of
+-- `line 24 of the input: 400,1,disconnect,1`: the line in which a row begins at a byte of a table that has this text in front of it, one more than the LF in front of
 -- the row, and what is in it from that byte on, in `MOST_COLUMNS` columns
 abbrev pub shown_row_line : List ℕ → List ℕ → ℕ → List ℕ
-shown_row_line before part at =
-    codes "line " ++ (decimal (lines_ended before + lines_ended (take at part) + 1) ++ (codes " of the input: " ++ (shown_columns MOST_COLUMNS (drop at part) ++ codes "\n")))
+shown_row_line before table at =
+    codes "line " ++ (decimal (lines_ended before + lines_ended (take at table) + 1) ++ (codes " of the input: " ++ (shown_columns MOST_COLUMNS (drop at table) ++ codes "\n")))

@@ -1,19 +1,19 @@
--- The parts of an input, and where they begin.
+-- The sections of an input, and where they begin.
 use Rattle.std.specs.Prelude.{◌≡◌, ◌-◌, ℕ, List, length, Ok}
-use Rattle.run_texts.specs.FirstParts.{first_part}
+use Rattle.run_texts.specs.FirstSections.{first_section}
 use Rattle.explanations.specs.declared.sections.Section.{Section}
 use Rattle.explanations.specs.declared.sections.Section.TheVariants as section
 
 -- a text is what is in front of the first line `%%`
 pub record IsFirstSection (input text : List ℕ) : Type 0 where
   pub rest : List ℕ
-  pub divided : first_part input ≡ Ok (record { part = text; rest = rest })
+  pub divided : first_section input ≡ Ok (record { section = text; rest = rest })
 
 -- a text is what is between the first two such lines
 pub record IsSecond (input : List ℕ) (start : ℕ) (text : List ℕ) : Type 0 where
   pub before : List ℕ
   pub behind : List ℕ
-  pub divided : first_part input ≡ Ok (record { part = before; rest = behind })
+  pub divided : first_section input ≡ Ok (record { section = before; rest = behind })
   pub begins : start ≡ length input - length behind
   pub first : IsFirstSection behind text
 
@@ -22,11 +22,11 @@ pub record IsThird (input : List ℕ) (start : ℕ) (text : List ℕ) : Type 0 w
   pub before : List ℕ
   pub between : List ℕ
   pub behind : List ℕ
-  pub divided : first_part input ≡ Ok (record { part = before; rest = behind })
-  pub again : first_part behind ≡ Ok (record { part = between; rest = text })
+  pub divided : first_section input ≡ Ok (record { section = before; rest = behind })
+  pub again : first_section behind ≡ Ok (record { section = between; rest = text })
   pub begins : start ≡ length input - length text
 
--- a part of an input: the byte at which it begins, and its text
+-- a section of an input: the byte at which it begins, and its text
 abbrev pub IsSection : Section → List ℕ → ℕ → List ℕ → Type 0
 IsSection section.Whole input start text = (start ≡ 0) × (text ≡ input)
 IsSection section.First input start text = (start ≡ 0) × IsFirstSection input text

@@ -8,7 +8,7 @@ use Rattle.explanations.specs.declared.sections.Section.TheVariants as section
 use Rattle.explanations.specs.declared.slip.Slip.{Slip}
 use Rattle.explanations.specs.declared.slip.Slip.TheVariants as slip
 
--- the part of the input that the table is
+-- the section of the input that the table is
 abbrev pub section_of : Slip → Section
 section_of (slip.Reports fault) = section.Whole
 section_of (slip.Ops fault) = section.Whole
@@ -28,23 +28,23 @@ slip_row (slip.RunTariff fault) = fault.row
 slip_row (slip.Setup fault) = fault.row
 slip_row (slip.Script fault) = fault.row
 
--- a row of a part that has this text in front of it begins in this line
-pub record BeginsIn (before part : List ℕ) (row : ℕ) (line : List ℕ) : Type 0 where
+-- a row of a table that has this text in front of it begins in this line
+pub record BeginsIn (before table : List ℕ) (row : ℕ) (line : List ℕ) : Type 0 where
   pub at : ℕ
-  pub begins : BeginsRow part row at
-  pub line_is : line ≡ shown_row_line before part at
+  pub begins : BeginsRow table row at
+  pub line_is : line ≡ shown_row_line before table at
 
--- the line of a row, or none where the part has fewer rows
+-- the line of a row, or none where the table has fewer rows
 abbrev pub IsLineOf : List ℕ → List ℕ → ℕ → List ℕ → Type 0
-IsLineOf before part row line = BeginsIn before part row line ⊎ (HasFewer part row × (line ≡ []))
+IsLineOf before table row line = BeginsIn before table row line ⊎ (HasFewer table row × (line ≡ []))
 
--- the same of a row of a part of the input
+-- the same of a row of a section of the input
 pub record ShowsRow (input : List ℕ) (section : Section) (row : ℕ) (line : List ℕ) : Type 0 where
-  -- the part, and where it begins
+  -- the table, and where it begins
   pub start : ℕ
-  pub part : List ℕ
-  pub is_section : IsSection section input start part
-  pub is_line : IsLineOf (take start input) part row line
+  pub table : List ℕ
+  pub is_section : IsSection section input start table
+  pub is_line : IsLineOf (take start input) table row line
 
 -- an explanation: the line of the row, and what is wrong there
 pub record Explains (input : List ℕ) (slip : Slip) (text : List ℕ) : Type 0 where

@@ -9,9 +9,9 @@ pub fn explain_dividers(alloc: Global, input: &[u8], wanted: u32) -> Result<Stri
     let mut near = String::new(alloc);
     let mut found: u64 = 0;
     let mut line: u64 = 0;
-    for part in input.split(|byte| *byte == b'\n') {
+    for piece in input.split(|byte| *byte == b'\n') {
         line = line.saturating_add(1);
-        match looks_of(part) {
+        match looks_of(piece) {
             Looks::Divides => {
                 found = found.saturating_add(1);
                 if found <= 5 {

@@ -1,7 +1,7 @@
 //! Rows that don't go with the rows above them.
 
 use crate::Slip;
-use crate::found_rows::{Sought, at, find_above, rows_at};
+use crate::found_rows::{Sought, field_at, find_above, rows_at};
 use crate::reasons::Faulty;
 use crate::row_line::push_shown;
 use csv::ByteRecord;
@@ -20,9 +20,9 @@ pub(crate) fn push_order(
     };
     if let Slip::Script(_) = table.slip {
         write!(text, "moment ")?;
-        push_shown(text, at(row, 0))?;
+        push_shown(text, field_at(row, 0))?;
         write!(text, " lies below ")?;
-        push_shown(text, at(above.row(), 0))?;
+        push_shown(text, field_at(above.row(), 0))?;
         return writeln!(text, " in row {number}");
     }
     write!(text, "times ")?;
@@ -37,9 +37,9 @@ pub(crate) fn push_order(
 
 /// Adds the times of a report.
 fn push_times(text: &mut String, row: &ByteRecord) -> Result<(), AllocError> {
-    push_shown(text, at(row, 0))?;
+    push_shown(text, field_at(row, 0))?;
     write!(text, ",")?;
-    push_shown(text, at(row, 1))
+    push_shown(text, field_at(row, 1))
 }
 
 /// Adds what a row names, and the row above that names it already.
@@ -51,19 +51,19 @@ pub(crate) fn push_repeated(
 ) -> Result<(), AllocError> {
     let (word, key, name) = match table.slip {
         Slip::Script(_) => (2, 1, "call".as_bytes()),
-        Slip::Setup(_) => (0, 1, at(row, 0)),
+        Slip::Setup(_) => (0, 1, field_at(row, 0)),
         _ => (2, 0, "account".as_bytes()),
     };
     let sought = Sought {
-        word: (word, at(row, word)),
-        key: (key, at(row, key)),
+        word: (word, field_at(row, word)),
+        key: (key, field_at(row, key)),
     };
     let Some(number) = find_above(alloc, table.text, table.row, sought)? else {
         return Ok(());
     };
     push_shown(text, name)?;
     write!(text, " ")?;
-    push_shown(text, at(row, key))?;
+    push_shown(text, field_at(row, key))?;
     writeln!(text, " is in row {number} already")
 }
 
@@ -74,7 +74,7 @@ pub(crate) fn push_unknown(
     row: &ByteRecord,
 ) -> Result<(), AllocError> {
     let (name, place, why) = match slip {
-        Slip::Script(_) if at(row, 2) == b"recharge".as_slice() => {
+        Slip::Script(_) if field_at(row, 2) == b"recharge".as_slice() => {
             ("account", 3, "isn't in the setup")
         }
         Slip::Script(_) => ("call", 1, "isn't started in an earlier row"),
@@ -82,6 +82,6 @@ pub(crate) fn push_unknown(
         _ => ("account", 0, "isn't opened in an earlier row"),
     };
     write!(text, "{name} ")?;
-    push_shown(text, at(row, place))?;
+    push_shown(text, field_at(row, place))?;
     writeln!(text, " {why}")
 }

@@ -1,7 +1,7 @@
 //! Fields that must be empty and aren't.
 
 use crate::Slip;
-use crate::found_rows::at;
+use crate::found_rows::field_at;
 use crate::row_line::push_shown;
 use crate::wants::push_column;
 use csv::ByteRecord;
@@ -15,10 +15,10 @@ pub(crate) fn push_not_empty(
     row: &ByteRecord,
 ) -> Result<(), AllocError> {
     for place in 0..row.len() {
-        if !at(row, place).is_empty() && takes_nothing(slip, row, place) {
-            push_column(text, at(names, place))?;
+        if !field_at(row, place).is_empty() && takes_nothing(slip, row, place) {
+            push_column(text, field_at(names, place))?;
             write!(text, ": ")?;
-            push_shown(text, at(row, place))?;
+            push_shown(text, field_at(row, place))?;
             write!(text, ", where ")?;
             push_shown(text, word_for(slip, row, place))?;
             return writeln!(text, " takes nothing");
@@ -30,24 +30,24 @@ pub(crate) fn push_not_empty(
 /// The word of a row because of which a column takes nothing.
 fn word_for(slip: Slip, row: &ByteRecord, place: usize) -> &[u8] {
     match slip {
-        Slip::Script(_) => at(row, 2),
-        Slip::Ops(_) => at(row, 1),
+        Slip::Script(_) => field_at(row, 2),
+        Slip::Ops(_) => field_at(row, 1),
         Slip::Book(_) => {
             let reply = row.len().saturating_sub(4);
-            if place < reply || at(row, 2) == b"opening".as_slice() {
-                at(row, 2)
+            if place < reply || field_at(row, 2) == b"opening".as_slice() {
+                field_at(row, 2)
             } else {
-                at(row, reply)
+                field_at(row, reply)
             }
         }
-        _ => at(row, 0),
+        _ => field_at(row, 0),
     }
 }
 
 /// Whether a column must be empty in a row with its words.
 fn takes_nothing(slip: Slip, row: &ByteRecord, place: usize) -> bool {
     match slip {
-        Slip::Script(_) => script_takes_nothing(at(row, 2), place),
+        Slip::Script(_) => script_takes_nothing(field_at(row, 2), place),
         Slip::Setup(_) => place == 3,
         Slip::Ops(_) => place >= 1 && operation_takes_nothing(row, 1, row.len(), place),
         Slip::Book(_) => book_takes_nothing(row, place),
@@ -70,13 +70,13 @@ fn script_takes_nothing(what: &[u8], place: usize) -> bool {
 
 /// The same of an operation whose columns begin at a place, and end before another.
 fn operation_takes_nothing(row: &ByteRecord, op: usize, end: usize, place: usize) -> bool {
-    let word = at(row, op);
+    let word = field_at(row, op);
     let column = place.saturating_sub(op);
     let has_moments = end.saturating_sub(op) > 8;
     if word == b"reserve".as_slice() || column == 0 {
         false
     } else if word == b"settle".as_slice() {
-        let last = if at(row, op.saturating_add(3)) == b"s".as_slice() {
+        let last = if field_at(row, op.saturating_add(3)) == b"s".as_slice() {
             5
         } else {
             4
@@ -92,7 +92,7 @@ fn operation_takes_nothing(row: &ByteRecord, op: usize, end: usize, place: usize
 /// The same of a book.
 fn book_takes_nothing(row: &ByteRecord, place: usize) -> bool {
     let reply = row.len().saturating_sub(4);
-    let is_opening = at(row, 2) == b"opening".as_slice();
+    let is_opening = field_at(row, 2) == b"opening".as_slice();
     if place < 2 {
         return is_opening && place == 1;
     }
@@ -102,7 +102,7 @@ fn book_takes_nothing(row: &ByteRecord, place: usize) -> bool {
     if is_opening {
         return true;
     }
-    let word = at(row, reply);
+    let word = field_at(row, reply);
     let column = place - reply;
     if word == b"granted".as_slice() || column == 0 || column == 3 {
         false

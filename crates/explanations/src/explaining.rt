@@ -7,7 +7,7 @@ use crate::Slip;
 use crate::open_quote::open_quote;
 use crate::reasons::{Faulty, reason};
 use crate::row_line::push_row_line;
-use crate::sections::part_of;
+use crate::sections::find_section;
 use crate::starts::row_start;
 use std::alloc::{AllocError, Global};
 
@@ -17,41 +17,41 @@ use std::alloc::{AllocError, Global};
 pub fn explain(alloc: Global, input: &[u8], slip: Slip) -> Result<String, AllocError>
     ensures { IfOk result (λ text. Explains input.now slip (string_bytes text)) }
 {
-    let Ok(part) = part_of(alloc, input, slip.section()) else {
+    let Ok(found) = find_section(alloc, input, slip.section()) else {
         return Err(AllocError);
     };
-    let (before, table) = (&input[..part.start], part.text.as_slice());
+    let (before, table) = (&input[..found.start], found.text.as_slice());
     let mut text = line_of(alloc, before, table, slip.row())?;
     let more = more_of(alloc, before, table, slip)?;
     text.push_str(more.as_str())?;
     Ok(text)
 }
 
-/// The line in which a row of a part begins that has this text in front of it; empty where the part
-/// has fewer rows.
-fn line_of(alloc: Global, before: &[u8], part: &[u8], row: u32) -> Result<String, AllocError>
-    ensures { IfOk result (λ line. IsLineOf before.now part.now row (string_bytes line)) }
+/// The line in which a row of a table begins that has this text in front of it; empty where the
+/// table has fewer rows.
+fn line_of(alloc: Global, before: &[u8], table: &[u8], row: u32) -> Result<String, AllocError>
+    ensures { IfOk result (λ line. IsLineOf before.now table.now row (string_bytes line)) }
 {
     let mut line = String::new(alloc);
-    if let Some(at) = row_start(part, row) {
-        push_row_line(&mut line, before, part, at)?;
+    if let Some(at) = row_start(table, row) {
+        push_row_line(&mut line, before, table, at)?;
     }
     Ok(line)
 }
 
-/// What is wrong with a row of a part, and where a quote is open in it.
-fn more_of(alloc: Global, before: &[u8], part: &[u8], slip: Slip) -> Result<String, AllocError> {
+/// What is wrong with a row of a table, and where a quote is open in it.
+fn more_of(alloc: Global, before: &[u8], table: &[u8], slip: Slip) -> Result<String, AllocError> {
     let row = slip.row();
     let mut text = reason(
         alloc,
         Faulty {
-            text: part,
+            text: table,
             slip,
             row,
         },
     )?;
-    if let Some(start) = row_start(part, row) {
-        if let Some(line) = open_quote(before, part, start) {
+    if let Some(start) = row_start(table, row) {
+        if let Some(line) = open_quote(before, table, start) {
             writeln!(text, "a quote is open since line {line}")?;
         }
     }

@@ -1,7 +1,7 @@
 //! The forms of the tables: their headers, their words, and what their columns take.
 
 use crate::Slip;
-use crate::found_rows::at;
+use crate::found_rows::field_at;
 use crate::wants::{Column, Wants, first_refused};
 use csv::ByteRecord;
 use tariff_core::{DAY, HORIZON, MAX_MOMENT, MAX_MONEY, MAX_RATE};
@@ -28,7 +28,7 @@ pub(crate) fn refused_in_script(row: &ByteRecord) -> Option<Column> {
     let moment = column(0, Wants::Moment(MAX_MOMENT));
     let call = column(1, Wants::Number(0, u64::MAX));
     let party = Wants::Digits(1, 15);
-    let what = at(row, 2);
+    let what = field_at(row, 2);
     let end = row.len();
     if what == b"start".as_slice() {
         first_refused(
@@ -51,7 +51,7 @@ pub(crate) fn refused_in_script(row: &ByteRecord) -> Option<Column> {
 /// The column of a row of a setup whose field the reader refuses.
 pub(crate) fn refused_in_setup(row: &ByteRecord) -> Option<Column> {
     let number = Wants::Number(0, u64::from(u32::MAX));
-    if at(row, 0) == b"account".as_slice() {
+    if field_at(row, 0) == b"account".as_slice() {
         let opening = column(2, Wants::Number(0, MAX_MONEY));
         let until = column(3, Wants::OptionalMoment(MAX_MOMENT));
         first_refused(row, row.len(), &[column(1, number), opening, until])
@@ -77,7 +77,7 @@ pub(crate) fn refused_in_ops(row: &ByteRecord) -> Option<Column> {
 pub(crate) fn refused_in_book(row: &ByteRecord) -> Option<Column> {
     let reply = row.len().saturating_sub(4);
     let account = column(0, Wants::Number(0, u64::from(u32::MAX)));
-    if at(row, OP_OF_BOOK) == b"opening".as_slice() {
+    if field_at(row, OP_OF_BOOK) == b"opening".as_slice() {
         let opening = column(4, Wants::Number(0, MAX_MONEY));
         let until = column(5, Wants::Optional(0, HORIZON));
         return first_refused(row, reply, &[account, opening, until]);
@@ -92,7 +92,7 @@ pub(crate) fn refused_in_book(row: &ByteRecord) -> Option<Column> {
 /// before another.
 fn refused_operation(row: &ByteRecord, op: usize, end: usize) -> Option<Column> {
     let op = op.min(16);
-    let word = at(row, op);
+    let word = field_at(row, op);
     let call = column(op + 1, Wants::Number(0, u64::MAX));
     let time = Wants::Number(0, u64::from(DAY));
     if word == b"credit".as_slice() {
@@ -104,7 +104,7 @@ fn refused_operation(row: &ByteRecord, op: usize, end: usize) -> Option<Column> 
     } else if word == b"settle".as_slice() {
         let number = column(op + 2, Wants::Number(0, u64::MAX));
         let before = column(op + 5, Wants::Optional(1, u64::from(DAY)));
-        if at(row, op + 3) == b"s".as_slice() {
+        if field_at(row, op + 3) == b"s".as_slice() {
             first_refused(row, end, &[column(op + 4, time), before, call, number])
         } else {
             first_refused(row, end, &[column(op + 4, time), call, number])
@@ -138,7 +138,7 @@ fn refused_plan(row: &ByteRecord, op: usize, end: usize) -> Option<Column> {
 
 /// The column of a reply whose field the reader refuses, its columns from a place on.
 fn refused_reply(row: &ByteRecord, reply: usize) -> Option<Column> {
-    let word = at(row, reply);
+    let word = field_at(row, reply);
     let money = Wants::Number(0, MAX_MONEY);
     let available = column(reply.saturating_add(3), money);
     let first = reply.saturating_add(1);
@@ -180,7 +180,7 @@ pub(crate) fn headers_of(slip: Slip) -> &'static str {
 }
 
 /// How many rows the table of a slip has at most.
-pub(crate) fn limit_of(slip: Slip) -> &'static str {
+pub(crate) fn most_rows_of(slip: Slip) -> &'static str {
     match slip {
         Slip::Script(_) | Slip::Book(_) => "1000000 rows",
         Slip::Setup(_) => "10000 rows and 1000 accounts",

@@ -23,7 +23,7 @@ pub(crate) fn rows_at(
 }
 
 /// The field of a row at a place, and no bytes behind its last one.
-pub(crate) fn at(row: &ByteRecord, place: usize) -> &[u8] {
+pub(crate) fn field_at(row: &ByteRecord, place: usize) -> &[u8] {
     match row.get(place) {
         Some(field) => field,
         None => &[],
@@ -63,7 +63,8 @@ pub(crate) fn find_above(
 
 /// Whether a row has what is looked for.
 fn has(row: &ByteRecord, sought: Sought<'_>) -> bool {
-    at(row, sought.word.0) == sought.word.1 && are_same(at(row, sought.key.0), sought.key.1)
+    field_at(row, sought.word.0) == sought.word.1
+        && are_same(field_at(row, sought.key.0), sought.key.1)
 }
 
 /// Whether two fields have the same text, or are the same number.

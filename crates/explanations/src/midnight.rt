@@ -1,6 +1,6 @@
 //! Rows of a tariff that don't go with its other rows.
 
-use crate::found_rows::{at, rows_at};
+use crate::found_rows::{field_at, rows_at};
 use crate::reasons::Faulty;
 use crate::row_line::push_shown;
 use csv::ByteRecord;
@@ -24,7 +24,7 @@ pub(crate) fn push_repeated_band(
         if number > 1 && is_repeated(rows.row(), row) {
             push_prefix(text, row)?;
             write!(text, " from ")?;
-            push_shown(text, at(row, 1))?;
+            push_shown(text, field_at(row, 1))?;
             return writeln!(text, " is in row {number} already");
         }
     }
@@ -33,9 +33,9 @@ pub(crate) fn push_repeated_band(
 
 /// Whether two rows have a prefix, a start and a day in common.
 fn is_repeated(one: &ByteRecord, other: &ByteRecord) -> bool {
-    let (days, others) = (at(one, 7), at(other, 7));
-    at(one, 0) == at(other, 0)
-        && at(one, 1) == at(other, 1)
+    let (days, others) = (field_at(one, 7), field_at(other, 7));
+    field_at(one, 0) == field_at(other, 0)
+        && field_at(one, 1) == field_at(other, 1)
         && (days.is_empty() || others.is_empty() || have_one_in_common(days, others))
 }
 
@@ -60,14 +60,14 @@ pub(crate) fn push_no_midnight(
 ) -> Result<(), AllocError> {
     push_prefix(text, row)?;
     write!(text, " counts from ")?;
-    let Some(last) = push_starts(text, alloc, table, at(row, 0))? else {
+    let Some(last) = push_starts(text, alloc, table, field_at(row, 0))? else {
         return writeln!(text);
     };
     if row.len() > 7 {
         return writeln!(text, ", and not from 00:00 on each day of the week");
     }
     write!(text, ", and nothing from 00:00: add ")?;
-    push_shown(text, at(row, 0))?;
+    push_shown(text, field_at(row, 0))?;
     write!(
         text,
         ",00:00,.. with what counts at midnight, mostly the row of "
@@ -92,14 +92,14 @@ fn push_starts(
             Err(_) => return Err(AllocError),
         }
         let row = rows.row();
-        if at(row, 0) != prefix {
+        if field_at(row, 0) != prefix {
             continue;
         }
         if last.is_some() {
             write!(text, " and ")?;
         }
-        push_shown(text, at(row, 1))?;
-        last = Some(later(alloc, last, at(row, 1))?);
+        push_shown(text, field_at(row, 1))?;
+        last = Some(later(alloc, last, field_at(row, 1))?);
     }
     Ok(last)
 }
@@ -116,9 +116,9 @@ fn later(alloc: Global, last: Option<String>, start: &[u8]) -> Result<String, Al
 
 /// Adds the prefix of a row.
 fn push_prefix(text: &mut String, row: &ByteRecord) -> Result<(), AllocError> {
-    if at(row, 0).is_empty() {
+    if field_at(row, 0).is_empty() {
         return write!(text, "the empty prefix");
     }
     write!(text, "prefix ")?;
-    push_shown(text, at(row, 0))
+    push_shown(text, field_at(row, 0))
 }

@@ -4,10 +4,10 @@ use crate::Slip;
 use crate::earlier::{push_order, push_repeated, push_unknown};
 use crate::empties::push_not_empty;
 use crate::forms::{
-    column, headers_of, limit_of, refused_in_book, refused_in_ops, refused_in_reports,
+    column, headers_of, most_rows_of, refused_in_book, refused_in_ops, refused_in_reports,
     refused_in_script, refused_in_setup,
 };
-use crate::found_rows::{at, rows_at};
+use crate::found_rows::{field_at, rows_at};
 use crate::midnight::{push_no_midnight, push_repeated_band};
 use crate::row_line::push_shown;
 use crate::unknown_words::push_unknown_word;
@@ -64,7 +64,7 @@ fn push_row_reason(
     match fault.kind {
         RowKind::Csv => push_csv(text, names, row),
         RowKind::Header => push_header(text, table.slip, Some(row)),
-        RowKind::TooManyRows => push_limit(text, table.slip),
+        RowKind::TooManyRows => push_most_rows(text, table.slip),
         RowKind::What => push_unknown_word(text, table.slip, names, row),
         RowKind::Number => match refused_in(table.slip, row) {
             Some(column) => push_column_reason(text, names, row, column),
@@ -89,7 +89,7 @@ fn push_tariff_reason(
     match fault.kind {
         TariffKind::Csv => push_csv(text, names, row),
         TariffKind::Header => push_header(text, table.slip, Some(row)),
-        TariffKind::TooManyRows => push_limit(text, table.slip),
+        TariffKind::TooManyRows => push_most_rows(text, table.slip),
         TariffKind::Repeated => push_repeated_band(text, alloc, table, row),
         TariffKind::NoMidnightBand => push_no_midnight(text, alloc, table, row),
         TariffKind::OutOfMemory | TariffKind::Device => Ok(()),
@@ -137,8 +137,8 @@ fn push_column_reason(
 ) -> Result<(), AllocError> {
     push_refusal(
         text,
-        at(names, column.place),
-        at(row, column.place),
+        field_at(names, column.place),
+        field_at(row, column.place),
         column.wants,
     )
 }
@@ -158,7 +158,7 @@ fn push_fields(text: &mut String, row: &ByteRecord) -> Result<(), AllocError> {
         if place > 0 {
             write!(text, ",")?;
         }
-        push_shown(text, at(row, place))?;
+        push_shown(text, field_at(row, place))?;
     }
     Ok(())
 }
@@ -177,7 +177,7 @@ fn push_header(
     write!(text, "found: ")?;
     push_fields(text, row)?;
     writeln!(text)?;
-    if row.len() == 1 && is_separated(at(row, 0)) {
+    if row.len() == 1 && is_separated(field_at(row, 0)) {
         writeln!(text, "the separator is a comma")?;
     }
     Ok(())
@@ -189,7 +189,10 @@ fn is_separated(field: &[u8]) -> bool {
 }
 
 /// Adds how many rows a table has at most.
-fn push_limit(text: &mut String, slip: Slip) -> Result<(), AllocError> {
-    let limit = limit_of(slip);
-    writeln!(text, "at most {limit}; docs/SCALING.md has larger loads")
+fn push_most_rows(text: &mut String, slip: Slip) -> Result<(), AllocError> {
+    let most_rows = most_rows_of(slip);
+    writeln!(
+        text,
+        "at most {most_rows}; docs/SCALING.md has larger loads"
+    )
 }

@@ -10,20 +10,20 @@ use std::alloc::AllocError;
 const MOST_COLUMNS: usize = 200;
 
 /// Adds the line in which a row begins: its number, counted by LF from 1 on, and what is in it from
-/// the row's first byte on. The row begins at a byte of a part that has this text in front of it.
+/// the row's first byte on. The row begins at a byte of a table that has this text in front of it.
 pub(crate) fn push_row_line(
     text: &mut String,
     before: &[u8],
-    part: &[u8],
+    table: &[u8],
     at: usize,
 ) -> Result<(), AllocError>
-    requires { at ≤ length part.now }
+    requires { at ≤ length table.now }
     ensures { OnOk result (string_bytes text.new
-        ≡ string_bytes text.old ++ shown_row_line before.now part.now at) }
+        ≡ string_bytes text.old ++ shown_row_line before.now table.now at) }
 {
-    let line = lines_ended(before) + lines_ended(&part[..at]) + 1;
+    let line = lines_ended(before) + lines_ended(&table[..at]) + 1;
     write!(text, "line {line} of the input: ")?;
-    push_shown(text, &part[at..])?;
+    push_shown(text, &table[at..])?;
     writeln!(text)
 }
 

@@ -1,13 +1,13 @@
-//! The parts of an input, and where they begin.
+//! The sections of an input, and where they begin.
 
 ghost use Rattle.std.specs.Prelude.{◌≡◌, IfOk, Ok};
-ghost use Rattle.run_texts.specs.FirstParts.{first_part};
+ghost use Rattle.run_texts.specs.FirstSections.{first_section};
 ghost use Rattle.explanations.specs.Sections.{IsSection};
 
-use run_texts::{InputFault, read_part};
+use run_texts::{InputFault, read_section};
 use std::alloc::Global;
 
-/// Which part of an input a table is.
+/// Which section of an input a table is.
 #[derive(Clone, Copy, Debug, PartialEq, Eq)]
 pub enum Section {
     /// The whole input.
@@ -20,39 +20,43 @@ pub enum Section {
     Third,
 }
 
-/// A part of an input.
+/// A section of an input.
 #[derive(Drop)]
-pub(crate) struct PartText {
+pub(crate) struct SectionText {
     /// Where it begins.
     pub start: usize,
     /// Its bytes.
     pub text: Vec<u8>,
 }
 
-/// The part of an input that a section is, where the input has the lines `%%` for it.
-pub(crate) fn part_of(alloc: Global, input: &[u8], section: Section) -> Result<PartText, InputFault>
-    ensures { IfOk result (λ part. IsSection section input.now part.start part.text.items) }
+/// Finds a section of an input, where the input has the lines `%%` for it.
+pub(crate) fn find_section(
+    alloc: Global,
+    input: &[u8],
+    section: Section,
+) -> Result<SectionText, InputFault>
+    ensures { IfOk result (λ found. IsSection section input.now found.start found.text.items) }
 {
     match section {
-        Section::Whole => Ok(PartText {
+        Section::Whole => Ok(SectionText {
             start: 0,
             text: input.to_vec(alloc)?,
         }),
         Section::First => {
             let (text, _rest) = split(alloc, input)?;
-            Ok(PartText { start: 0, text })
+            Ok(SectionText { start: 0, text })
         }
         Section::Second => {
             let (_first, behind) = split(alloc, input)?;
             let (text, _rest) = split(alloc, behind)?;
             let start = input.len().saturating_sub(behind.len());
-            Ok(PartText { start, text })
+            Ok(SectionText { start, text })
         }
         Section::Third => {
             let (_first, behind) = split(alloc, input)?;
             let (_second, rest) = split(alloc, behind)?;
             let start = input.len().saturating_sub(rest.len());
-            Ok(PartText {
+            Ok(SectionText {
                 start,
                 text: rest.to_vec(alloc)?,
             })
@@ -62,10 +66,10 @@ pub(crate) fn part_of(alloc: Global, input: &[u8], section: Section) -> Result<P
 
 /// What is in front of the first line `%%` of a text, and what is behind it.
 fn split(alloc: Global, text: &[u8]) -> Result<(Vec<u8>, &[u8]), InputFault>
-    ensures { IfOk result (λ parts. first_part text.now
-        ≡ Ok (record { part = parts.0.items; rest = parts.1.now })) }
+    ensures { IfOk result (λ both. first_section text.now
+        ≡ Ok (record { section = both.0.items; rest = both.1.now })) }
 {
     let mut rest = text;
-    let part = read_part(alloc, &mut rest)?;
-    Ok((part, rest))
+    let section = read_section(alloc, &mut rest)?;
+    Ok((section, rest))
 }

@@ -27,7 +27,7 @@ pub enum Slip {
 }
 
 impl Slip {
-    /// The part of the input that the table is.
+    /// The section of the input that the table is.
     pub(crate) fn section(self) -> Section
         ensures { result ≡ section_of self }
     {

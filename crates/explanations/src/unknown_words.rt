@@ -2,7 +2,7 @@
 
 use crate::Slip;
 use crate::forms::SCRIPT_WORDS;
-use crate::found_rows::at;
+use crate::found_rows::field_at;
 use crate::row_line::push_shown;
 use crate::wants::push_column;
 use csv::ByteRecord;
@@ -40,7 +40,7 @@ fn push_operation_word(
     op: usize,
     words: &[&str],
 ) -> Result<(), AllocError> {
-    if at(row, op) == b"settle".as_slice() {
+    if field_at(row, op) == b"settle".as_slice() {
         push_word(text, names, row, op.saturating_add(3), &["n", "s"])
     } else {
         push_word(text, names, row, op, words)
@@ -54,11 +54,11 @@ fn push_book_word(
     row: &ByteRecord,
 ) -> Result<(), AllocError> {
     let reply = row.len().saturating_sub(4);
-    let is_settle = at(row, 2) == b"settle".as_slice();
-    let is_report = is_one_of(at(row, 5), &["n", "s"]);
-    if !is_one_of(at(row, 2), BOOK_OPERATIONS) || is_settle && !is_report {
+    let is_settle = field_at(row, 2) == b"settle".as_slice();
+    let is_report = is_one_of(field_at(row, 5), &["n", "s"]);
+    if !is_one_of(field_at(row, 2), BOOK_OPERATIONS) || is_settle && !is_report {
         push_operation_word(text, names, row, 2, BOOK_OPERATIONS)
-    } else if is_one_of(at(row, reply), REPLIES) {
+    } else if is_one_of(field_at(row, reply), REPLIES) {
         push_word(text, names, row, reply.saturating_add(2), &["more", "last"])
     } else {
         push_word(text, names, row, reply, REPLIES)
@@ -83,8 +83,8 @@ fn push_word(
     place: usize,
     words: &[&str],
 ) -> Result<(), AllocError> {
-    let field = at(row, place);
-    push_column(text, at(names, place))?;
+    let field = field_at(row, place);
+    push_column(text, field_at(names, place))?;
     write!(text, ": ")?;
     push_shown(text, field)?;
     write!(text, "; one of ")?;

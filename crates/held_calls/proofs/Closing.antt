@@ -1,18 +1,18 @@
--- What closes a call is entered, so a report of it is settled, and once it is ended it is returned.
+-- What a call is owed is entered, so a report of it is settled, and once it is ended it is returned.
 use Rattle.std.proofs.Common.{◌≡◌, ◌<◌, ◌++◌, ◌∙◌, ℕ, Bool, true, false, Option, Some, Ok, Err, List, [], ◌∷◌, length, refl, sym, ap, subst, append-nil}
 use Rattle.std.specs.Map.{keys_of}
 use Rattle.std.specs.Prelude.{◌==◌, if◌then◌else◌, reverse, slice_index_or}
 use Rattle.std.proofs.lemmas.Grind.{flat_map-append}
 use Rattle.account_core.specs.Asked.{Asked, Returns, Settles}
-use Rattle.account_core.specs.Events.{EntryData}
-use Rattle.account_core.specs.Places.{IsClosing}
+use Rattle.account_core.specs.Entries.{EntryData}
+use Rattle.account_core.specs.Places.{IsOwed}
 use Rattle.account_core.specs.declared.entry.Reply.TheVariants.{Returned}
 use Rattle.account_core.specs.declared.fault.AccountFault.{AccountFault}
 use Rattle.cap_values.specs.declared.message.SsfMsg.{SsfMsg}
 use Rattle.cap_values.specs.declared.message.SsfMsg.TheVariants as msg
 use Rattle.dialogue_core.specs.Phases as phase
 use Rattle.dialogue_core.specs.Phases.{Conditions, Phase, Says, Sequel, Running, Settling, Returning, Asks}
-use Rattle.dialogue_core.specs.Table.{on_message}
+use Rattle.dialogue_core.specs.Rules.{on_message}
 use Rattle.dialogue_core.specs.Talks.{Got, after_got, is_ask, talked}
 use Rattle.held_calls.proofs.Holding.{AreKept, IsKept, first_kept, kept_all}
 use Rattle.held_calls.specs.Laws.{EndedCallsAreReturned, IsAnsweredNext, TakenReportsAreSettled}
@@ -28,7 +28,7 @@ use Rattle.workers_core.proofs.ReturnedOnce.{gives_back, sequel_to}
 use Rattle.workers_core.specs.Chains.{at_first, refusals_in, seat_numbers}
 use Rattle.workers_core.specs.Handled.{AnswerView, AreRefusedRightly, Holding, IsDone, IsRightlyHandled, IsTalked}
 use Rattle.workers_core.specs.Laws.{IsRunning, ends_call}
-use Rattle.workers_core.specs.Refusals.{NeverRefusesClosing}
+use Rattle.workers_core.specs.Refusals.{NeverRefusesOwed}
 use Rattle.workers_core.specs.Served.{returned_in, settled_in, settles_of, returns_of}
 use Rattle.workers_core.specs.Talks.{AllAsk, AreRightlyGot, Showing, entries_of, entry_of}
 use Rattle.workers_core.specs.Verdicts.{DialogueAt, Verdict, GoesOn, goes_on, spoken, verdict_on}
@@ -156,7 +156,7 @@ report_asked Shows setup numbers posts post old new answer call place active inf
     taken_once Shows setup numbers posts post old new answer call place (msg.ChargingReport active info) (Asks (Settles call post.number info)) (Settling running.terms active post.at) sound kept is running
     body (ap (λ (c : ℕ). Ok (Asks (Settles c post.number info), Settling running.terms active post.at)) (its_call setup posts old call place sound running))
 
-pub report_settled : (Shows : ℕ → Showing) (numbers : List ℕ) (call place number : ℕ) (active : Bool) (info : TimeInfo) (at : ℕ) (old new : Holding) (answer : AnswerView) → NeverRefusesClosing Shows call
+pub report_settled : (Shows : ℕ → Showing) (numbers : List ℕ) (call place number : ℕ) (active : Bool) (info : TimeInfo) (at : ℕ) (old new : Holding) (answer : AnswerView) → NeverRefusesOwed Shows call
     → (running : IsRunning old call place) → running.terms.call ≡ call
     → (taken : IsTakenOnce Shows numbers call place (Asks (Settles call number info)) (Settling running.terms active at) old new answer)
     → settles_of (entries_of (slice_index_or numbers place 0) (Asks (Settles call number info), Settling running.terms active at) taken.talk.gots) ≡ (number, call, info) ∷ []
@@ -164,8 +164,8 @@ report_settled Shows numbers call place number active info at old new answer nev
     let asked : Asked = Settles call number info in
     let to : Phase = Settling running.terms active at in
     let mine = slice_index_or old.lists place [] in
-    let closing : IsClosing (reverse mine) asked = (shown_of old call place running taken.kept).0.shown in
-    let first = answered_first (Shows place) (slice_index_or numbers place 0) asked to mine taken.talk.gots taken.right (λ why shows. never place mine asked why refl closing shows) in
+    let is_owed : IsOwed (reverse mine) asked = (shown_of old call place running taken.kept).0.shown in
+    let first = answered_first (Shows place) (slice_index_or numbers place 0) asked to mine taken.talk.gots taken.right (λ why shows. never place mine asked why refl is_owed shows) in
     talk_settles_it (slice_index_or numbers place 0) call number info to taken.talk.phase taken.talk.last taken.talk.gots about taken.talk.talk taken.talk.rests first
 
 -- a message that ends it
@@ -177,15 +177,15 @@ ending_asked Shows setup numbers posts post old new answer call place message so
     taken_once Shows setup numbers posts post old new answer call place message (Asks (Returns call)) to sound kept is running body
     (gives_back running.terms post.number post.at message ends ∙ ap (λ (c : ℕ). Ok (Asks (Returns c), to)) (its_call setup posts old call place sound running))
 
-pub ending_returned : (Shows : ℕ → Showing) (numbers : List ℕ) (call place : ℕ) (message : SsfMsg) (old new : Holding) (answer : AnswerView) → NeverRefusesClosing Shows call → IsRunning old call place
+pub ending_returned : (Shows : ℕ → Showing) (numbers : List ℕ) (call place : ℕ) (message : SsfMsg) (old new : Holding) (answer : AnswerView) → NeverRefusesOwed Shows call → IsRunning old call place
     → (taken : IsTakenOnce Shows numbers call place (Asks (Returns call)) (Returning (sequel_to message)) old new answer)
     → returns_of (entries_of (slice_index_or numbers place 0) (Asks (Returns call), Returning (sequel_to message)) taken.talk.gots) ≡ call ∷ []
 ending_returned Shows numbers call place message old new answer never running taken =
     let to : Phase = Returning (sequel_to message) in
     let mine = slice_index_or old.lists place [] in
-    let closing : IsClosing (reverse mine) (Returns call) = (shown_of old call place running taken.kept).0.shown.0 in
+    let is_owed : IsOwed (reverse mine) (Returns call) = (shown_of old call place running taken.kept).0.shown.0 in
     let first = answered_first (Shows place) (slice_index_or numbers place 0) (Returns call) to mine taken.talk.gots taken.right
-    (λ why shows. never place mine (Returns call) why refl closing shows) in
+    (λ why shows. never place mine (Returns call) why refl is_owed shows) in
     talk_returns_it (slice_index_or numbers place 0) call (sequel_to message) taken.talk.phase taken.talk.last taken.talk.gots taken.talk.asked taken.talk.talk taken.talk.rests first
 
 -- ---- the laws of a worker

@@ -6,14 +6,14 @@ use Rattle.std.proofs.lemmas.Bool.Decides.{nat_tests}
 use Rattle.std.proofs.lemmas.List.{reverse-append}
 use Rattle.std.proofs.lemmas.List.Elements.{filter-append}
 use Rattle.account_core.specs.Asked.{Asked, Credits, IsOfCall, Reserves, Returns, Settles, call_of}
-use Rattle.account_core.specs.Events.{EntryData}
+use Rattle.account_core.specs.Entries.{EntryData}
 use Rattle.account_core.specs.Known.{CallFacts, deed_of, known, known_after}
-use Rattle.account_core.specs.Ledger.{event_by}
+use Rattle.account_core.specs.Ledger.{entry_by}
 use Rattle.account_core.specs.declared.entry.Reply.{Reply}
 use Rattle.dialogue_core.specs.Phases.{Phase, Says, Asks, Sends, Finished}
 use Rattle.dialogue_core.specs.Runs.{IsHonest}
 use Rattle.dialogue_core.specs.Talks.{Got, after_got, is_ask, talked}
-use Rattle.held_calls.proofs.Tables.{Stands, facts_after, got_stands}
+use Rattle.held_calls.proofs.Rules.{Stands, facts_after, got_stands}
 use Rattle.held_calls.specs.Held.{entries_at, facts_at}
 use Rattle.shared_account.proofs.Knowing.{known_here}
 use Rattle.shared_account.proofs.Owning.{known_alike}
@@ -25,7 +25,7 @@ use Rattle.workers_core.specs.Workers.{IsAbout}
 
 -- an entry with a reply of the kind that an account gives to what was asked
 abbrev pub IsHonestEntry : EntryData → Type 0
-IsHonestEntry event = IsHonest event.asked event.reply
+IsHonestEntry entry = IsHonest entry.asked entry.reply
 
 -- ---- the call of an entry
 
@@ -112,14 +112,14 @@ pub known_same : (call : ℕ) (lists grew : List (List EntryData)) (place : ℕ)
 known_same call lists grew place same = known_alike call (slice_index_or grew place []) (slice_index_or lists place []) same
 
 known_next : (call : ℕ) (h : List EntryData) (seat : ℕ) (asked : Asked) (reply : Reply) → call_of asked ≡ call
-    → known call (event_by seat asked reply ∷ h) ≡ known_after (known call h) (deed_of asked reply)
+    → known call (entry_by seat asked reply ∷ h) ≡ known_after (known call h) (deed_of asked reply)
 known_next call h seat asked reply is =
-    subst (λ (c : ℕ). known c (event_by seat asked reply ∷ h) ≡ known_after (known c h) (deed_of asked reply)) is (known_here h (event_by seat asked reply))
+    subst (λ (c : ℕ). known c (entry_by seat asked reply ∷ h) ≡ known_after (known c h) (deed_of asked reply)) is (known_here h (entry_by seat asked reply))
 
 facts_next : (call seat : ℕ) (mine : List EntryData) (asked : Asked) (got : Got) → IsOfCall call asked
     → known call (reverse (mine ++ entry_of seat (Asks asked) got)) ≡ facts_after (known call (reverse mine)) asked got
 facts_next call seat mine asked (Ok reply) of =
-    ap (known call) (reverse-append mine (event_by seat asked reply ∷ [])) ∙ known_next call (reverse mine) seat asked reply (asks_call call asked of)
+    ap (known call) (reverse-append mine (entry_by seat asked reply ∷ [])) ∙ known_next call (reverse mine) seat asked reply (asks_call call asked of)
 facts_next call seat mine asked (Err fault) of = ap (λ l. known call (reverse l)) (append-nil mine)
 
 step_stands : (call seat : ℕ) (mine : List EntryData) (said : Says) (phase : Phase) (got : Got) → SaysOf call said → is_ask said ≡ true → Stands (known call (reverse mine)) (said, phase)

@@ -5,11 +5,11 @@ use Rattle.std.specs.Option.{option_or}
 use Rattle.std.specs.Prelude.{◌==◌, ◌&&◌, filter, if◌then◌else◌, slice_index_or}
 use Rattle.std.proofs.lemmas.Bool.Decides.{nat_tests}
 use Rattle.account_core.specs.Asked.{Credits}
-use Rattle.account_core.specs.Events.{EntryData}
+use Rattle.account_core.specs.Entries.{EntryData}
 use Rattle.cap_values.specs.declared.message.SsfMsg.{SsfMsg}
 use Rattle.cap_values.specs.declared.message.SsfMsg.TheVariants as msg
 use Rattle.dialogue_core.specs.Phases.{Phase, FirstAsk, Running, Settling, MoreAsk, Returning, Ending, Closed, Asks}
-use Rattle.dialogue_core.specs.Table.{Step, on_begin}
+use Rattle.dialogue_core.specs.Rules.{Step, on_begin}
 use Rattle.held_calls.proofs.Entries.{IsHonestEntry, credit_entry, grown_apart}
 use Rattle.held_calls.proofs.Holding.{AreKept, IsUnmoved, SameEntries, first_kept, kept_once, same_lists, talk_apart}
 use Rattle.held_calls.proofs.Messages.{own_step}
@@ -33,7 +33,7 @@ use Rattle.workers_core.proofs.Handling.{Means, is_itself, means_on, own_of, sam
 use Rattle.workers_core.specs.Chains.{AreAnswered, AnswersItsPosts, at_first, seat_numbers}
 use Rattle.workers_core.specs.Handled.{AnswerView, Holding, IsDone, IsRightlyHandled}
 use Rattle.workers_core.specs.Laws.{IsRunning, ends_call}
-use Rattle.workers_core.specs.Refusals.{NeverRefusesClosing}
+use Rattle.workers_core.specs.Refusals.{NeverRefusesOwed}
 use Rattle.workers_core.specs.Served.{Report, report_in, reported_in, returns_of, settles_of}
 use Rattle.workers_core.specs.Talks.{Showing, entry_of}
 use Rattle.workers_core.specs.Verdicts.{DialogueAt, Verdict, Strays, Rejects, Recharges, Begins, GoesOn, verdict_on}
@@ -143,15 +143,15 @@ another call other message body differs is its same =
 
 step_of : (Shows : ℕ → Showing) (setup : Setup) (numbers : List ℕ) (posts : List Post) (post : Post) (old new : Holding) (answer : AnswerView) (call other : ℕ) (message : SsfMsg) (b : Bool)
     → (other == call) ≡ b → IsSoundHolding (keys_of setup.accounts) posts old → AreKept old → IsRightlyHandled Shows setup numbers post old new answer
-    → post.body ≡ Ssf other message → IsStep (NeverRefusesClosing Shows call) setup call post.number (Ssf other message) old new answer
+    → post.body ≡ Ssf other message → IsStep (NeverRefusesOwed Shows call) setup call post.number (Ssf other message) old new answer
 step_of Shows setup numbers posts post old new answer call other message true same sound kept is body =
     let here = same_number other call same in
-    subst (λ (c : ℕ). IsStep (NeverRefusesClosing Shows call) setup call post.number (Ssf c message) old new answer) (sym here)
-    (message_step (NeverRefusesClosing Shows call) setup call post.number message old new answer
+    subst (λ (c : ℕ). IsStep (NeverRefusesOwed Shows call) setup call post.number (Ssf c message) old new answer) (sym here)
+    (message_step (NeverRefusesOwed Shows call) setup call post.number message old new answer
     (own_step Shows setup numbers posts post old new answer call message sound kept is (body ∙ ap (λ (c : ℕ). Ssf c message) here)))
 step_of Shows setup numbers posts post old new answer call other message false differs sound kept is body =
     let was = stands_at (old.talks call) in
-    unmoved_step (NeverRefusesClosing Shows call) setup call post.number (Ssf other message) old new answer
+    unmoved_step (NeverRefusesOwed Shows call) setup call post.number (Ssf other message) old new answer
     (unmoved_by setup numbers posts post (verdict_on setup old.talks post.number post.at post.body) old new answer call sound (means_on setup old.talks post.number post.at post.body)
     is.handled.done (another call other message post.body differs body))
     (ap (λ (b : Bool). if b then after_message setup (pays answer.orders) was message else was) differs) (other_report post.number call other message differs)
@@ -159,11 +159,11 @@ step_of Shows setup numbers posts post old new answer call other message false d
 
 step_by : (Shows : ℕ → Showing) (setup : Setup) (numbers : List ℕ) (posts : List Post) (post : Post) (old new : Holding) (answer : AnswerView) (call : ℕ) (body : Body)
     → IsSoundHolding (keys_of setup.accounts) posts old → AreKept old → IsRightlyHandled Shows setup numbers post old new answer → post.body ≡ body
-    → IsStep (NeverRefusesClosing Shows call) setup call post.number body old new answer
+    → IsStep (NeverRefusesOwed Shows call) setup call post.number body old new answer
 step_by Shows setup numbers posts post old new answer call (Ssf other message) sound kept is body =
     step_of Shows setup numbers posts post old new answer call other message (other == call) refl sound kept is body
 step_by Shows setup numbers posts post old new answer call (Recharge account amount until) sound kept is body =
-    unmoved_step (NeverRefusesClosing Shows call) setup call post.number (Recharge account amount until) old new answer
+    unmoved_step (NeverRefusesOwed Shows call) setup call post.number (Recharge account amount until) old new answer
     (unmoved_by setup numbers posts post (verdict_on setup old.talks post.number post.at post.body) old new answer call sound (means_on setup old.talks post.number post.at post.body)
     is.handled.done (λ message same. let never_so : Recharge account amount until ≡ Ssf call message = sym body ∙ same in absurd (cc))) refl refl refl
 
@@ -185,7 +185,7 @@ ended_first None later there P is one more = more is
 ended_first (Some place) later there P is one more = one is
 
 path : (Shows : ℕ → Showing) (setup : Setup) (numbers : List ℕ) (call : ℕ) (done posts : List Post) (answers : List AnswerView) (old new : Holding)
-    → IsSoundHolding (keys_of setup.accounts) done old → AreKept old → AreAnswered Shows setup numbers posts answers old new → IsPath (NeverRefusesClosing Shows call) setup call posts answers old new
+    → IsSoundHolding (keys_of setup.accounts) done old → AreKept old → AreAnswered Shows setup numbers posts answers old new → IsPath (NeverRefusesOwed Shows call) setup call posts answers old new
 path Shows setup numbers call done [] [] old new sound kept are = record {
   goes = ap (λ (h : Holding). stands_at (h.talks call)) (sym are);
   settles = λ closes place.
@@ -252,7 +252,7 @@ running_by h call place None stands is = absurd (cc)
 running_by h call place (Some standing) stands is = stands_so h call place standing.phase standing.place stands is
 
 first_path : (Shows : ℕ → Showing) (setup : Setup) (number call : ℕ) (posts : List Post) (answers : List AnswerView) (held : Holding)
-    → AreAnswered Shows setup (seat_numbers number setup) posts answers (at_first setup) held → IsPath (NeverRefusesClosing Shows call) setup call posts answers (at_first setup) held
+    → AreAnswered Shows setup (seat_numbers number setup) posts answers (at_first setup) held → IsPath (NeverRefusesOwed Shows call) setup call posts answers (at_first setup) held
 first_path Shows setup number call posts answers held are =
     path Shows setup (seat_numbers number setup) call [] posts answers (at_first setup) held (first_sound setup) (first_kept setup) are
 
@@ -275,7 +275,7 @@ worked_returned Shows setup number posts answers lists call there never is ended
     let so = first_path Shows setup number call posts answers held is.chain in so.ends never there ended place
 
 -- a call that goes on no more was returned, where its entries have the replies of accounts
-pub worked_left : (Shows : ℕ → Showing) (setup : Setup) (number : ℕ) (posts : List Post) (answers : List AnswerView) (lists : List (List EntryData)) (call : ℕ) → NeverRefusesClosing Shows call
+pub worked_left : (Shows : ℕ → Showing) (setup : Setup) (number : ℕ) (posts : List Post) (answers : List AnswerView) (lists : List (List EntryData)) (call : ℕ) → NeverRefusesOwed Shows call
     → AnswersItsPosts Shows setup number posts answers lists → (place : ℕ) → All IsHonestEntry (entries_at call lists place)
     → returns_of (entries_at call lists place) ≡ left_at setup call place (map item_of posts) answers
 worked_left Shows setup number posts answers lists call never is place honest =

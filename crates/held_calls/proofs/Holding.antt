@@ -5,14 +5,14 @@ use Rattle.std.specs.Prelude.{◌==◌, if◌then◌else◌, reverse, slice_inde
 use Rattle.std.proofs.lemmas.Bool.Decides.{nat_tests}
 use Rattle.std.proofs.lemmas.Grind.{flat_map-append}
 use Rattle.account_core.specs.Asked.{Credits}
-use Rattle.account_core.specs.Events.{EntryData}
+use Rattle.account_core.specs.Entries.{EntryData}
 use Rattle.account_core.specs.Known.{CallFacts, known}
 use Rattle.account_core.specs.declared.fault.AccountFault.{AccountFault}
 use Rattle.dialogue_core.specs.Phases.{Phase, Says, Asks}
-use Rattle.dialogue_core.specs.Table.{Step, on_begin, on_message}
+use Rattle.dialogue_core.specs.Rules.{Step, on_begin, on_message}
 use Rattle.dialogue_core.specs.Talks.{talked}
 use Rattle.held_calls.proofs.Entries.{credit_entry, grown_apart, grown_elsewhere, grown_here, known_same, of_call-append, other_entries, own_entries, talk_stands}
-use Rattle.held_calls.proofs.Tables.{Stands, StepStands, begun_stands, answer_stands}
+use Rattle.held_calls.proofs.Rules.{Stands, StepStands, begun_stands, answer_stands}
 use Rattle.held_calls.specs.Held.{CallsAreHeld, IsHeldBy, IsShown, entries_at, facts_at}
 use Rattle.run_values.specs.Setups.{Setup}
 use Rattle.run_values.specs.declared.post.Post.{Post}

@@ -8,7 +8,7 @@ use Rattle.std.proofs.lemmas.Bool.Decides.{nat_tests}
 use Rattle.std.proofs.lemmas.Nat.{mod_below}
 use Rattle.account_core.specs.Answers.{IsLegal, IsLegalPast, answer, inadmissible}
 use Rattle.account_core.specs.Asked.{Asked, Credits, IsOfCall, Reserves, Returns, Settles}
-use Rattle.account_core.specs.Events.{EntryData}
+use Rattle.account_core.specs.Entries.{EntryData}
 use Rattle.account_core.specs.Known.{CallFacts, known}
 use Rattle.account_core.specs.Laws.{AnswersFitTheirOperations}
 use Rattle.account_core.specs.Standing.{FitsCall}
@@ -28,7 +28,7 @@ use Rattle.run_values.specs.declared.post.Body.{Body}
 use Rattle.run_values.specs.declared.post.Body.TheVariants.{Ssf, Recharge}
 use Rattle.runs_core.proofs.Listed.{all_first, all_later}
 use Rattle.runs_core.specs.Closing.{lists_of, refuses_in}
-use Rattle.runs_core.specs.Entered.{IsBookAt, RunCallsAreOfOneWorker, RunClosingIsNeverRefused}
+use Rattle.runs_core.specs.Entered.{IsBookAt, RunCallsAreOfOneWorker, RunOwedIsNeverRefused}
 use Rattle.runs_core.specs.Hearing.{answers_to}
 use Rattle.runs_core.specs.Shares.{Item, item_at, item_of, numbered, share_from, worker_of}
 use Rattle.shared_account.proofs.Beginnings.{begins_itself}
@@ -153,26 +153,26 @@ whole books workers call account place setup book alone by_one at =
     (record { opening = refl; until = refl; limit = refl; begins = begins_itself book.history; own = refl })
     ∙ ap (of_call call) (sym listed)
 
-pub run_settled : RunClosingIsNeverRefused → RunCallsAreOfOneWorker StoodIn → CallsOfOneSeatAreAlone → RunReportsAreSettled
-run_settled closing one alone setup workers given answers books account place book call some run at =
+pub run_settled : RunOwedIsNeverRefused → RunCallsAreOfOneWorker StoodIn → CallsOfOneSeatAreAlone → RunReportsAreSettled
+run_settled is_owed one alone setup workers given answers books account place book call some run at =
     let worker : ℕ = call % workers in
     let by = run.answered worker (mod_below call workers some) in
     let view = map answer_view (answers_to workers worker given answers) in
-    let settled = worked_settled (refuses_in StoodIn books worker) setup worker by.posts view (lists_of worker books) call (closing setup workers given answers books call run) by.answered place in
+    let settled = worked_settled (refuses_in StoodIn books worker) setup worker by.posts view (lists_of worker books) call (is_owed setup workers given answers books call run) by.answered place in
     ap settles_of (whole books workers call account place setup book alone (one setup workers given answers books run) at)
     ∙ settled ∙ ap (λ (items : List Item). taken_from setup call place None items view) by.share
     ∙ shared_gathered (λ was now item. taken_in call place was item.number item.body) setup workers call None 0 given answers
     (λ was now item apart same. taken_apart workers call place item.number was item.body apart)
 
-pub run_returned : RunClosingIsNeverRefused → RunCallsAreOfOneWorker StoodIn → CallsOfOneSeatAreAlone → RunCallsAreReturned
-run_returned closing one alone setup workers given answers books account place book call there some run at ended =
+pub run_returned : RunOwedIsNeverRefused → RunCallsAreOfOneWorker StoodIn → CallsOfOneSeatAreAlone → RunCallsAreReturned
+run_returned is_owed one alone setup workers given answers books account place book call there some run at ended =
     let worker : ℕ = call % workers in
     let by = run.answered worker (mod_below call workers some) in
     let view = map answer_view (answers_to workers worker given answers) in
     let its : ended_from setup call None (map item_of by.posts) view ≡ Some there =
     ap (λ (items : List Item). ended_from setup call None items view) by.share ∙ shared_ended setup workers call None 0 given answers ∙ ended in
     ap returns_of (whole books workers call account place setup book alone (one setup workers given answers books run) at)
-    ∙ worked_returned (refuses_in StoodIn books worker) setup worker by.posts view (lists_of worker books) call there (closing setup workers given answers books call run) by.answered its place
+    ∙ worked_returned (refuses_in StoodIn books worker) setup worker by.posts view (lists_of worker books) call there (is_owed setup workers given answers books call run) by.answered its place
 
 -- ---- the replies of a legal history are of the kinds that accounts give
 
@@ -190,20 +190,20 @@ honest_fit facts (Settles call number info) (Forfeit p a) fits = tt
 honest_fit facts (Returns call) (Returned p a) fits = tt
 honest_fit facts asked reply fits = absurd fits
 
-honest_or : (call : ℕ) (b : Bool) (event : EntryData) (rest : List EntryData) → (b ≡ true → IsHonestEntry event) → All IsHonestEntry rest → All IsHonestEntry (if b then event ∷ rest else rest)
-honest_or call true event rest here all = All-cons IsHonestEntry event rest (here refl) all
-honest_or call false event rest here all = all
+honest_or : (call : ℕ) (b : Bool) (entry : EntryData) (rest : List EntryData) → (b ≡ true → IsHonestEntry entry) → All IsHonestEntry rest → All IsHonestEntry (if b then entry ∷ rest else rest)
+honest_or call true entry rest here all = All-cons IsHonestEntry entry rest (here refl) all
+honest_or call false entry rest here all = all
 
 honest_past : AnswersFitTheirOperations → (opening : ℕ) (until : Option ℕ) (call : ℕ) (h : List EntryData) → opening ≤ MAX_MONEY → IsLegalPast opening until h → All IsHonestEntry (of_call call h)
 honest_past kindly opening until call [] small legal = All-nil IsHonestEntry
-honest_past kindly opening until call (event ∷ h) small legal =
+honest_past kindly opening until call (entry ∷ h) small legal =
     let before : IsLegal opening until (reverse h) = subst (IsLegalPast opening until) (sym (reverse-reverse h)) legal.0 in
-    let admissible : inadmissible (reverse (reverse h)) event.asked ≡ None = subst (λ (l : List EntryData). inadmissible l event.asked ≡ None) (sym (reverse-reverse h)) legal.1.admissible in
-    honest_or call (asks_of_call call event.asked) event (of_call call h)
+    let admissible : inadmissible (reverse (reverse h)) entry.asked ≡ None = subst (λ (l : List EntryData). inadmissible l entry.asked ≡ None) (sym (reverse-reverse h)) legal.1.admissible in
+    honest_or call (asks_of_call call entry.asked) entry (of_call call h)
     (λ is.
-    let kind = kindly opening until (reverse h) call event.asked small before admissible (of_its call event.asked is) in
-    let given = honest_fit (known call (reverse (reverse h))) event.asked (answer opening until (reverse (reverse h)) event.asked) kind.1 in
-    subst (λ (r : Reply). IsHonest event.asked r) (sym (legal.1.answered ∙ ap (λ (l : List EntryData). answer opening until l event.asked) (sym (reverse-reverse h)))) given)
+    let kind = kindly opening until (reverse h) call entry.asked small before admissible (of_its call entry.asked is) in
+    let given = honest_fit (known call (reverse (reverse h))) entry.asked (answer opening until (reverse (reverse h)) entry.asked) kind.1 in
+    subst (λ (r : Reply). IsHonest entry.asked r) (sym (legal.1.answered ∙ ap (λ (l : List EntryData). answer opening until l entry.asked) (sym (reverse-reverse h)))) given)
     (honest_past kindly opening until call h small legal.0)
 
 turned : (xs : List EntryData) → All IsHonestEntry (reverse xs) → All IsHonestEntry xs
@@ -215,10 +215,10 @@ turned (x ∷ xs) all =
 honest_book : AnswersFitTheirOperations → (book : Closed) (call : ℕ) → book.opening ≤ MAX_MONEY → IsLegal book.opening book.until book.history → All IsHonestEntry (of_call call book.history)
 honest_book kindly book call small legal =
     turned (of_call call book.history)
-    (subst (All IsHonestEntry) (filter_reverse (λ (event : EntryData). asks_of_call call event.asked) book.history) (honest_past kindly book.opening book.until call (reverse book.history) small legal))
+    (subst (All IsHonestEntry) (filter_reverse (λ (entry : EntryData). asks_of_call call entry.asked) book.history) (honest_past kindly book.opening book.until call (reverse book.history) small legal))
 
-pub run_left : AnswersFitTheirOperations → RunClosingIsNeverRefused → RunCallsAreOfOneWorker StoodIn → CallsOfOneSeatAreAlone → RunCallsThatEndAreReturned
-run_left kindly closing one alone setup workers given answers books account place book call some run at small =
+pub run_left : AnswersFitTheirOperations → RunOwedIsNeverRefused → RunCallsAreOfOneWorker StoodIn → CallsOfOneSeatAreAlone → RunCallsThatEndAreReturned
+run_left kindly is_owed one alone setup workers given answers books account place book call some run at small =
     let worker : ℕ = call % workers in
     let by = run.answered worker (mod_below call workers some) in
     let view = map answer_view (answers_to workers worker given answers) in
@@ -226,6 +226,6 @@ run_left kindly closing one alone setup workers given answers books account plac
     let all_of = whole books workers call account place setup book alone (one setup workers given answers books run) at in
     let honest : All IsHonestEntry (entries_at call (lists_of worker books) place) = subst (All IsHonestEntry) all_of (honest_book kindly book call small legal) in
     ap returns_of all_of
-    ∙ worked_left (refuses_in StoodIn books worker) setup worker by.posts view (lists_of worker books) call (closing setup workers given answers books call run) by.answered place honest
+    ∙ worked_left (refuses_in StoodIn books worker) setup worker by.posts view (lists_of worker books) call (is_owed setup workers given answers books call run) by.answered place honest
     ∙ ap (λ (items : List Item). left_from setup call place None items view) by.share
     ∙ shared_gathered (λ was now item. left_in call place was now) setup workers call None 0 given answers (λ was now item apart same. left_same call place was now same)

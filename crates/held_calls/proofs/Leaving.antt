@@ -5,9 +5,9 @@ use Rattle.std.proofs.lemmas.Bool.Decides.{nat_tests}
 use Rattle.std.proofs.lemmas.Grind.{flat_map-append}
 use Rattle.std.proofs.lemmas.List.Elements.{All-head}
 use Rattle.account_core.specs.Asked.{Asked, Credits, IsOfCall, Reserves, Returns, Settles}
-use Rattle.account_core.specs.Events.{EntryData}
+use Rattle.account_core.specs.Entries.{EntryData}
 use Rattle.account_core.specs.Known.{is_open, known}
-use Rattle.account_core.specs.Ledger.{event_by}
+use Rattle.account_core.specs.Ledger.{entry_by}
 use Rattle.account_core.specs.declared.entry.Reply.{Reply}
 use Rattle.account_core.specs.declared.entry.Reply.TheVariants.{Granted, Denied, Settled, Forfeit, Returned}
 use Rattle.account_core.specs.declared.fault.AccountFault.{AccountFault}
@@ -15,17 +15,17 @@ use Rattle.cap_values.specs.Orders.{Pay}
 use Rattle.dialogue_core.specs.Phases as phase
 use Rattle.dialogue_core.specs.Phases.{Conditions, Phase, Says, Sequel, FirstAsk, Running, Settling, MoreAsk, Returning, Ending, Closed, Asks, Sends, Finished}
 use Rattle.dialogue_core.specs.Runs.{IsHonest}
-use Rattle.dialogue_core.specs.Table.{are_units, on_reply, sequel}
+use Rattle.dialogue_core.specs.Rules.{are_units, on_reply, sequel}
 use Rattle.dialogue_core.specs.Talks.{Got, after_got, is_ask, or_done, talked}
 use Rattle.dialogue_core.specs.declared.fault.DialogueFault.TheVariants.{Unexpected}
 use Rattle.held_calls.proofs.Entries.{IsHonestEntry, talk_stands}
 use Rattle.held_calls.proofs.Steps.{is_running}
-use Rattle.held_calls.proofs.Tables.{Awaits, Fits, Stands}
+use Rattle.held_calls.proofs.Rules.{Awaits, Fits, Stands}
 use Rattle.held_calls.specs.Held.{IsShown}
 use Rattle.runs_core.proofs.Listed.{all_first, all_later}
 use Rattle.tariff_core.specs.declared.times.TheConstants.{DAY}
 use Rattle.workers_core.proofs.OwnCalls.{SaysOf, says_of_call}
-use Rattle.workers_core.specs.Refusals.{NeverRefusesClosing}
+use Rattle.workers_core.specs.Refusals.{NeverRefusesOwed}
 use Rattle.workers_core.specs.Served.{returned_in, returns_of}
 use Rattle.workers_core.specs.Talks.{AllAsk, AreRightlyGot, IsRightlyGot, Showing, entries_of, entry_of}
 use Rattle.workers_core.specs.Workers.{IsAbout}
@@ -106,7 +106,7 @@ owes_got call seat returned Finished to got pending of fits fair owes = absurd (
 
 -- ---- what each ask got is fair
 
-fair_refusal : (Shows : ℕ → Showing) (call place : ℕ) (mine : List EntryData) (asked : Asked) (to : Phase) (fault : AccountFault) → NeverRefusesClosing Shows call → IsOfCall call asked → Awaits to asked
+fair_refusal : (Shows : ℕ → Showing) (call place : ℕ) (mine : List EntryData) (asked : Asked) (to : Phase) (fault : AccountFault) → NeverRefusesOwed Shows call → IsOfCall call asked → Awaits to asked
     → IsShown to (known call (reverse mine)) → Shows place mine asked fault → IsFair asked (Err fault)
 fair_refusal Shows call place mine (Credits amount until) to fault never of waits shown shows = tt
 fair_refusal Shows call place mine (Reserves other plan wanted least at) to fault never of waits shown shows = tt
@@ -115,12 +115,12 @@ fair_refusal Shows call place mine (Returns other) (Returning after) fault never
     never place mine (Returns other) fault of (subst (λ (c : ℕ). is_open (known c (reverse mine)) ≡ true) (sym of) shown) shows
 fair_refusal Shows call place mine (Returns other) to fault never of waits shown shows = absurd waits
 
-fair_got : (Shows : ℕ → Showing) (call place seat : ℕ) (mine : List EntryData) (said : Says) (to : Phase) (got : Got) → NeverRefusesClosing Shows call → SaysOf call said
+fair_got : (Shows : ℕ → Showing) (call place seat : ℕ) (mine : List EntryData) (said : Says) (to : Phase) (got : Got) → NeverRefusesOwed Shows call → SaysOf call said
     → Stands (known call (reverse mine)) (said, to) → IsRightlyGot (Shows place) mine said got → All IsHonestEntry (entry_of seat said got)
     → (asked : Asked) → said ≡ Asks asked → IsFair asked got
 fair_got Shows call place seat mine (Asks asked) to (Ok reply) never of stands right honest other is =
     let same : asked ≡ other = cc in
-    subst (λ (a : Asked). IsFair a (Ok reply)) same (All-head IsHonestEntry (event_by seat asked reply) [] honest)
+    subst (λ (a : Asked). IsFair a (Ok reply)) same (All-head IsHonestEntry (entry_by seat asked reply) [] honest)
 fair_got Shows call place seat mine (Asks asked) to (Err fault) never of stands right honest other is =
     let same : asked ≡ other = cc in
     subst (λ (a : Asked). IsFair a (Err fault)) same (fair_refusal Shows call place mine asked to fault never of stands.0 stands.1 right)
@@ -129,7 +129,7 @@ fair_got Shows call place seat mine Finished to got never of stands right honest
 
 -- ---- in a talk
 
-pub talk_owes : (Shows : ℕ → Showing) (call place seat : ℕ) (mine : List EntryData) (first : Says × Phase) (gots : List Got) → NeverRefusesClosing Shows call → IsAbout call first.1 → SaysOf call first.0
+pub talk_owes : (Shows : ℕ → Showing) (call place seat : ℕ) (mine : List EntryData) (first : Says × Phase) (gots : List Got) → NeverRefusesOwed Shows call → IsAbout call first.1 → SaysOf call first.0
     → AllAsk first gots → Stands (known call (reverse mine)) first → AreRightlyGot (Shows place) seat first mine gots → All IsHonestEntry (entries_of seat first gots)
     → Owes call [] first → Owes call (returns_of (entries_of seat first gots)) (talked first gots)
 talk_owes Shows call place seat mine first [] never about says asked stands right honest owes = owes
@@ -152,7 +152,7 @@ owes_none call returned Finished to rests owes idle = owes idle
 
 -- a call whose report is settled, and that goes on no more then, is returned
 pub talk_leaves : (Shows : ℕ → Showing) (call place seat number : ℕ) (info : _) (t : Conditions) (active : Bool) (since : ℕ) (mine : List EntryData) (gots : List Got) (last : Says) (to : Phase)
-    → NeverRefusesClosing Shows call → t.call ≡ call → AllAsk (Asks (Settles call number info), Settling t active since) gots
+    → NeverRefusesOwed Shows call → t.call ≡ call → AllAsk (Asks (Settles call number info), Settling t active since) gots
     → Stands (known call (reverse mine)) (Asks (Settles call number info), Settling t active since)
     → AreRightlyGot (Shows place) seat (Asks (Settles call number info), Settling t active since) mine gots
     → All IsHonestEntry (entries_of seat (Asks (Settles call number info), Settling t active since) gots) → talked (Asks (Settles call number info), Settling t active since) gots ≡ (last, to)

@@ -5,5 +5,5 @@ pub mod Holding
 pub mod InRuns
 pub mod Leaving
 pub mod Messages
+pub mod Rules
 pub mod Steps
-pub mod Tables

@@ -3,14 +3,14 @@ use Rattle.std.proofs.Common.{All, ◌≡◌, ◌<◌, ◌++◌, ◌∙◌, ℕ,
 use Rattle.std.specs.Map.{keys_of}
 use Rattle.std.specs.Prelude.{◌==◌, if◌then◌else◌, slice_index_or}
 use Rattle.account_core.specs.Asked.{Returns, Settles}
-use Rattle.account_core.specs.Events.{EntryData}
+use Rattle.account_core.specs.Entries.{EntryData}
 use Rattle.account_core.specs.declared.entry.Reply.TheVariants.{Granted, Denied}
 use Rattle.cap_values.specs.Orders.{Order, Release}
 use Rattle.cap_values.specs.declared.event.Event.TheVariants as event
 use Rattle.cap_values.specs.declared.message.SsfMsg.{SsfMsg}
 use Rattle.cap_values.specs.declared.message.SsfMsg.TheVariants as msg
 use Rattle.dialogue_core.specs.Phases.{Conditions, Phase, Says, FirstAsk, Running, Settling, MoreAsk, Returning, Ending, Closed, Asks, Sends}
-use Rattle.dialogue_core.specs.Table.{are_units, conditions, says_first_period, on_begin, on_message}
+use Rattle.dialogue_core.specs.Rules.{are_units, conditions, says_first_period, on_begin, on_message}
 use Rattle.dialogue_core.specs.Talks.{Got, after_got, is_ask, or_done, orders_sent_by, talked}
 use Rattle.dialogue_core.specs.declared.fault.DialogueFault.TheVariants.{Unexpected}
 use Rattle.held_calls.proofs.Closing.{one_got, ending_asked, ending_returned, its_call, report_asked, report_settled}
@@ -34,7 +34,7 @@ use Rattle.workers_core.proofs.Handling.{home_within, same_number}
 use Rattle.workers_core.proofs.Through.{is_through, returns_none, through_still}
 use Rattle.workers_core.specs.Handled.{AnswerView, Holding, IsDone, IsRightlyHandled, IsTalked}
 use Rattle.workers_core.specs.Laws.{IsRunning, ends_call}
-use Rattle.workers_core.specs.Refusals.{NeverRefusesClosing}
+use Rattle.workers_core.specs.Refusals.{NeverRefusesOwed}
 use Rattle.workers_core.specs.Served.{report_in, returned_in, returns_of, settled_in, settles_of}
 use Rattle.workers_core.specs.Talks.{AllAsk, Showing, entries_of}
 use Rattle.workers_core.specs.Verdicts.{DialogueAt, begins, fresh_call, goes_on, home_of, spoken, verdict_on}
@@ -154,7 +154,7 @@ ended_step : (Shows : ℕ → Showing) (setup : Setup) (numbers : List ℕ) (pos
     → IsSoundHolding (keys_of setup.accounts) posts old → AreKept old → IsRightlyHandled Shows setup numbers post old new answer
     → (running : IsRunning old call place) → post.body ≡ Ssf call message → ends_call message ≡ true → (number : ℕ) → report_in number call message ≡ []
     → after_message setup (pays answer.orders) (Some place) message ≡ None
-    → IsOwnStep (NeverRefusesClosing Shows call) setup call number message (Some (record { phase = Running running.terms; place = place })) old new answer
+    → IsOwnStep (NeverRefusesOwed Shows call) setup call number message (Some (record { phase = Running running.terms; place = place })) old new answer
 ended_step Shows setup numbers posts post old new answer call place message sound kept is running body ends number no_report after =
     let first : Says × Phase = (Asks (Returns call), Returning (sequel_to message)) in
     let seat : ℕ = slice_index_or numbers place 0 in
@@ -193,7 +193,7 @@ ended_step Shows setup numbers posts post old new answer call place message soun
 report_step : (Shows : ℕ → Showing) (setup : Setup) (numbers : List ℕ) (posts : List Post) (post : Post) (old new : Holding) (answer : AnswerView) (call place : ℕ) (active : Bool) (info : _)
     → IsSoundHolding (keys_of setup.accounts) posts old → AreKept old → IsRightlyHandled Shows setup numbers post old new answer
     → (running : IsRunning old call place) → post.body ≡ Ssf call (msg.ChargingReport active info)
-    → IsOwnStep (NeverRefusesClosing Shows call) setup call post.number (msg.ChargingReport active info) (Some (record { phase = Running running.terms; place = place })) old new answer
+    → IsOwnStep (NeverRefusesOwed Shows call) setup call post.number (msg.ChargingReport active info) (Some (record { phase = Running running.terms; place = place })) old new answer
 report_step Shows setup numbers posts post old new answer call place active info sound kept is running body =
     let about = its_call setup posts old call place sound running in
     let first : Says × Phase = (Asks (Settles call post.number info), Settling running.terms active post.at) in
@@ -251,13 +251,13 @@ own_running : (Shows : ℕ → Showing) (setup : Setup) (numbers : List ℕ) (po
     → IsSoundHolding (keys_of setup.accounts) posts old → AreKept old → IsRightlyHandled Shows setup numbers post old new answer
     → old.talks call ≡ Some (record { phase = Running t; place = place }) → post.body ≡ Ssf call message
     → IsDone setup numbers post.at (goes_on call place (on_message (Running t) post.number post.at message)) old new answer
-    → IsOwnStep (NeverRefusesClosing Shows call) setup call post.number message (Some (record { phase = Running t; place = place })) old new answer
+    → IsOwnStep (NeverRefusesOwed Shows call) setup call post.number message (Some (record { phase = Running t; place = place })) old new answer
 own_running Shows setup numbers posts post old new answer call place t (msg.InitialDp other calling called) sound kept is stands body done =
-    stray_step (NeverRefusesClosing Shows call) setup call post.number (msg.InitialDp other calling called) (Some (record { phase = Running t; place = place })) old new answer
+    stray_step (NeverRefusesOwed Shows call) setup call post.number (msg.InitialDp other calling called) (Some (record { phase = Running t; place = place })) old new answer
     (same_lists call old new done.lists, done.talks call) stands (ap (λ (orders : List Order). if pays orders then home_of calling setup else Some place) done.orders_are)
     (λ p. none_either (p == place) [] refl) (λ ended. absurd (cc))
 own_running Shows setup numbers posts post old new answer call place t (msg.EventReport event.Answer leg mode) sound kept is stands body done =
-    answer_step (NeverRefusesClosing Shows call) setup numbers call post.number leg mode t place old new answer done
+    answer_step (NeverRefusesOwed Shows call) setup numbers call post.number leg mode t place old new answer done
 own_running Shows setup numbers posts post old new answer call place t (msg.EventReport event leg mode) sound kept is stands body done =
     ended_step Shows setup numbers posts post old new answer call place (msg.EventReport event leg mode) sound kept is (record { terms = t; is = stands }) body refl post.number refl refl
 own_running Shows setup numbers posts post old new answer call place t (msg.ChargingReport active info) sound kept is stands body done =
@@ -276,36 +276,36 @@ own_by_phase : (Shows : ℕ → Showing) (setup : Setup) (numbers : List ℕ) (p
     → IsSoundHolding (keys_of setup.accounts) posts old → AreKept old → IsRightlyHandled Shows setup numbers post old new answer
     → old.talks call ≡ Some (record { phase = phase; place = place }) → post.body ≡ Ssf call message
     → IsDone setup numbers post.at (goes_on call place (on_message phase post.number post.at message)) old new answer
-    → IsOwnStep (NeverRefusesClosing Shows call) setup call post.number message (Some (record { phase = phase; place = place })) old new answer
+    → IsOwnStep (NeverRefusesOwed Shows call) setup call post.number message (Some (record { phase = phase; place = place })) old new answer
 own_by_phase Shows setup numbers posts post old new answer call place (Running t) message sound kept is stands body done =
     own_running Shows setup numbers posts post old new answer call place t message sound kept is stands body done
 own_by_phase Shows setup numbers posts post old new answer call place (FirstAsk t) message sound kept is stands body done =
-    own_idle (NeverRefusesClosing Shows call) setup numbers post old new answer call place (FirstAsk t) message refl stands done
+    own_idle (NeverRefusesOwed Shows call) setup numbers post old new answer call place (FirstAsk t) message refl stands done
 own_by_phase Shows setup numbers posts post old new answer call place (Settling t active since) message sound kept is stands body done =
-    own_idle (NeverRefusesClosing Shows call) setup numbers post old new answer call place (Settling t active since) message refl stands done
+    own_idle (NeverRefusesOwed Shows call) setup numbers post old new answer call place (Settling t active since) message refl stands done
 own_by_phase Shows setup numbers posts post old new answer call place (MoreAsk t) message sound kept is stands body done =
-    own_idle (NeverRefusesClosing Shows call) setup numbers post old new answer call place (MoreAsk t) message refl stands done
+    own_idle (NeverRefusesOwed Shows call) setup numbers post old new answer call place (MoreAsk t) message refl stands done
 own_by_phase Shows setup numbers posts post old new answer call place (Returning after) message sound kept is stands body done =
-    own_idle (NeverRefusesClosing Shows call) setup numbers post old new answer call place (Returning after) message refl stands done
+    own_idle (NeverRefusesOwed Shows call) setup numbers post old new answer call place (Returning after) message refl stands done
 own_by_phase Shows setup numbers posts post old new answer call place Ending message sound kept is stands body done =
-    own_idle (NeverRefusesClosing Shows call) setup numbers post old new answer call place Ending message refl stands done
+    own_idle (NeverRefusesOwed Shows call) setup numbers post old new answer call place Ending message refl stands done
 own_by_phase Shows setup numbers posts post old new answer call place Closed message sound kept is stands body done =
-    own_idle (NeverRefusesClosing Shows call) setup numbers post old new answer call place Closed message refl stands done
+    own_idle (NeverRefusesOwed Shows call) setup numbers post old new answer call place Closed message refl stands done
 
 own_by_found : (Shows : ℕ → Showing) (setup : Setup) (numbers : List ℕ) (posts : List Post) (post : Post) (old new : Holding) (answer : AnswerView) (call : ℕ) (found : Option DialogueAt) (message : SsfMsg)
     → IsSoundHolding (keys_of setup.accounts) posts old → AreKept old → IsRightlyHandled Shows setup numbers post old new answer
     → old.talks call ≡ found → post.body ≡ Ssf call message
     → IsDone setup numbers post.at (spoken setup post.number post.at call message found) old new answer
-    → IsOwnStep (NeverRefusesClosing Shows call) setup call post.number message found old new answer
+    → IsOwnStep (NeverRefusesOwed Shows call) setup call post.number message found old new answer
 own_by_found Shows setup numbers posts post old new answer call None message sound kept is stands body done =
-    own_fresh (NeverRefusesClosing Shows call) setup numbers post.number post.at call message old new answer (λ place within. place_within setup posts old place sound within) stands
+    own_fresh (NeverRefusesOwed Shows call) setup numbers post.number post.at call message old new answer (λ place within. place_within setup posts old place sound within) stands
     (subst (λ (found : Option DialogueAt). IsKept old.lists call found) stands (kept call)) done
 own_by_found Shows setup numbers posts post old new answer call (Some standing) message sound kept is stands body done =
     own_by_phase Shows setup numbers posts post old new answer call standing.place standing.phase message sound kept is stands body done
 
 pub own_step : (Shows : ℕ → Showing) (setup : Setup) (numbers : List ℕ) (posts : List Post) (post : Post) (old new : Holding) (answer : AnswerView) (call : ℕ) (message : SsfMsg)
     → IsSoundHolding (keys_of setup.accounts) posts old → AreKept old → IsRightlyHandled Shows setup numbers post old new answer → post.body ≡ Ssf call message
-    → IsOwnStep (NeverRefusesClosing Shows call) setup call post.number message (old.talks call) old new answer
+    → IsOwnStep (NeverRefusesOwed Shows call) setup call post.number message (old.talks call) old new answer
 own_step Shows setup numbers posts post old new answer call message sound kept is body =
     own_by_found Shows setup numbers posts post old new answer call (old.talks call) message sound kept is refl body
     (subst (λ (b : Body). IsDone setup numbers post.at (verdict_on setup old.talks post.number post.at b) old new answer) body is.handled.done)

@@ -2,7 +2,7 @@
 use Rattle.std.proofs.Common.{All, ◌≡◌, ◌++◌, ◌∙◌, ℕ, Bool, true, false, Option, Some, None, Ok, Err, List, [], ◌∷◌, refl, sym, ap, subst, append-nil}
 use Rattle.std.specs.Prelude.{◌==◌, flat_map, if◌then◌else◌, not, slice_index_or}
 use Rattle.std.proofs.lemmas.Grind.{flat_map-append}
-use Rattle.account_core.specs.Events.{EntryData}
+use Rattle.account_core.specs.Entries.{EntryData}
 use Rattle.account_core.specs.declared.entry.Reply.TheVariants.{Granted, Denied, Settled, Forfeit, Returned}
 use Rattle.cap_values.specs.Orders.{Pay}
 use Rattle.cap_values.specs.declared.message.SsfMsg.{SsfMsg}
@@ -10,12 +10,12 @@ use Rattle.cap_values.specs.declared.message.SsfMsg.TheVariants as msg
 use Rattle.cap_values.specs.declared.mode.Mode.TheVariants.{Interrupted, NotifyAndContinue, Transparent}
 use Rattle.dialogue_core.specs.Phases as phase
 use Rattle.dialogue_core.specs.Phases.{Conditions, Phase, Says, Sequel, FirstAsk, Running, Settling, MoreAsk, Returning, Ending, Closed, Asks, Sends, Finished}
-use Rattle.dialogue_core.specs.Table.{Step, are_units, says_first_period, on_message, on_refusal, on_reply, sequel}
+use Rattle.dialogue_core.specs.Rules.{Step, are_units, says_first_period, on_message, on_refusal, on_reply, sequel}
 use Rattle.dialogue_core.specs.Talks.{Got, after_got, is_ask, or_done, orders_sent_by, talked}
 use Rattle.dialogue_core.specs.declared.fault.DialogueFault.TheVariants.{Unexpected}
 use Rattle.held_calls.proofs.Entries.{IsHonestEntry, grown_apart, talk_stands}
 use Rattle.held_calls.proofs.Holding.{IsBound, IsSaid, IsUnmoved, SameEntries, apart_from, same_lists}
-use Rattle.held_calls.proofs.Tables.{Awaits, Fits}
+use Rattle.held_calls.proofs.Rules.{Awaits, Fits}
 use Rattle.held_calls.specs.Going.{left_in, after_message, is_there, pays}
 use Rattle.held_calls.specs.Held.{entries_at}
 use Rattle.run_values.specs.Setups.{Setup}

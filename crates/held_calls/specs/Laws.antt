@@ -1,6 +1,6 @@
 -- What a worker enters of its calls, whatever its accounts refuse.
 use Rattle.std.specs.Prelude.{◌≡◌, ◌==◌, ◌++◌, ℕ, Bool, true, Some, List, [], ◌∷◌, if◌then◌else◌, map, slice_index_or}
-use Rattle.account_core.specs.Events.{EntryData}
+use Rattle.account_core.specs.Entries.{EntryData}
 use Rattle.cap_values.specs.declared.message.SsfMsg.{SsfMsg}
 use Rattle.cap_values.specs.declared.message.SsfMsg.TheVariants.{ChargingReport}
 use Rattle.held_calls.specs.Going.{ended_at, taken_at}
@@ -13,7 +13,7 @@ use Rattle.tariff_core.specs.declared.times.TimeInfo.{TimeInfo}
 use Rattle.workers_core.specs.Chains.{AreAnswered, AnswersItsPosts, at_first, seat_numbers}
 use Rattle.workers_core.specs.Handled.{AnswerView, Holding, IsRightlyHandled}
 use Rattle.workers_core.specs.Laws.{IsRunning, ends_call}
-use Rattle.workers_core.specs.Refusals.{NeverRefusesClosing}
+use Rattle.workers_core.specs.Refusals.{NeverRefusesOwed}
 use Rattle.workers_core.specs.Served.{returns_of, settles_of}
 use Rattle.workers_core.specs.Talks.{Showing}
 
@@ -28,7 +28,7 @@ pub record IsAnsweredNext (Shows : ℕ → Showing) (setup : Setup) (number : �
 abbrev pub TakenReportsAreSettled : (ℕ → Showing) → Type 0
 TakenReportsAreSettled Shows =
     (setup : Setup) (number : ℕ) (before : List Post) (post : Post) (old new : Holding) (call place : ℕ) (active : Bool) (info : TimeInfo)
-    → NeverRefusesClosing Shows call → IsAnsweredNext Shows setup number before post old new → IsRunning old call place → post.body ≡ Ssf call (ChargingReport active info)
+    → NeverRefusesOwed Shows call → IsAnsweredNext Shows setup number before post old new → IsRunning old call place → post.body ≡ Ssf call (ChargingReport active info)
     → (at : ℕ)
     → settles_of (slice_index_or new.lists at []) ≡ settles_of (slice_index_or old.lists at []) ++ (if at == place then (post.number, call, info) ∷ [] else [])
 
@@ -36,7 +36,7 @@ TakenReportsAreSettled Shows =
 abbrev pub EndedCallsAreReturned : (ℕ → Showing) → Type 0
 EndedCallsAreReturned Shows =
     (setup : Setup) (number : ℕ) (before : List Post) (post : Post) (old new : Holding) (call place : ℕ) (message : SsfMsg)
-    → NeverRefusesClosing Shows call → IsAnsweredNext Shows setup number before post old new → IsRunning old call place → post.body ≡ Ssf call message
+    → NeverRefusesOwed Shows call → IsAnsweredNext Shows setup number before post old new → IsRunning old call place → post.body ≡ Ssf call message
     → ends_call message ≡ true
     → (at : ℕ) → returns_of (slice_index_or new.lists at []) ≡ returns_of (slice_index_or old.lists at []) ++ (if at == place then call ∷ [] else [])
 
@@ -45,13 +45,13 @@ EndedCallsAreReturned Shows =
 -- the Settles of a call by a worker at the account at a place are just the reports of the call that came while it went on there, in order, each with its post's number
 abbrev pub WorkedReportsAreSettled : (ℕ → Showing) → Type 0
 WorkedReportsAreSettled Shows =
-    (setup : Setup) (number : ℕ) (posts : List Post) (answers : List AnswerView) (lists : List (List EntryData)) (call : ℕ) → NeverRefusesClosing Shows call
+    (setup : Setup) (number : ℕ) (posts : List Post) (answers : List AnswerView) (lists : List (List EntryData)) (call : ℕ) → NeverRefusesOwed Shows call
     → AnswersItsPosts Shows setup number posts answers lists
     → (place : ℕ) → settles_of (entries_at call lists place) ≡ taken_at setup call place (map item_of posts) answers
 
 -- a call that went on at the account at a place when a message ended it has one Return there, and none at any other
 abbrev pub WorkedCallsAreReturned : (ℕ → Showing) → Type 0
 WorkedCallsAreReturned Shows =
-    (setup : Setup) (number : ℕ) (posts : List Post) (answers : List AnswerView) (lists : List (List EntryData)) (call there : ℕ) → NeverRefusesClosing Shows call
+    (setup : Setup) (number : ℕ) (posts : List Post) (answers : List AnswerView) (lists : List (List EntryData)) (call there : ℕ) → NeverRefusesOwed Shows call
     → AnswersItsPosts Shows setup number posts answers lists → ended_at setup call (map item_of posts) answers ≡ Some there
     → (place : ℕ) → returns_of (entries_at call lists place) ≡ (if place == there then call ∷ [] else [])

@@ -8,7 +8,7 @@ ghost use Rattle.held_calls.specs.Runs.{RunCallsAreReturned, RunCallsThatEndAreR
 ghost use Rattle.workers_core.specs.Refusals.{RefusesAt};
 
 use account_core::answers_fit_their_operations;
-use runs_core::{run_calls_are_of_one_worker, run_closing_is_never_refused};
+use runs_core::{run_calls_are_of_one_worker, run_owed_is_never_refused};
 use shared_account::{Shared, TurnAccount, calls_of_one_seat_are_alone};
 
 /// The entries of a worker show each call as its dialogue is, whatever posts it has handled and
@@ -22,8 +22,8 @@ pub fn calls_are_held()
 /// A ChargingReport of a call that goes on is settled at the call's account and at no other, with
 /// the number of its post, and no other report is settled for it.
 ///
-/// It takes that what closes the call is never refused (`NeverRefusesClosing`), which
-/// `workers_core::closing_is_never_refused` gives where the call is the worker's alone. What else
+/// It takes that what the call is owed is never refused (`NeverRefusesOwed`), which
+/// `workers_core::owed_is_never_refused` gives where the call is the worker's alone. What else
 /// is asked for the report, such as a further Reserve, may be refused.
 pub fn taken_reports_are_settled<S: Shared>()
     ensures { (seats : List S.Seat) → TakenReportsAreSettled (RefusesAt S.was seats) }
@@ -63,7 +63,7 @@ pub fn worked_calls_are_returned<S: Shared>()
 pub fn run_reports_are_settled()
     ensures { RunReportsAreSettled }
 {
-    run_closing_is_never_refused();
+    run_owed_is_never_refused();
     run_calls_are_of_one_worker::<TurnAccount>();
     calls_of_one_seat_are_alone();
 }
@@ -73,7 +73,7 @@ pub fn run_reports_are_settled()
 pub fn run_calls_are_returned()
     ensures { RunCallsAreReturned }
 {
-    run_closing_is_never_refused();
+    run_owed_is_never_refused();
     run_calls_are_of_one_worker::<TurnAccount>();
     calls_of_one_seat_are_alone();
 }
@@ -88,7 +88,7 @@ pub fn run_calls_that_end_are_returned()
     ensures { RunCallsThatEndAreReturned }
 {
     answers_fit_their_operations();
-    run_closing_is_never_refused();
+    run_owed_is_never_refused();
     run_calls_are_of_one_worker::<TurnAccount>();
     calls_of_one_seat_are_alone();
 }

@@ -12,7 +12,7 @@ use Rattle.live_answers.specs.Standing.{LineView, said_after, standing}
 use Rattle.live_answers.specs.declared.kind.LineKind.TheVariants as kind
 use Rattle.message_rows.specs.Lines.{line_message}
 use Rattle.message_rows.specs.Messages.{MessageView}
-use Rattle.run_texts.specs.Parts.{with_first_byte, lines_in_text}
+use Rattle.run_texts.specs.Sections.{with_first_byte, lines_in_text}
 
 -- ---- the lines of a text
 

@@ -54,7 +54,7 @@ abbrev moment_seen : Option (ℕ × Speech) → ℕ
 moment_seen None = 0
 moment_seen (Some item) = item.0
 
--- the last moment of items that a trace prints so
+-- the moment of the last of items that a trace prints so
 abbrev last_seen : List (ℕ × Speech) → ℕ
 last_seen items = moment_seen (slice_get items (length items - 1))
 

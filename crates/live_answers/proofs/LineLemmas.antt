@@ -4,7 +4,7 @@ use Rattle.std.proofs.lemmas.Bool.{cases_lt}
 use Rattle.std.proofs.lemmas.List.{length-take, take-append-le, take-take, take_all}
 use Rattle.std.specs.Prelude.{if◌then◌else◌}
 use Rattle.std.specs.Io.BufRead.{drop_through, ends_with_byte, take_through}
-use Rattle.run_texts.specs.Parts.{with_first_byte, lines_in_text}
+use Rattle.run_texts.specs.Sections.{with_first_byte, lines_in_text}
 use Rattle.live_answers.specs.Lines.{kept, live_lines}
 
 first_line : (ends : Bool) (c : ℕ) (text : List ℕ)

@@ -1,7 +1,7 @@
 -- The lines of an input, as they are read.
 use Rattle.std.specs.Prelude.{◌+◌, ℕ, List, [], ◌∷◌, ◌++◌, map, take, if◌then◌else◌}
 use Rattle.std.specs.Io.BufRead.{ends_with_byte}
-use Rattle.run_texts.specs.Parts.{lines_in_text}
+use Rattle.run_texts.specs.Sections.{lines_in_text}
 use Rattle.live_answers.specs.declared.line.TheConstants.{MAX_LINE}
 
 -- a line with its LF, also where the input ended before it

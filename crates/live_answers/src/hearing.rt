@@ -8,7 +8,7 @@ use crate::driver::LiveDriver;
 use crate::fault::Stop;
 use crate::group::{Group, take_group};
 use crate::judging::last_moment;
-use crate::saying::{give, put_down, tell};
+use crate::saying::{give, put_down, say};
 use crate::stage::{Left, Stage};
 use run_values::{Answer, Body};
 use runs_core::Driver;
@@ -32,7 +32,7 @@ impl<I: BufRead, O: Write, L: Write> LiveDriver<'_, '_, I, O, L> {
             self.new.given.items ≡ self.old.given.items)) }
     {
         let first = self.given.len().saturating_sub(answers.len());
-        self.line = tell(
+        self.line = say(
             self.alloc,
             self.output,
             self.said.as_slice(),
@@ -65,9 +65,9 @@ impl<I: BufRead, O: Write, L: Write> Driver for LiveDriver<'_, '_, I, O, L> {
 
     ghost ended = { λ driver. has_ended driver.stage };
 
-    ghost Plan = { Unit {0} };
+    ghost Agenda = { Unit {0} };
 
-    ghost plan = { λ _. tt };
+    ghost agenda = { λ _. tt };
 
     ghost hears = { Hears I.remaining O.contents L.contents };
 

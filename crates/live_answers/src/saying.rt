@@ -25,7 +25,7 @@ use tariff_core::HORIZON;
 /// with those of its answer, or the row of what is wrong with it. So many messages were accepted
 /// before them, and these are the answers to theirs. The quiet messages are not printed. All is
 /// written at once and flushed. The result is the number of the last line.
-pub(crate) fn tell<O: Write>(
+pub(crate) fn say<O: Write>(
     alloc: Global,
     output: &mut O,
     said: &[Said],

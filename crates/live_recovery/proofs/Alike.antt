@@ -10,7 +10,7 @@ use Rattle.cap_values.specs.declared.message.SsfMsg.TheVariants.{InitialDp, Even
 use Rattle.cap_values.specs.declared.mode.Mode.{Mode}
 use Rattle.cap_values.specs.declared.number.Number.{Number}
 use Rattle.dialogue_core.specs.Phases.{Conditions, Phase, FirstAsk, Running, Settling, MoreAsk, Returning, Ending, Closed}
-use Rattle.dialogue_core.specs.Table.{Step, ending, on_message, event_reported, while_running, sequel}
+use Rattle.dialogue_core.specs.Rules.{Step, ending, on_message, event_reported, while_running, sequel}
 use Rattle.run_values.specs.Setups.{Setup, place_of}
 use Rattle.run_values.specs.declared.post.Body.{Body}
 use Rattle.run_values.specs.declared.post.Body.TheVariants.{Ssf, Recharge}

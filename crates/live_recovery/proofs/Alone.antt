@@ -4,7 +4,7 @@ use Rattle.std.specs.Prelude.{filter, slice_index_or}
 use Rattle.std.proofs.lemmas.List.{length-map}
 use Rattle.std.proofs.lemmas.List.Elements.{All-head, All-tail}
 use Rattle.account_core.specs.Answers.{IsLegal}
-use Rattle.account_core.specs.Events.{EntryData}
+use Rattle.account_core.specs.Entries.{EntryData}
 use Rattle.live_recovery.proofs.Alike.{GoAlike, goes_itself}
 use Rattle.live_recovery.proofs.Chains.{ChainsAreAlike, NoFault, chains_alike}
 use Rattle.live_recovery.proofs.Handling.{AreLegal}
@@ -67,20 +67,20 @@ numbered_more first (item ∷ given) more =
 
 -- ---- each history is the one worker's
 
-own_all : (history : List EntryData) → All (λ event. event.seat < 1) history → own 0 history ≡ history
+own_all : (history : List EntryData) → All (λ entry. entry.seat < 1) history → own 0 history ≡ history
 own_all [] all = refl
-own_all (event ∷ history) all =
-    let first : event.seat < 1 = All-head (λ (e : EntryData). e.seat < 1) event history all in
-    rw (is_zero event.seat (omega (arith, first))) (ap (λ l. event ∷ l) (own_all history (All-tail (λ (e : EntryData). e.seat < 1) event history all)))
+own_all (entry ∷ history) all =
+    let first : entry.seat < 1 = All-head (λ (e : EntryData). e.seat < 1) entry history all in
+    rw (is_zero entry.seat (omega (arith, first))) (ap (λ l. entry ∷ l) (own_all history (All-tail (λ (e : EntryData). e.seat < 1) entry history all)))
 
 -- the histories of books
 abbrev pub histories_of : List Closed → List (List EntryData)
 histories_of books = map (λ book. book.history) books
 
-pub own_lists : (books : List Closed) → All (λ book. All (λ event. event.seat < 1) book.history) books → lists_of 0 books ≡ histories_of books
+pub own_lists : (books : List Closed) → All (λ book. All (λ entry. entry.seat < 1) book.history) books → lists_of 0 books ≡ histories_of books
 own_lists [] all = refl
 own_lists (book ∷ books) all =
-    let P : Closed → Type 0 = λ b. All (λ event. event.seat < 1) b.history in
+    let P : Closed → Type 0 = λ b. All (λ entry. entry.seat < 1) b.history in
     let here = own_all book.history (All-head P book books all) in
     let later = own_lists books (All-tail P book books all) in
     ap (λ l. l ∷ lists_of 0 books) here ∙ ap (λ l. book.history ∷ l) later

@@ -1,6 +1,6 @@
 -- Chains of posts that are handled twice.
 use Rattle.std.proofs.Common.{◌≡◌, ◌++◌, ℕ, Option, None, List, [], ◌∷◌, length, map, refl, sym, ap, subst, ◌∙◌}
-use Rattle.account_core.specs.Events.{EntryData}
+use Rattle.account_core.specs.Entries.{EntryData}
 use Rattle.live_recovery.proofs.Alike.{GoAlike, ItemsAlike, done_as}
 use Rattle.live_recovery.proofs.Handling.{AreAlike, AreLegal, Begin, HoldAlike, begin_further, begin_itself, done_alike, done_goes_on}
 use Rattle.tariff_core.specs.Laws.{IsProper}

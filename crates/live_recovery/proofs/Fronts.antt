@@ -10,7 +10,7 @@ use Rattle.live_answers.specs.Rows.{put_down}
 use Rattle.live_answers.specs.Standing.{LineView, said_after}
 use Rattle.live_recovery.specs.Recovery.{rest_heard_behind}
 use Rattle.message_rows.specs.Messages.{Speech}
-use Rattle.run_texts.specs.Parts.{with_first_byte, lines_in_text}
+use Rattle.run_texts.specs.Sections.{with_first_byte, lines_in_text}
 
 -- ---- the first lines of a text are a text
 

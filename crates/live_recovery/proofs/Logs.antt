@@ -12,7 +12,7 @@ use Rattle.live_answers.specs.declared.stage.LiveFault.{LiveFault}
 use Rattle.live_answers.specs.declared.stage.LiveFault.TheVariants as fault
 use Rattle.live_log.specs.Logs.{HasLines, HasLinesBehind}
 use Rattle.live_recovery.specs.Recovery.{IsLogOf, LiveRun}
-use Rattle.run_texts.specs.Parts.{lines_in_text}
+use Rattle.run_texts.specs.Sections.{lines_in_text}
 use Rattle.live_recovery.proofs.Fronts.{logged_both}
 use Rattle.live_recovery.proofs.Lines.{AreEnded, HasNone, IsLine, LineEnds, all_raw, are_ended, drop_ends, ends_so, logged_ends, none_so, same_cut, take_ends}
 

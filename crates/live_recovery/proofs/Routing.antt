@@ -1,7 +1,7 @@
 -- What a dialogue says first, by its route.
 use Rattle.std.proofs.Common.{◌≡◌, ◌∙◌, ℕ, Option, Some, None, List, refl, ap}
 use Rattle.dialogue_core.specs.Phases.{Asks, Conditions, FirstAsk, Phase, Says}
-use Rattle.dialogue_core.specs.Table.{on_begin, reserve, seconds_to}
+use Rattle.dialogue_core.specs.Rules.{on_begin, reserve, seconds_to}
 use Rattle.tariff_core.proofs.Routing.{no_route, same_terms}
 use Rattle.tariff_core.specs.Bands.{Band}
 use Rattle.tariff_core.specs.Laws.{IsProper}

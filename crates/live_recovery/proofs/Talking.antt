@@ -3,8 +3,8 @@ use Rattle.std.proofs.Common.{◌≡◌, ◌++◌, ◌⊎◌, inl, inr, ℕ, tru
 use Rattle.std.specs.Prelude.{reverse}
 use Rattle.std.proofs.lemmas.List.{reverse-append}
 use Rattle.account_core.specs.Answers.{IsLegal, IsLegalPast, answer}
-use Rattle.account_core.specs.Events.{EntryData}
-use Rattle.account_core.specs.Ledger.{event_by}
+use Rattle.account_core.specs.Entries.{EntryData}
+use Rattle.account_core.specs.Ledger.{entry_by}
 use Rattle.account_core.specs.declared.entry.Reply.{Reply}
 use Rattle.dialogue_core.specs.Phases.{Phase, Says, Asks, Sends, Finished}
 use Rattle.dialogue_core.specs.Talks.{Got, is_ask, talked}
@@ -25,12 +25,12 @@ ends_of {X} (x ∷ xs) = after (ends_of xs)
 -- ---- the right reply
 
 -- an entry of a legal history has the one reply to what it asks there
-reply_is : (opening : ℕ) (until : Option ℕ) (before after : List EntryData) (event : EntryData) → IsLegal opening until after → IsPrefix (before ++ event ∷ []) after
-    → event.reply ≡ answer opening until (reverse before) event.asked
-reply_is opening until before after event legal begins =
+reply_is : (opening : ℕ) (until : Option ℕ) (before after : List EntryData) (entry : EntryData) → IsLegal opening until after → IsPrefix (before ++ entry ∷ []) after
+    → entry.reply ≡ answer opening until (reverse before) entry.asked
+reply_is opening until before after entry legal begins =
     let L : List EntryData → Type 0 = IsLegalPast opening until in
-    let past : IsLegalPast opening until (event ∷ reverse before) =
-    subst L (reverse-append before (event ∷ [])) (legal_begins opening until (before ++ event ∷ []) after begins legal) in
+    let past : IsLegalPast opening until (entry ∷ reverse before) =
+    subst L (reverse-append before (entry ∷ [])) (legal_begins opening until (before ++ entry ∷ []) after begins legal) in
     past.1.answered
 
 -- what an ask gets there
@@ -41,7 +41,7 @@ right_got opening until before Finished got = got
 
 got_is : (opening : ℕ) (until : Option ℕ) (seat : ℕ) (before after : List EntryData) (says : Says) (reply : Reply) → IsLegal opening until after
     → IsPrefix (before ++ entry_of seat says (Ok reply)) after → Ok reply ≡ right_got opening until before says (Ok reply)
-got_is opening until seat before after (Asks asked) reply legal begins = ap Ok (reply_is opening until before after (event_by seat asked reply) legal begins)
+got_is opening until seat before after (Asks asked) reply legal begins = ap Ok (reply_is opening until before after (entry_by seat asked reply) legal begins)
 got_is opening until seat before after (Sends orders) reply legal begins = refl
 got_is opening until seat before after Finished reply legal begins = refl
 

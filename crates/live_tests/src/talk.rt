@@ -341,7 +341,7 @@ fn a_failed_output_ends_it(rt: HostRuntime) -> Result<(), Fail> {
 }
 
 #[test]
-fn tells_a_line_that_is_too_long(rt: HostRuntime) -> Result<(), Fail> {
+fn names_a_line_that_is_too_long(rt: HostRuntime) -> Result<(), Fail> {
     let alloc = rt.alloc();
     let setup = set_up_seven(alloc)?;
     let rest = "\n5,,,operator,Recharge,7,500,,\n";

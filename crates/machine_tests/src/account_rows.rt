@@ -181,7 +181,7 @@ pub(crate) const ACCOUNTS: [(&str, u64, Option<u64>, u32, &[(Ask, Want)]); 26] =
         ],
     ),
     (
-        "a switch that tells the time before the change once",
+        "a switch that states the time before the change once",
         1500,
         None,
         MANY,
@@ -192,7 +192,7 @@ pub(crate) const ACCOUNTS: [(&str, u64, Option<u64>, u32, &[(Ask, Want)]); 26] =
         ],
     ),
     (
-        "a switch that tells another time before the change",
+        "a switch that states another time before the change",
         1500,
         None,
         MANY,

@@ -1,4 +1,4 @@
-//! Every row of the service's table.
+//! Every rule of the service.
 
 use crate::looking::gives;
 use crate::making::{arms, charge, number};

@@ -3,13 +3,13 @@ use Rattle.std.proofs.Common.{refl, ◌≡◌, ◌++◌, ℕ, false, Option, Som
 use Rattle.std.specs.Prelude.{IfSome}
 use Rattle.account_core.specs.Asked.{Asked, IsOfCall}
 use Rattle.account_core.specs.Known.{CallFacts, deed, deed_of, known_after}
-use Rattle.account_core.specs.Ledger.{event_by}
+use Rattle.account_core.specs.Ledger.{entry_by}
 use Rattle.account_core.specs.Standing.{MovesCall}
 use Rattle.account_core.specs.declared.entry.Reply.{Reply}
 use Rattle.account_core.specs.declared.fault.AccountFault.{AccountFault}
 use Rattle.cap_values.specs.Orders.{Order, Paid, paid_by}
 use Rattle.dialogue_core.specs.Phases.{Phase, Says, Asks, Sends, Finished}
-use Rattle.dialogue_core.specs.Table.{Step, on_reply, on_refusal}
+use Rattle.dialogue_core.specs.Rules.{Step, on_reply, on_refusal}
 use Rattle.dialogue_core.specs.Talks.{AreGot, Gets, Got, IsTalkedOut, after_got, is_ask, or_done, orders_sent_by, talked}
 use Rattle.ssf_core.specs.Meters.{Meter}
 use Rattle.one_call.specs.Asks.{IsAskedOnce}
@@ -32,7 +32,7 @@ ready_by : (call : ℕ) (meter : Meter) (queued : List Paid) (before after : Opt
 ready_by call meter queued before after phase asked (Ok reply) moves ready =
     let moved = rw ready.stands at moves in
     let of : IsOfCall call asked = of_call call meter queued ready.kept phase asked ready.fits in
-    let deed_here : deed call (event_by 0 asked reply) ≡ deed_of asked reply = deed_is call asked reply (its_call call asked of) in
+    let deed_here : deed call (entry_by 0 asked reply) ≡ deed_of asked reply = deed_is call asked reply (its_call call asked of) in
     record {
       kept = known_after ready.kept (deed_of asked reply);
       stands = moved.0 ∙ ap (λ d. Some (known_after ready.kept d)) deed_here;

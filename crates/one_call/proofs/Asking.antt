@@ -6,14 +6,14 @@ use Rattle.account_core.specs.Answers.{accepted_times}
 use Rattle.account_core.specs.Asked.{Asked, Credits, Reserves, Settles, Returns, IsOfCall, call_of}
 use Rattle.account_core.specs.Known.{CallFacts, EntryDeed, deed, deed_of, known_after, nothing_known, plan_in_force}
 use Rattle.account_core.specs.Known as known
-use Rattle.account_core.specs.Ledger.{event_by}
+use Rattle.account_core.specs.Ledger.{entry_by}
 use Rattle.account_core.specs.Standing.{IsGrant, FitsCall}
 use Rattle.account_core.specs.declared.entry.Reply.{Reply}
 use Rattle.account_core.specs.declared.entry.Reply.TheVariants.{Credited, CreditOver, Granted, Denied, Settled, Forfeit, Returned}
 use Rattle.cap_values.specs.Orders.{Paid, Pay}
 use Rattle.dialogue_core.specs.Phases.{Conditions, Phase, Says, Sequel, FirstAsk, Running, Settling, MoreAsk, Returning, Ending, Closed, Asks, Sends, Finished}
 use Rattle.dialogue_core.specs.Phases as phase
-use Rattle.dialogue_core.specs.Table.{Step, are_units, says_first_period, on_reply, sequel, on_refusal}
+use Rattle.dialogue_core.specs.Rules.{Step, are_units, says_first_period, on_reply, sequel, on_refusal}
 use Rattle.dialogue_core.specs.declared.fault.DialogueFault.TheVariants.{Unexpected}
 use Rattle.ssf_core.specs.Meters.{Meter}
 use Rattle.tariff_core.specs.Rates.{Rates}
@@ -24,7 +24,7 @@ use Rattle.one_call.specs.declared.counts.Counts.{Counts}
 
 -- ---- what an entry does to a call that it is of
 
-pub deed_is : (call : ℕ) (asked : Asked) (reply : Reply) → call_of asked ≡ call → deed call (event_by 0 asked reply) ≡ deed_of asked reply
+pub deed_is : (call : ℕ) (asked : Asked) (reply : Reply) → call_of asked ≡ call → deed call (entry_by 0 asked reply) ≡ deed_of asked reply
 unfolding deed
 deed_is call asked reply same = rw (eq-eqb (call_of asked) call same) refl
 

@@ -12,7 +12,7 @@ use Rattle.cap_values.specs.declared.message.SsfMsg.TheVariants as msg
 use Rattle.cap_values.specs.declared.mode.Mode.{Mode}
 use Rattle.cap_values.specs.declared.operation.ScfOp.{ScfOp}
 use Rattle.dialogue_core.specs.Phases.{Conditions, Phase, Says, FirstAsk, Running, Settling, MoreAsk, Returning, Ending, Closed}
-use Rattle.dialogue_core.specs.Table.{going_on, event_reported, on_message}
+use Rattle.dialogue_core.specs.Rules.{going_on, event_reported, on_message}
 use Rattle.dialogue_core.specs.declared.fault.DialogueFault.{DialogueFault}
 use Rattle.ssf_core.specs.Meters.{EndsMeter, Later, Meter, RunsThrough, TakesPeriod}
 use Rattle.ssf_core.specs.Meters as meters

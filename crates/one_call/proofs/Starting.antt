@@ -4,7 +4,7 @@ use Rattle.std.specs.Prelude.{is_some}
 use Rattle.account_core.specs.Known.{CallFacts, nothing_known}
 use Rattle.cap_values.specs.declared.message.SsfMsg.TheVariants as msg
 use Rattle.dialogue_core.specs.Phases.{Phase, Says}
-use Rattle.dialogue_core.specs.Table.{on_begin, seconds_to}
+use Rattle.dialogue_core.specs.Rules.{on_begin, seconds_to}
 use Rattle.ssf_core.specs.Calls.{Stands, View}
 use Rattle.ssf_core.specs.Meters.{Later, Meter, Metered, RunsThrough, MetersItem, meter_of}
 use Rattle.ssf_core.specs.declared.item.Item.{Item}

@@ -4,15 +4,15 @@ use Rattle.std.specs.Prelude.{filter, if◌then◌else◌, slice_index_or}
 use Rattle.std.proofs.lemmas.List.{length-map}
 use Rattle.std.proofs.lemmas.List.Elements.{All-head, All-tail}
 use Rattle.account_core.specs.Answers.{IsLegal}
-use Rattle.account_core.specs.Events.{EntryData}
+use Rattle.account_core.specs.Entries.{EntryData}
 use Rattle.live_recovery.proofs.Alike.{GoAlike, goes_itself}
 use Rattle.live_recovery.proofs.Alone.{answers_all, are_legal, as_many, histories_of, none_is_fault, opening_at, own_lists, shares_all, until_at}
 use Rattle.live_recovery.proofs.Chains.{NoFault, chains_alike}
 use Rattle.live_recovery.proofs.Handling.{AreLegal}
 use Rattle.live_recovery.specs.Laws.{NoneIsRefused, views_of}
 use Rattle.part_laws.proofs.Blind.{legal_same}
-use Rattle.part_laws.proofs.Choosing.{GoByAccount, HoldsPart, chain_part, chosen_posts, chosen_said_so, masked, picks}
-use Rattle.part_laws.proofs.Plain.{AllShown, chain_plain, plain, plain_lists, plain_post, plain_said_so}
+use Rattle.part_laws.proofs.Choosing.{GoByAccount, HoldsPart, chain_part, chosen_posts, chosen_answers, masked, picks}
+use Rattle.part_laws.proofs.Plain.{AllShown, chain_plain, plain, plain_lists, plain_post, plain_answer}
 use Rattle.part_laws.specs.Chosen.{AreByAccount, Choice, IsByAccount, answers_for, chosen, chosen_book, is_chosen}
 use Rattle.part_laws.specs.Laws.{AccountsDontInterfere}
 use Rattle.part_laws.specs.Numbers.{unnumbered_answer, unnumbered_book, without_numbers}
@@ -81,39 +81,39 @@ module _ (setup : Setup) (choice : Choice) where
 
   -- ---- the answers of both
 
-  said_so_same : (first : ℕ) (given : List (ℕ × Body)) (posts : List Post) (answers : List Answer) → map item_of posts ≡ numbered first given
-      → chosen_said_so setup choice posts (map answer_view answers) ≡ map answer_view (answers_for choice given answers)
-  said_so_same first [] [] answers is = refl
-  said_so_same first [] (post ∷ posts) answers is = absurd (cc)
-  said_so_same first (item ∷ given) [] answers is = absurd (cc)
-  said_so_same first (item ∷ given) (post ∷ posts) [] is = refl
-  said_so_same first (item ∷ given) (post ∷ posts) (answer ∷ answers) is =
+  chosen_same : (first : ℕ) (given : List (ℕ × Body)) (posts : List Post) (answers : List Answer) → map item_of posts ≡ numbered first given
+      → chosen_answers setup choice posts (map answer_view answers) ≡ map answer_view (answers_for choice given answers)
+  chosen_same first [] [] answers is = refl
+  chosen_same first [] (post ∷ posts) answers is = absurd (cc)
+  chosen_same first (item ∷ given) [] answers is = absurd (cc)
+  chosen_same first (item ∷ given) (post ∷ posts) [] is = refl
+  chosen_same first (item ∷ given) (post ∷ posts) (answer ∷ answers) is =
       let here : item_of post ≡ item_at first item = cc is in
       let later : map item_of posts ≡ numbered (first + 1) given = cc is in
       let same : post.body ≡ item.1 = ap (λ (i : Item). i.body) here in
-      let rest = chosen_said_so setup choice posts (map answer_view answers) in
-      ap (λ (body : Body). if is_chosen choice body then answer_view answer ∷ rest else rest) same ∙ by_own (is_chosen choice item.1) (said_so_same (first + 1) given posts answers later)
+      let rest = chosen_answers setup choice posts (map answer_view answers) in
+      ap (λ (body : Body). if is_chosen choice body then answer_view answer ∷ rest else rest) same ∙ by_own (is_chosen choice item.1) (chosen_same (first + 1) given posts answers later)
     where
-      by_own : (b : Bool) → chosen_said_so setup choice posts (map answer_view answers) ≡ map answer_view (answers_for choice given answers)
-          → (if b then answer_view answer ∷ chosen_said_so setup choice posts (map answer_view answers) else chosen_said_so setup choice posts (map answer_view answers))
+      by_own : (b : Bool) → chosen_answers setup choice posts (map answer_view answers) ≡ map answer_view (answers_for choice given answers)
+          → (if b then answer_view answer ∷ chosen_answers setup choice posts (map answer_view answers) else chosen_answers setup choice posts (map answer_view answers))
           ≡ map answer_view (if b then answer ∷ answers_for choice given answers else answers_for choice given answers)
       by_own true rest = ap (λ l. answer_view answer ∷ l) rest
       by_own false rest = rest
 
-  said_same : (answers : List Answer) → map plain_said_so (map answer_view answers) ≡ map unnumbered_answer answers
+  said_same : (answers : List Answer) → map plain_answer (map answer_view answers) ≡ map unnumbered_answer answers
   said_same [] = refl
   said_same (answer ∷ answers) = ap (λ l. unnumbered_answer answer ∷ l) (said_same answers)
 
-  no_fault_plain : (answers : List AnswerView) → NoFault answers → NoFault (map plain_said_so answers)
+  no_fault_plain : (answers : List AnswerView) → NoFault answers → NoFault (map plain_answer answers)
   no_fault_plain [] none = tt
-  no_fault_plain (said_so ∷ answers) none = (none.0, no_fault_plain answers none.1)
+  no_fault_plain (answer ∷ answers) none = (none.0, no_fault_plain answers none.1)
 
-  no_fault_chosen : (posts : List Post) (answers : List AnswerView) → NoFault answers → NoFault (chosen_said_so setup choice posts answers)
+  no_fault_chosen : (posts : List Post) (answers : List AnswerView) → NoFault answers → NoFault (chosen_answers setup choice posts answers)
   no_fault_chosen [] answers none = tt
   no_fault_chosen (post ∷ posts) [] none = tt
-  no_fault_chosen (post ∷ posts) (said_so ∷ answers) none = by_own (is_chosen choice post.body) (no_fault_chosen posts answers none.1)
+  no_fault_chosen (post ∷ posts) (answer ∷ answers) none = by_own (is_chosen choice post.body) (no_fault_chosen posts answers none.1)
     where
-      by_own : (b : Bool) → NoFault (chosen_said_so setup choice posts answers) → NoFault (if b then said_so ∷ chosen_said_so setup choice posts answers else chosen_said_so setup choice posts answers)
+      by_own : (b : Bool) → NoFault (chosen_answers setup choice posts answers) → NoFault (if b then answer ∷ chosen_answers setup choice posts answers else chosen_answers setup choice posts answers)
       by_own true rest = (none.0, rest)
       by_own false rest = rest
 
@@ -235,9 +235,9 @@ plain_chains setup choice given its answers own_answers books own_books by run o
     let part = chain_part setup choice (refuses_in StoodIn books 0) numbers a.posts _ (at_first setup) _ (at_first setup) (λ call standing is. absurd (cc)) (go_by setup choice 0 given a.posts share by)
     (first_holds setup choice) a.answered.chain in
     let ours = map plain_post (chosen_posts setup choice a.posts) in
-    let said_so = chosen_said_so setup choice a.posts in
-    let said = ap (λ l. map plain_said_so (said_so l)) views ∙ ap (map plain_said_so) (said_so_same setup choice 0 given a.posts answers share) ∙ said_same setup choice (answers_for choice given answers) in
-    let own_said = ap (map plain_said_so) own_views ∙ said_same setup choice own_answers in
+    let its_answers = chosen_answers setup choice a.posts in
+    let said = ap (λ l. map plain_answer (its_answers l)) views ∙ ap (map plain_answer) (chosen_same setup choice 0 given a.posts answers share) ∙ said_same setup choice (answers_for choice given answers) in
+    let own_said = ap (map plain_answer) own_views ∙ said_same setup choice own_answers in
     let own_new : Holding = record { lists = lists_of 0 own_books; talks = b.answered.talks } in
     let C : List AnswerView → Type 0 = λ l. AreAnswered AllShown setup numbers ours l start (plain part.last) in
     let D : List AnswerView → Type 0 = λ l. AreAnswered AllShown setup numbers (map plain_post b.posts) l start (plain own_new) in

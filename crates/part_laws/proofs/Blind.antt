@@ -6,7 +6,7 @@ use Rattle.std.proofs.lemmas.List.Sums.{sum_by-cons}
 use Rattle.account_core.specs.Answers.{IsLegal, IsLegalPast, answer, inadmissible, showing, bare_reply}
 use Rattle.account_core.specs.Asked.{Asked, Credits, Reserves, Settles, Returns, call_of}
 use Rattle.account_core.specs.Available.{available, begins_call, calls, credited, credits, is_grant, taken_by_all}
-use Rattle.account_core.specs.Events.{EntryData}
+use Rattle.account_core.specs.Entries.{EntryData}
 use Rattle.account_core.specs.Expiry.{last_moment, last_moment_after}
 use Rattle.account_core.specs.Known.{CallFacts, EntryDeed, Rests, deed, deed_of, known, known_after, taken_of}
 use Rattle.account_core.specs.declared.entry.Reply.{Reply}
@@ -21,61 +21,61 @@ call_same (Reserves call plan wanted least at) = refl
 call_same (Settles call number info) = refl
 call_same (Returns call) = refl
 
-deed_of_same : (asked : Asked) (said_so : Reply) → deed_of (unnumbered asked) said_so ≡ deed_of asked said_so
-deed_of_same (Credits amount until) said_so = refl
-deed_of_same (Reserves call plan wanted least at) said_so = refl
+deed_of_same : (asked : Asked) (response : Reply) → deed_of (unnumbered asked) response ≡ deed_of asked response
+deed_of_same (Credits amount until) response = refl
+deed_of_same (Reserves call plan wanted least at) response = refl
 deed_of_same (Settles call number info) (reply.Settled paid available) = refl
 deed_of_same (Settles call number info) (reply.Forfeit paid available) = refl
-deed_of_same (Settles call number info) said_so = refl
-deed_of_same (Returns call) said_so = refl
+deed_of_same (Settles call number info) response = refl
+deed_of_same (Returns call) response = refl
 
-deed_same : (call : ℕ) (event : EntryData) → deed call (without_number event) ≡ deed call event
+deed_same : (call : ℕ) (entry : EntryData) → deed call (without_number entry) ≡ deed call entry
 unfolding deed
-deed_same call event =
-    ap (λ c. if c == call then deed_of (unnumbered event.asked) event.reply else Rests) (call_same event.asked)
-    ∙ ap (λ (d : EntryDeed). if call_of event.asked == call then d else Rests) (deed_of_same event.asked event.reply)
+deed_same call entry =
+    ap (λ c. if c == call then deed_of (unnumbered entry.asked) entry.reply else Rests) (call_same entry.asked)
+    ∙ ap (λ (d : EntryDeed). if call_of entry.asked == call then d else Rests) (deed_of_same entry.asked entry.reply)
 
-credited_same : (asked : Asked) (said_so : Reply) → credited (unnumbered asked) said_so ≡ credited asked said_so
-credited_same (Credits amount until) said_so = refl
-credited_same (Reserves call plan wanted least at) said_so = refl
-credited_same (Settles call number info) said_so = refl
-credited_same (Returns call) said_so = refl
+credited_same : (asked : Asked) (response : Reply) → credited (unnumbered asked) response ≡ credited asked response
+credited_same (Credits amount until) response = refl
+credited_same (Reserves call plan wanted least at) response = refl
+credited_same (Settles call number info) response = refl
+credited_same (Returns call) response = refl
 
-last_same : (before : Option ℕ) (asked : Asked) (said_so : Reply) → last_moment_after before (unnumbered asked) said_so ≡ last_moment_after before asked said_so
-last_same before (Credits amount until) said_so = refl
-last_same before (Reserves call plan wanted least at) said_so = refl
-last_same before (Settles call number info) said_so = refl
-last_same before (Returns call) said_so = refl
+last_same : (before : Option ℕ) (asked : Asked) (response : Reply) → last_moment_after before (unnumbered asked) response ≡ last_moment_after before asked response
+last_same before (Credits amount until) response = refl
+last_same before (Reserves call plan wanted least at) response = refl
+last_same before (Settles call number info) response = refl
+last_same before (Returns call) response = refl
 
 -- ---- of a history
 
 pub known_same : (call : ℕ) (h : List EntryData) → known call (without_numbers h) ≡ known call h
 known_same call [] = refl
-known_same call (event ∷ h) =
-    ap (λ k. known_after k (deed call (without_number event))) (known_same call h) ∙ ap (known_after (known call h)) (deed_same call event)
+known_same call (entry ∷ h) =
+    ap (λ k. known_after k (deed call (without_number entry))) (known_same call h) ∙ ap (known_after (known call h)) (deed_same call entry)
 
 credits_same : (h : List EntryData) → credits (without_numbers h) ≡ credits h
 credits_same [] = refl
-credits_same (event ∷ h) =
-    ap (λ n. n + credited (unnumbered event.asked) event.reply) (credits_same h) ∙ ap (λ n. credits h + n) (credited_same event.asked event.reply)
+credits_same (entry ∷ h) =
+    ap (λ n. n + credited (unnumbered entry.asked) entry.reply) (credits_same h) ∙ ap (λ n. credits h + n) (credited_same entry.asked entry.reply)
 
 last_moment_same : (until : Option ℕ) (h : List EntryData) → last_moment until (without_numbers h) ≡ last_moment until h
 last_moment_same until [] = refl
-last_moment_same until (event ∷ h) =
-    ap (λ (m : Option ℕ). last_moment_after m (unnumbered event.asked) event.reply) (last_moment_same until h) ∙ last_same (last_moment until h) event.asked event.reply
+last_moment_same until (entry ∷ h) =
+    ap (λ (m : Option ℕ). last_moment_after m (unnumbered entry.asked) entry.reply) (last_moment_same until h) ∙ last_same (last_moment until h) entry.asked entry.reply
 
-begins_same : (event : EntryData) (h : List EntryData) → begins_call (without_number event) (without_numbers h) ≡ begins_call event h
-begins_same event h =
-    ap (λ (d : EntryDeed). is_grant d && not (is_some (known (call_of (unnumbered event.asked)) (without_numbers h)).plan)) (deed_of_same event.asked event.reply)
-    ∙ ap (λ c. is_grant (deed_of event.asked event.reply) && not (is_some (known c (without_numbers h)).plan)) (call_same event.asked)
-    ∙ ap (λ (k : CallFacts). is_grant (deed_of event.asked event.reply) && not (is_some k.plan)) (known_same (call_of event.asked) h)
+begins_same : (entry : EntryData) (h : List EntryData) → begins_call (without_number entry) (without_numbers h) ≡ begins_call entry h
+begins_same entry h =
+    ap (λ (d : EntryDeed). is_grant d && not (is_some (known (call_of (unnumbered entry.asked)) (without_numbers h)).plan)) (deed_of_same entry.asked entry.reply)
+    ∙ ap (λ c. is_grant (deed_of entry.asked entry.reply) && not (is_some (known c (without_numbers h)).plan)) (call_same entry.asked)
+    ∙ ap (λ (k : CallFacts). is_grant (deed_of entry.asked entry.reply) && not (is_some k.plan)) (known_same (call_of entry.asked) h)
 
 calls_same : (h : List EntryData) → calls (without_numbers h) ≡ calls h
 calls_same [] = refl
-calls_same (event ∷ h) =
-    ap (λ (b : Bool). if b then call_of (unnumbered event.asked) ∷ calls (without_numbers h) else calls (without_numbers h)) (begins_same event h)
-    ∙ ap (λ c. if begins_call event h then c ∷ calls (without_numbers h) else calls (without_numbers h)) (call_same event.asked)
-    ∙ ap (λ (l : List ℕ). if begins_call event h then call_of event.asked ∷ l else l) (calls_same h)
+calls_same (entry ∷ h) =
+    ap (λ (b : Bool). if b then call_of (unnumbered entry.asked) ∷ calls (without_numbers h) else calls (without_numbers h)) (begins_same entry h)
+    ∙ ap (λ c. if begins_call entry h then c ∷ calls (without_numbers h) else calls (without_numbers h)) (call_same entry.asked)
+    ∙ ap (λ (l : List ℕ). if begins_call entry h then call_of entry.asked ∷ l else l) (calls_same h)
 
 sum_same : (h : List EntryData) (numbers : List ℕ) → sum_by (λ call. taken_of (known call (without_numbers h))) numbers ≡ sum_by (λ call. taken_of (known call h)) numbers
 sum_same h [] = refl
@@ -103,7 +103,7 @@ verdict_same opening until h (Settles call number info) = rw (known_same call h)
 verdict_same opening until h (Returns call) = rw (known_same call h) refl
 
 abbrev asks : Asked → Reply → EntryData
-asks asked said_so = record { seat = 0; asked = asked; reply = said_so }
+asks asked response = record { seat = 0; asked = asked; reply = response }
 
 pub answer_same : (opening : ℕ) (until : Option ℕ) (h : List EntryData) (asked : Asked) → answer opening until (without_numbers h) (unnumbered asked) ≡ answer opening until h asked
 unfolding answer available
@@ -121,11 +121,11 @@ admissible_same h (Returns call) = rw (known_same call h) refl
 
 legal_past : (opening : ℕ) (until : Option ℕ) (h : List EntryData) → IsLegalPast opening until h → IsLegalPast opening until (without_numbers h)
 legal_past opening until [] legal = tt
-legal_past opening until (event ∷ h) legal = (
+legal_past opening until (entry ∷ h) legal = (
   legal_past opening until h legal.0,
   record {
-    admissible = admissible_same h event.asked ∙ legal.1.admissible;
-    answered = legal.1.answered ∙ sym (answer_same opening until h event.asked);
+    admissible = admissible_same h entry.asked ∙ legal.1.admissible;
+    answered = legal.1.answered ∙ sym (answer_same opening until h entry.asked);
   },
 )
 

@@ -3,7 +3,7 @@ use Rattle.std.proofs.Common.{◌≡◌, ◌∙◌, ℕ, zero, suc, Bool, true, 
 use Rattle.std.specs.Prelude.{◌==◌, filter, if◌then◌else◌, option_and_then, slice_index_or}
 use Rattle.std.specs.Option.{ForSome}
 use Rattle.std.proofs.lemmas.Bool.Decides.{nat_tests}
-use Rattle.account_core.specs.Events.{EntryData}
+use Rattle.account_core.specs.Entries.{EntryData}
 use Rattle.part_laws.proofs.Plain.{AllShown, done_shown}
 use Rattle.part_laws.specs.Chosen.{Choice, IsByAccount, is_chosen}
 use Rattle.run_values.specs.Openings.{no_credit}
@@ -103,13 +103,13 @@ module _ (setup : Setup) (choice : Choice) where
           ap choice.calls its ∙ same ∙ ap (λ (s : DialogueAt). picks s.place) it
       by_call false here is = home other found is
 
-  done_home : (numbers : List ℕ) (at : ℕ) (v : Verdict) (own : Bool) (old new : Holding) (said_so : AnswerView) → Touches own v → AreAtHome old.talks → IsDone setup numbers at v old new said_so → AreAtHome new.talks
-  done_home numbers at Strays own old new said_so touch home done = stays_home old.talks new.talks done.talks home
-  done_home numbers at Rejects own old new said_so touch home done = stays_home old.talks new.talks done.talks home
-  done_home numbers at (Recharges place amount until) own old new said_so touch home done = stays_home old.talks new.talks done.talks home
-  done_home numbers at (Begins call place called) own old new said_so touch home done =
+  done_home : (numbers : List ℕ) (at : ℕ) (v : Verdict) (own : Bool) (old new : Holding) (answer : AnswerView) → Touches own v → AreAtHome old.talks → IsDone setup numbers at v old new answer → AreAtHome new.talks
+  done_home numbers at Strays own old new answer touch home done = stays_home old.talks new.talks done.talks home
+  done_home numbers at Rejects own old new answer touch home done = stays_home old.talks new.talks done.talks home
+  done_home numbers at (Recharges place amount until) own old new answer touch home done = stays_home old.talks new.talks done.talks home
+  done_home numbers at (Begins call place called) own old new answer touch home done =
       now_home call (record { phase = done.talked.phase; place = place }) old.talks new.talks done.talked.talks (sym touch.0 ∙ touch.1) home
-  done_home numbers at (GoesOn call place said phase) own old new said_so touch home done =
+  done_home numbers at (GoesOn call place said phase) own old new answer touch home done =
       now_home call (record { phase = done.phase; place = place }) old.talks new.talks done.talks (sym touch.0 ∙ touch.1) home
 
   -- ---- a post of other accounts
@@ -139,18 +139,18 @@ module _ (setup : Setup) (choice : Choice) where
   talked_apart whole new part call standing now apart holds other own =
       holds.talks other own ∙ ap (at_phase standing (whole.talks other)) (sym (differs call other (sym apart) own)) ∙ sym (now other)
 
-  done_apart : (numbers : List ℕ) (at : ℕ) (v : Verdict) (whole new part : Holding) (said_so : AnswerView) → Touches false v → HoldsPart whole part → IsDone setup numbers at v whole new said_so → HoldsPart new part
-  done_apart numbers at Strays whole new part said_so touch holds done = stays_part whole new part done.lists done.talks holds
-  done_apart numbers at Rejects whole new part said_so touch holds done = stays_part whole new part done.lists done.talks holds
-  done_apart numbers at (Recharges place amount until) whole new part said_so touch holds done = record {
+  done_apart : (numbers : List ℕ) (at : ℕ) (v : Verdict) (whole new part : Holding) (answer : AnswerView) → Touches false v → HoldsPart whole part → IsDone setup numbers at v whole new answer → HoldsPart new part
+  done_apart numbers at Strays whole new part answer touch holds done = stays_part whole new part done.lists done.talks holds
+  done_apart numbers at Rejects whole new part answer touch holds done = stays_part whole new part done.lists done.talks holds
+  done_apart numbers at (Recharges place amount until) whole new part answer touch holds done = record {
     lists = grows_apart whole new part place _ done.lists touch holds;
     talks = λ call own. holds.talks call own ∙ sym (done.talks call);
   }
-  done_apart numbers at (Begins call place called) whole new part said_so touch holds done = record {
+  done_apart numbers at (Begins call place called) whole new part answer touch holds done = record {
     lists = grows_apart whole new part place _ done.talked.lists touch.1 holds;
     talks = talked_apart whole new part call _ done.talked.talks touch.0 holds;
   }
-  done_apart numbers at (GoesOn call place said phase) whole new part said_so touch holds done = record {
+  done_apart numbers at (GoesOn call place said phase) whole new part answer touch holds done = record {
     lists = grows_apart whole new part place _ done.lists touch.1 holds;
     talks = talked_apart whole new part call _ done.talks touch.0 holds;
   }
@@ -158,9 +158,9 @@ module _ (setup : Setup) (choice : Choice) where
   -- ---- a post of these accounts
 
   -- a post is done by the part as by the whole
-  pub record DoesToo (numbers : List ℕ) (at : ℕ) (v : Verdict) (new part : Holding) (said_so : AnswerView) : Type 0 where
+  pub record DoesToo (numbers : List ℕ) (at : ℕ) (v : Verdict) (new part : Holding) (answer : AnswerView) : Type 0 where
     pub next : Holding
-    pub done : IsDone setup numbers at v part next said_so
+    pub done : IsDone setup numbers at v part next answer
     pub holds : HoldsPart new next
 
   abbrev holding_of : List (List EntryData) → (ℕ → Option DialogueAt) → Holding
@@ -181,10 +181,10 @@ module _ (setup : Setup) (choice : Choice) where
   lists_too whole new part place entries same own holds =
       ap (masked picks) same ∙ masked_in picks whole.lists place entries (sym own) ∙ ap (λ l. grown l place entries) (sym holds.lists)
 
-  is_talked_too : (numbers : List ℕ) (call place : ℕ) (first : _) (whole new part : Holding) (said_so : AnswerView) (is : IsTalked numbers call place first whole new said_so) → true ≡ picks place
+  is_talked_too : (numbers : List ℕ) (call place : ℕ) (first : _) (whole new part : Holding) (answer : AnswerView) (is : IsTalked numbers call place first whole new answer) → true ≡ picks place
       → HoldsPart whole part
-      → IsTalked numbers call place first part (holding_of (masked picks new.lists) (λ other. at_phase (record { phase = is.phase; place = place }) (part.talks other) (other == call))) said_so
-  is_talked_too numbers call place first whole new part said_so is own holds = record {
+      → IsTalked numbers call place first part (holding_of (masked picks new.lists) (λ other. at_phase (record { phase = is.phase; place = place }) (part.talks other) (other == call))) answer
+  is_talked_too numbers call place first whole new part answer is own holds = record {
     gots = is.gots;
     asked = is.asked;
     last = is.last;
@@ -198,9 +198,9 @@ module _ (setup : Setup) (choice : Choice) where
     talks = λ other. refl;
   }
 
-  done_too : (numbers : List ℕ) (at : ℕ) (v : Verdict) (whole new part : Holding) (said_so : AnswerView) → Touches true v → HoldsPart whole part → IsDone setup numbers at v whole new said_so
-      → DoesToo numbers at v new part said_so
-  done_too numbers at Strays whole new part said_so touch holds done = record {
+  done_too : (numbers : List ℕ) (at : ℕ) (v : Verdict) (whole new part : Holding) (answer : AnswerView) → Touches true v → HoldsPart whole part → IsDone setup numbers at v whole new answer
+      → DoesToo numbers at v new part answer
+  done_too numbers at Strays whole new part answer touch holds done = record {
     next = holding_of (masked picks new.lists) part.talks;
     done = record {
       orders_are = done.orders_are;
@@ -211,7 +211,7 @@ module _ (setup : Setup) (choice : Choice) where
     };
     holds = stays_too whole new part done.talks holds;
   }
-  done_too numbers at Rejects whole new part said_so touch holds done = record {
+  done_too numbers at Rejects whole new part answer touch holds done = record {
     next = holding_of (masked picks new.lists) part.talks;
     done = record {
       orders_are = done.orders_are;
@@ -222,7 +222,7 @@ module _ (setup : Setup) (choice : Choice) where
     };
     holds = stays_too whole new part done.talks holds;
   }
-  done_too numbers at (Recharges place amount until) whole new part said_so touch holds done = record {
+  done_too numbers at (Recharges place amount until) whole new part answer touch holds done = record {
     next = holding_of (masked picks new.lists) part.talks;
     done = record {
       got = done.got;
@@ -234,14 +234,14 @@ module _ (setup : Setup) (choice : Choice) where
     };
     holds = stays_too whole new part done.talks holds;
   }
-  done_too numbers at (Begins call place called) whole new part said_so touch holds done = record {
+  done_too numbers at (Begins call place called) whole new part answer touch holds done = record {
     next = _;
-    done = record { route = done.route; routed = done.routed; talked = is_talked_too numbers call place _ whole new part said_so done.talked touch.1 holds };
+    done = record { route = done.route; routed = done.routed; talked = is_talked_too numbers call place _ whole new part answer done.talked touch.1 holds };
     holds = now_too whole new part call _ done.talked.talks holds;
   }
-  done_too numbers at (GoesOn call place said phase) whole new part said_so touch holds done = record {
+  done_too numbers at (GoesOn call place said phase) whole new part answer touch holds done = record {
     next = _;
-    done = is_talked_too numbers call place (said, phase) whole new part said_so done touch.1 holds;
+    done = is_talked_too numbers call place (said, phase) whole new part answer done touch.1 holds;
     holds = now_too whole new part call _ done.talks holds;
   }
 
@@ -256,10 +256,10 @@ module _ (setup : Setup) (choice : Choice) where
   chosen_posts posts = filter (λ post. is_chosen choice post.body) posts
 
   -- what is said to them
-  abbrev pub chosen_said_so : List Post → List AnswerView → List AnswerView
-  chosen_said_so [] answers = []
-  chosen_said_so (post ∷ posts) [] = []
-  chosen_said_so (post ∷ posts) (said_so ∷ answers) = if is_chosen choice post.body then said_so ∷ chosen_said_so posts answers else chosen_said_so posts answers
+  abbrev pub chosen_answers : List Post → List AnswerView → List AnswerView
+  chosen_answers [] answers = []
+  chosen_answers (post ∷ posts) [] = []
+  chosen_answers (post ∷ posts) (answer ∷ answers) = if is_chosen choice post.body then answer ∷ chosen_answers posts answers else chosen_answers posts answers
 
   -- each call goes with its account
   abbrev pub GoByAccount : List Post → Type 0
@@ -273,34 +273,34 @@ module _ (setup : Setup) (choice : Choice) where
     pub chain : AreAnswered AllShown setup numbers posts answers part last
 
   pub chain_part : (Shows : ℕ → Showing) (numbers : List ℕ) (posts : List Post) (answers : List AnswerView) (whole new part : Holding) → AreAtHome whole.talks → GoByAccount posts
-      → HoldsPart whole part → AreAnswered Shows setup numbers posts answers whole new → LeadsToo numbers (chosen_posts posts) (chosen_said_so posts answers) new part
+      → HoldsPart whole part → AreAnswered Shows setup numbers posts answers whole new → LeadsToo numbers (chosen_posts posts) (chosen_answers posts answers) new part
   chain_part Shows numbers [] [] whole new part home by holds are =
       record { last = part; holds = subst (λ (h : Holding). HoldsPart h part) are holds; chain = refl }
-  chain_part Shows numbers [] (said_so ∷ answers) whole new part home by holds are = absurd are
+  chain_part Shows numbers [] (answer ∷ answers) whole new part home by holds are = absurd are
   chain_part Shows numbers (post ∷ posts) [] whole new part home by holds are = absurd are
-  chain_part Shows numbers (post ∷ posts) (said_so ∷ answers) whole new part home by holds are =
+  chain_part Shows numbers (post ∷ posts) (answer ∷ answers) whole new part home by holds are =
       by_own (λ next go. chain_part Shows numbers posts answers are.0 new next home_then by.1 go are.2) (is_chosen choice post.body) refl
     where
       touch : Touches (is_chosen choice post.body) (verdict setup whole.talks post)
       touch = touches whole.talks post.number post.at post.body (verdict setup whole.talks post) home by.0 (means_on setup whole.talks post.number post.at post.body)
 
       home_then : AreAtHome are.0.talks
-      home_then = done_home numbers post.at (verdict setup whole.talks post) (is_chosen choice post.body) whole are.0 said_so touch home are.1.handled.done
+      home_then = done_home numbers post.at (verdict setup whole.talks post) (is_chosen choice post.body) whole are.0 answer touch home are.1.handled.done
 
-      by_own : ((next : Holding) → HoldsPart are.0 next → LeadsToo numbers (chosen_posts posts) (chosen_said_so posts answers) new next) → (own : Bool) → is_chosen choice post.body ≡ own
-          → LeadsToo numbers (if own then post ∷ chosen_posts posts else chosen_posts posts) (if own then said_so ∷ chosen_said_so posts answers else chosen_said_so posts answers) new part
+      by_own : ((next : Holding) → HoldsPart are.0 next → LeadsToo numbers (chosen_posts posts) (chosen_answers posts answers) new next) → (own : Bool) → is_chosen choice post.body ≡ own
+          → LeadsToo numbers (if own then post ∷ chosen_posts posts else chosen_posts posts) (if own then answer ∷ chosen_answers posts answers else chosen_answers posts answers) new part
       by_own later true own =
           let T : Bool → Type 0 = λ b. Touches b (verdict setup whole.talks post) in
-          let step = done_too numbers post.at (verdict setup whole.talks post) whole are.0 part said_so (subst T own touch) holds are.1.handled.done in
-          let D : Verdict → Type 0 = λ w. IsDone setup numbers post.at w part step.next said_so in
+          let step = done_too numbers post.at (verdict setup whole.talks post) whole are.0 part answer (subst T own touch) holds are.1.handled.done in
+          let D : Verdict → Type 0 = λ w. IsDone setup numbers post.at w part step.next answer in
           let done = subst D (sym (verdict_too whole part post.number post.at post.body own holds)) step.done in
-          let handled : IsRightlyHandled AllShown setup numbers post part step.next said_so = record {
+          let handled : IsRightlyHandled AllShown setup numbers post part step.next answer = record {
             handled = record { number = are.1.handled.number; done = done };
-            right = done_shown setup numbers post.at (verdict setup part.talks post) part step.next said_so done;
+            right = done_shown setup numbers post.at (verdict setup part.talks post) part step.next answer done;
           } in
           let rest = later step.next step.holds in
           record { last = rest.last; holds = rest.holds; chain = (step.next, handled, rest.chain) }
       by_own later false own =
           let T : Bool → Type 0 = λ b. Touches b (verdict setup whole.talks post) in
-          let holds_then = done_apart numbers post.at (verdict setup whole.talks post) whole are.0 part said_so (subst T own touch) holds are.1.handled.done in
+          let holds_then = done_apart numbers post.at (verdict setup whole.talks post) whole are.0 part answer (subst T own touch) holds are.1.handled.done in
           later part holds_then

@@ -1,7 +1,7 @@
 -- Two runs that are given the same at first.
 use Rattle.std.proofs.Common.{◌≡◌, ◌∙◌, ◌++◌, ◌+◌, ℕ, Option, List, [], ◌∷◌, length, map, take, refl, sym, ap, subst, arith}
 use Rattle.std.proofs.lemmas.List.{length-map}
-use Rattle.account_core.specs.Events.{EntryData}
+use Rattle.account_core.specs.Entries.{EntryData}
 use Rattle.live_recovery.proofs.Alike.{ItemsAlike, SpeakAlike, speaks_itself}
 use Rattle.live_recovery.proofs.Alone.{answers_all, are_legal, as_many, none_is_fault, numbered_many, numbered_more, opening_at, own_lists, shares_all, until_at}
 use Rattle.live_recovery.proofs.Chains.{NoFault, chain_begins, once_alike}
@@ -39,19 +39,19 @@ module _ (o : ℕ → ℕ) (u : ℕ → Option ℕ) (Shows Others : ℕ → Show
   fronts_alike (item ∷ front) more rest [] others answers replies old new again last is its many placed hold none none_too legal legal_too are too = absurd (cc)
   fronts_alike (item ∷ front) more rest (post ∷ posts) [] answers replies old new again last is its many placed hold none none_too legal legal_too are too = absurd (cc)
   fronts_alike (item ∷ front) more rest (post ∷ posts) (other ∷ others) [] replies old new again last is its many placed hold none none_too legal legal_too are too = absurd are
-  fronts_alike (item ∷ front) more rest (post ∷ posts) (other ∷ others) (said_so ∷ answers) [] old new again last is its many placed hold none none_too legal legal_too are too = absurd too
-  fronts_alike (item ∷ front) more rest (post ∷ posts) (other ∷ others) (said_so ∷ answers) (also ∷ replies) old new again last is its many placed hold none none_too legal legal_too are too =
+  fronts_alike (item ∷ front) more rest (post ∷ posts) (other ∷ others) (answer ∷ answers) [] old new again last is its many placed hold none none_too legal legal_too are too = absurd too
+  fronts_alike (item ∷ front) more rest (post ∷ posts) (other ∷ others) (answer ∷ answers) (also ∷ replies) old new again last is its many placed hold none none_too legal legal_too are too =
       let between = are.0 in
       let between_too = too.0 in
       let first : item_of post ≡ item = cc is in
       let second : item_of other ≡ item = cc its in
-      let alike = once_alike o u Shows Others setup numbers proper post other old between again between_too said_so also new.lists last.lists (same_items (item_of post) (item_of other) (first ∙ sym second))
+      let alike = once_alike o u Shows Others setup numbers proper post other old between again between_too answer also new.lists last.lists (same_items (item_of post) (item_of other) (first ∙ sym second))
       many placed hold are.1.handled.number too.1.handled.number none.0 none_too.0
       (chain_begins Shows setup numbers posts answers between new are.2) legal (chain_begins Others setup numbers others replies between_too last too.2) legal_too
       are.1.handled.done too.1.handled.done in
-      let goes = done_goes_on setup numbers post.at (verdict setup old.talks post) old between said_so are.1.handled.done in
+      let goes = done_goes_on setup numbers post.at (verdict setup old.talks post) old between answer are.1.handled.done in
       let later = fronts_alike front more rest posts others answers replies between new between_too last (cc is) (cc its) (goes.many ∙ many)
-      (placed_after setup numbers post old between said_so placed are.1.handled.done) alike.hold none.1 none_too.1 legal legal_too are.2 too.2 in
+      (placed_after setup numbers post old between answer placed are.1.handled.done) alike.hold none.1 none_too.1 legal legal_too are.2 too.2 in
       ap (λ (t : AnswerView). t ∷ take (length front) answers) alike.answer_is ∙ ap (λ (l : List AnswerView). also ∷ l) later
 
 pub fronts_answered : FrontsAreAnsweredAlike

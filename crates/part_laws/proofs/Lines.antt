@@ -5,7 +5,7 @@ use Rattle.std.specs.List.{cons_option, filter_map, flat_map}
 use Rattle.std.specs.Option.{option_map}
 use Rattle.std.proofs.lemmas.List.{length-map}
 use Rattle.account_core.specs.Available.{available}
-use Rattle.account_core.specs.Events.{EntryData}
+use Rattle.account_core.specs.Entries.{EntryData}
 use Rattle.account_core.specs.Known.{CallFacts, known}
 use Rattle.account_core.specs.Sums.{sum_of}
 use Rattle.book_texts.specs.Laws.{BooksHaveOneText}

@@ -3,7 +3,7 @@ use Rattle.std.proofs.Common.{◌≡◌, ◌∙◌, ◌++◌, ℕ, zero, suc, Bo
 use Rattle.std.specs.Prelude.{if◌then◌else◌, slice_index_or}
 use Rattle.std.proofs.lemmas.List.{map-append}
 use Rattle.account_core.specs.Asked.{Credits}
-use Rattle.account_core.specs.Events.{EntryData}
+use Rattle.account_core.specs.Entries.{EntryData}
 use Rattle.account_core.specs.declared.entry.Reply.{Reply}
 use Rattle.account_core.specs.declared.entry.Reply.TheVariants.{Granted, Denied, Settled, Forfeit, Returned}
 use Rattle.cap_values.specs.declared.event.Event.TheVariants as event
@@ -13,7 +13,7 @@ use Rattle.cap_values.specs.declared.mode.Mode.{Mode}
 use Rattle.cap_values.specs.declared.number.Number.{Number}
 use Rattle.dialogue_core.specs.Phases.{Conditions, Phase, Says, Sequel, FirstAsk, Running, Settling, MoreAsk, Returning, Ending, Closed, Asks, Sends, Finished}
 use Rattle.dialogue_core.specs.Phases as phase
-use Rattle.dialogue_core.specs.Table.{Step, are_units, going_on, on_begin, on_message, on_refusal, on_reply, while_running, sequel}
+use Rattle.dialogue_core.specs.Rules.{Step, are_units, going_on, on_begin, on_message, on_refusal, on_reply, while_running, sequel}
 use Rattle.dialogue_core.specs.Talks.{Got, after_got, is_ask, or_done, orders_sent_by, talked}
 use Rattle.dialogue_core.specs.declared.fault.DialogueFault.TheVariants.{Unexpected}
 use Rattle.part_laws.specs.Numbers.{unnumbered, without_number, without_numbers}
@@ -55,24 +55,24 @@ by_units : (phase : Phase) (b : Bool) (turn : Says × Phase) → IsPlain turn �
 by_units phase true turn plain = plain
 by_units phase false turn plain = refl
 
-reply_plain : (phase : Phase) (said_so : Reply) → IsPlainStep phase (on_reply phase said_so)
+reply_plain : (phase : Phase) (response : Reply) → IsPlainStep phase (on_reply phase response)
 reply_plain (FirstAsk t) (Granted units last available) = by_units (FirstAsk t) (are_units units) _ refl
 reply_plain (FirstAsk t) (Denied available) = refl
-reply_plain (FirstAsk t) said_so = refl
-reply_plain (Running t) said_so = refl
+reply_plain (FirstAsk t) response = refl
+reply_plain (Running t) response = refl
 reply_plain (Settling t true at) (Settled paid available) = refl
 reply_plain (Settling t true at) (Forfeit paid available) = refl
-reply_plain (Settling t true at) said_so = refl
+reply_plain (Settling t true at) response = refl
 reply_plain (Settling t false at) (Settled paid available) = refl
 reply_plain (Settling t false at) (Forfeit paid available) = refl
-reply_plain (Settling t false at) said_so = refl
+reply_plain (Settling t false at) response = refl
 reply_plain (MoreAsk t) (Granted units last available) = by_units (MoreAsk t) (are_units units) _ refl
 reply_plain (MoreAsk t) (Denied available) = refl
-reply_plain (MoreAsk t) said_so = refl
+reply_plain (MoreAsk t) response = refl
 reply_plain (Returning after) (Returned paid available) = sequel_plain after
-reply_plain (Returning after) said_so = refl
-reply_plain Ending said_so = refl
-reply_plain Closed said_so = refl
+reply_plain (Returning after) response = refl
+reply_plain Ending response = refl
+reply_plain Closed response = refl
 
 refusal_plain : (phase : Phase) → IsPlainStep phase (on_refusal phase)
 refusal_plain (FirstAsk t) = refl
@@ -85,7 +85,7 @@ refusal_plain Ending = refl
 refusal_plain Closed = refl
 
 got_plain : (phase : Phase) (got : Got) → IsPlain (after_got phase got)
-got_plain phase (Ok said_so) = reply_plain phase said_so
+got_plain phase (Ok response) = reply_plain phase response
 got_plain phase (Err why) = refusal_plain phase
 
 -- ---- a talk
@@ -106,7 +106,7 @@ sent_plain (Sends orders) = refl
 sent_plain Finished = refl
 
 entry_plain : (seat : ℕ) (says : Says) (got : Got) → entry_of seat (plain_says says) got ≡ without_numbers (entry_of seat says got)
-entry_plain seat (Asks asked) (Ok said_so) = refl
+entry_plain seat (Asks asked) (Ok response) = refl
 entry_plain seat (Asks asked) (Err why) = refl
 entry_plain seat (Sends orders) got = refl
 entry_plain seat Finished got = refl
@@ -135,8 +135,8 @@ plain it = record { lists = plain_lists it.lists; talks = it.talks }
 abbrev pub plain_post : Post → Post
 plain_post post = record post { number = 0 }
 
-abbrev pub plain_said_so : AnswerView → AnswerView
-plain_said_so said_so = record { number = 0; orders = said_so.orders; stray = said_so.stray; refused = said_so.refused }
+abbrev pub plain_answer : AnswerView → AnswerView
+plain_answer answer = record { number = 0; orders = answer.orders; stray = answer.stray; refused = answer.refused }
 
 grown_plain : (lists : List (List EntryData)) (place : ℕ) (entries : List EntryData) → plain_lists (grown lists place entries) ≡ grown (plain_lists lists) place (without_numbers entries)
 grown_plain [] place entries = refl
@@ -147,9 +147,9 @@ grows_plain : (old new : List (List EntryData)) (place : ℕ) (entries others : 
     → plain_lists new ≡ grown (plain_lists old) place others
 grows_plain old new place entries others is same = ap plain_lists is ∙ grown_plain old place entries ∙ ap (grown (plain_lists old) place) (sym same)
 
-is_talked_plain : (numbers : List ℕ) (call place : ℕ) (first : Says × Phase) (old new : Holding) (said_so : AnswerView) → IsTalked numbers call place first old new said_so
-    → IsTalked numbers call place (plain_turn first) (plain old) (plain new) (plain_said_so said_so)
-is_talked_plain numbers call place first old new said_so is = record {
+is_talked_plain : (numbers : List ℕ) (call place : ℕ) (first : Says × Phase) (old new : Holding) (answer : AnswerView) → IsTalked numbers call place first old new answer
+    → IsTalked numbers call place (plain_turn first) (plain old) (plain new) (plain_answer answer)
+is_talked_plain numbers call place first old new answer is = record {
   gots = is.gots;
   asked = asked_plain first is.gots is.asked;
   last = plain_says is.last;
@@ -232,13 +232,13 @@ begin_plain : (call now wanted least : ℕ) (route : Option Route) → plain_tur
 begin_plain call now wanted least None = refl
 begin_plain call now wanted least (Some route) = refl
 
-done_plain : (setup : Setup) (numbers : List ℕ) (at : ℕ) (v : Verdict) (old new : Holding) (said_so : AnswerView) → IsDone setup numbers at v old new said_so
-    → IsDone setup numbers at (plain_verdict v) (plain old) (plain new) (plain_said_so said_so)
-done_plain setup numbers at Strays old new said_so done =
+done_plain : (setup : Setup) (numbers : List ℕ) (at : ℕ) (v : Verdict) (old new : Holding) (answer : AnswerView) → IsDone setup numbers at v old new answer
+    → IsDone setup numbers at (plain_verdict v) (plain old) (plain new) (plain_answer answer)
+done_plain setup numbers at Strays old new answer done =
     record { orders_are = done.orders_are; stray_is = done.stray_is; refused = done.refused; lists = ap plain_lists done.lists; talks = done.talks }
-done_plain setup numbers at Rejects old new said_so done =
+done_plain setup numbers at Rejects old new answer done =
     record { orders_are = done.orders_are; stray_is = done.stray_is; refused = done.refused; lists = ap plain_lists done.lists; talks = done.talks }
-done_plain setup numbers at (Recharges place amount until) old new said_so done = record {
+done_plain setup numbers at (Recharges place amount until) old new answer done = record {
   got = done.got;
   orders = done.orders;
   stray = done.stray;
@@ -246,15 +246,15 @@ done_plain setup numbers at (Recharges place amount until) old new said_so done 
   lists = grows_plain old.lists new.lists place _ _ done.lists (entry_plain (slice_index_or numbers place 0) (Asks (Credits amount until)) done.got);
   talks = done.talks;
 }
-done_plain setup numbers at (Begins call place called) old new said_so done =
-    let T : Says × Phase → Type 0 = λ first. IsTalked numbers call place first (plain old) (plain new) (plain_said_so said_so) in
+done_plain setup numbers at (Begins call place called) old new answer done =
+    let T : Says × Phase → Type 0 = λ first. IsTalked numbers call place first (plain old) (plain new) (plain_answer answer) in
     let first = on_begin call at setup.service.wanted setup.service.least done.route in
     record {
       route = done.route;
       routed = done.routed;
-      talked = subst T (begin_plain call at setup.service.wanted setup.service.least done.route) (is_talked_plain numbers call place first old new said_so done.talked);
+      talked = subst T (begin_plain call at setup.service.wanted setup.service.least done.route) (is_talked_plain numbers call place first old new answer done.talked);
     }
-done_plain setup numbers at (GoesOn call place said p) old new said_so done = is_talked_plain numbers call place (said, p) old new said_so done
+done_plain setup numbers at (GoesOn call place said p) old new answer done = is_talked_plain numbers call place (said, p) old new answer done
 
 -- ---- whatever is shown of refusals
 
@@ -262,7 +262,7 @@ abbrev pub AllShown : ℕ → Showing
 AllShown place mine asked why = Unit {0}
 
 one_shown : (place : ℕ) (mine : List EntryData) (says : Says) (got : Got) → IsRightlyGot (AllShown place) mine says got
-one_shown place mine (Asks asked) (Ok said_so) = tt
+one_shown place mine (Asks asked) (Ok response) = tt
 one_shown place mine (Asks asked) (Err why) = tt
 one_shown place mine (Sends orders) got = tt
 one_shown place mine Finished got = tt
@@ -272,29 +272,29 @@ all_shown place seat first before [] = tt
 all_shown place seat first before (got ∷ earlier) =
     (one_shown place (before ++ entries_of seat first earlier) (talked first earlier).0 got, all_shown place seat first before earlier)
 
-pub done_shown : (setup : Setup) (numbers : List ℕ) (at : ℕ) (v : Verdict) (old new : Holding) (said_so : AnswerView) (done : IsDone setup numbers at v old new said_so)
-    → AreRefusedRightly AllShown setup numbers at v old new said_so done
-done_shown setup numbers at Strays old new said_so done = tt
-done_shown setup numbers at Rejects old new said_so done = tt
-done_shown setup numbers at (Recharges place amount until) old new said_so done = one_shown place (slice_index_or old.lists place []) (Asks (Credits amount until)) done.got
-done_shown setup numbers at (Begins call place called) old new said_so done =
+pub done_shown : (setup : Setup) (numbers : List ℕ) (at : ℕ) (v : Verdict) (old new : Holding) (answer : AnswerView) (done : IsDone setup numbers at v old new answer)
+    → AreRefusedRightly AllShown setup numbers at v old new answer done
+done_shown setup numbers at Strays old new answer done = tt
+done_shown setup numbers at Rejects old new answer done = tt
+done_shown setup numbers at (Recharges place amount until) old new answer done = one_shown place (slice_index_or old.lists place []) (Asks (Credits amount until)) done.got
+done_shown setup numbers at (Begins call place called) old new answer done =
     all_shown place (slice_index_or numbers place 0) _ (slice_index_or old.lists place []) done.talked.gots
-done_shown setup numbers at (GoesOn call place said p) old new said_so done = all_shown place (slice_index_or numbers place 0) (said, p) (slice_index_or old.lists place []) done.gots
+done_shown setup numbers at (GoesOn call place said p) old new answer done = all_shown place (slice_index_or numbers place 0) (said, p) (slice_index_or old.lists place []) done.gots
 
 -- ---- a chain of posts
 
 pub chain_plain : (Shows : ℕ → Showing) (setup : Setup) (numbers : List ℕ) (posts : List Post) (answers : List AnswerView) (old new : Holding)
-    → AreAnswered Shows setup numbers posts answers old new → AreAnswered AllShown setup numbers (map plain_post posts) (map plain_said_so answers) (plain old) (plain new)
+    → AreAnswered Shows setup numbers posts answers old new → AreAnswered AllShown setup numbers (map plain_post posts) (map plain_answer answers) (plain old) (plain new)
 chain_plain Shows setup numbers [] [] old new are = ap plain are
-chain_plain Shows setup numbers [] (said_so ∷ answers) old new are = absurd are
+chain_plain Shows setup numbers [] (answer ∷ answers) old new are = absurd are
 chain_plain Shows setup numbers (post ∷ posts) [] old new are = absurd are
-chain_plain Shows setup numbers (post ∷ posts) (said_so ∷ answers) old new are =
+chain_plain Shows setup numbers (post ∷ posts) (answer ∷ answers) old new are =
     let between = are.0 in
-    let D : Verdict → Type 0 = λ v. IsDone setup numbers post.at v (plain old) (plain between) (plain_said_so said_so) in
+    let D : Verdict → Type 0 = λ v. IsDone setup numbers post.at v (plain old) (plain between) (plain_answer answer) in
     let done = subst D (sym (verdict_plain setup old.talks post.number post.at post.body))
-    (done_plain setup numbers post.at (verdict setup old.talks post) old between said_so are.1.handled.done) in
-    let handled : IsRightlyHandled AllShown setup numbers (plain_post post) (plain old) (plain between) (plain_said_so said_so) = record {
+    (done_plain setup numbers post.at (verdict setup old.talks post) old between answer are.1.handled.done) in
+    let handled : IsRightlyHandled AllShown setup numbers (plain_post post) (plain old) (plain between) (plain_answer answer) = record {
       handled = record { number = refl; done = done };
-      right = done_shown setup numbers post.at (verdict_on setup old.talks 0 post.at post.body) (plain old) (plain between) (plain_said_so said_so) done;
+      right = done_shown setup numbers post.at (verdict_on setup old.talks 0 post.at post.body) (plain old) (plain between) (plain_answer answer) done;
     } in
     (plain between, handled, chain_plain Shows setup numbers posts answers between new are.2)

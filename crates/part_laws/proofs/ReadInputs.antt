@@ -12,12 +12,12 @@ use Rattle.std.specs.Prelude.{codes, if◌then◌else◌, nat_le, nat_lt, ok_or}
 use Rattle.std.proofs.lemmas.Bool.Decides.{nat_tests}
 use Rattle.std.proofs.lemmas.List.{reverse-append}
 use Rattle.part_laws.proofs.InOrder.{ComesInOrder}
-use Rattle.run_texts.specs.Happenings.{Happens, Meets, Recharges, ScriptEvent, Starts}
+use Rattle.run_texts.specs.Happenings.{Happens, Meets, Recharges, RowData, Starts}
 use Rattle.run_texts.specs.Inputs.{RunInput, as_input_fault, input_of, tariff_in}
-use Rattle.run_texts.specs.Parts.{Texts, texts_of}
+use Rattle.run_texts.specs.Sections.{Texts, texts_of}
 use Rattle.run_texts.specs.Scripts.{is_started, judged_by, judged_row, last_row_moment, read_in, script_form, script_of, script_row_at}
 use Rattle.run_texts.specs.Setups.{TableSetup, account_in, account_row, amount_in, has_subscriber, name_account, name_subscriber, party_in, setup_form, setup_row_at, subscriber_row, table_setup_of, until_in}
-use Rattle.run_texts.specs.Views.{rows_are_in_order, script_event}
+use Rattle.run_texts.specs.Views.{rows_are_in_order, row_data}
 use Rattle.run_texts.specs.declared.input_fault.InputFault.{InputFault}
 use Rattle.run_texts.specs.declared.input_fault.InputFault.TheVariants as input
 use Rattle.run_texts.specs.declared.script.ScriptRow.{ScriptRow}
@@ -40,7 +40,7 @@ module _ {S K F : Type 0} (form : TableForm S K F) (P : S → Type 0) (keeps : (
   unfolding rows_from
   rows_keep header width number read [] last holds is = let same : read ≡ last = cc is in subst P same holds
   rows_keep header width number read (fields ∷ rows) last holds is =
-      by_own (own_fault form.limit width number fields) (form.judge header read fields) refl is (λ next held later. rows_keep header width (number + 1) next rows last held later)
+      by_own (own_fault form.most_rows width number fields) (form.judge header read fields) refl is (λ next held later. rows_keep header width (number + 1) next rows last held later)
     where
       by_own : (own : _) (judged : Result S K) → form.judge header read fields ≡ judged
           → then_rows form number (unless_own form own judged) (λ next. rows_from form header width (number + 1) next rows) ≡ Ok last
@@ -74,73 +74,73 @@ refused why last is = absurd (cc is)
 -- ---- the rows of a script
 
 -- newest first, no moment lies below the one before it
-abbrev Fall : List ScriptEvent → Type 0
+abbrev Fall : List RowData → Type 0
 Fall [] = Unit {0}
-Fall (event ∷ earlier) = (last_row_moment earlier ≤ event.at) × Fall earlier
+Fall (row ∷ earlier) = (last_row_moment earlier ≤ row.at) × Fall earlier
 
 module _ (accounts : List (ℕ × OpeningCredit)) where
-  judged_kept : (earlier : List ScriptEvent) (event : ScriptEvent) (what : Happens) (judged : ScriptEvent) → judged_by accounts earlier event what ≡ Ok judged → event ≡ judged
-  judged_kept earlier event (Starts call calling called) judged is = if_kept (is_started call earlier) _ _ judged (refused _ judged) (λ same. cc same) is
-  judged_kept earlier event (Meets call met) judged is = if_kept (is_started call earlier) _ _ judged (λ same. cc same) (refused _ judged) is
-  judged_kept earlier event (Recharges account amount until) judged is = if_kept (has_account account accounts) _ _ judged (λ same. cc same) (refused _ judged) is
+  judged_kept : (earlier : List RowData) (row : RowData) (what : Happens) (judged : RowData) → judged_by accounts earlier row what ≡ Ok judged → row ≡ judged
+  judged_kept earlier row (Starts call calling called) judged is = if_kept (is_started call earlier) _ _ judged (refused _ judged) (λ same. cc same) is
+  judged_kept earlier row (Meets call met) judged is = if_kept (is_started call earlier) _ _ judged (λ same. cc same) (refused _ judged) is
+  judged_kept earlier row (Recharges account amount until) judged is = if_kept (has_account account accounts) _ _ judged (λ same. cc same) (refused _ judged) is
 
-  row_kept : (earlier : List ScriptEvent) (event judged : ScriptEvent) → judged_row accounts earlier event ≡ Ok judged → last_row_moment earlier ≤ judged.at
-  row_kept earlier event judged is = by_order (nat_lt event.at (last_row_moment earlier)) refl is
+  row_kept : (earlier : List RowData) (row judged : RowData) → judged_row accounts earlier row ≡ Ok judged → last_row_moment earlier ≤ judged.at
+  row_kept earlier row judged is = by_order (nat_lt row.at (last_row_moment earlier)) refl is
     where
-      by_order : (b : Bool) → nat_lt event.at (last_row_moment earlier) ≡ b → (if b then Err kind.Order else judged_by accounts earlier event event.what) ≡ Ok judged → last_row_moment earlier ≤ judged.at
+      by_order : (b : Bool) → nat_lt row.at (last_row_moment earlier) ≡ b → (if b then Err kind.Order else judged_by accounts earlier row row.what) ≡ Ok judged → last_row_moment earlier ≤ judged.at
       by_order true at is = absurd (cc is)
       by_order false at is =
-          let same = judged_kept earlier event event.what judged is in
-          let after : last_row_moment earlier ≤ event.at = grind (arith, nat_tests, at) in subst (λ (e : ScriptEvent). last_row_moment earlier ≤ e.at) same after
+          let same = judged_kept earlier row row.what judged is in
+          let after : last_row_moment earlier ≤ row.at = grind (arith, nat_tests, at) in subst (λ (e : RowData). last_row_moment earlier ≤ e.at) same after
 
-  script_falls : (header : ℕ) (earlier : List ScriptEvent) (fields : Fields) (next : List ScriptEvent) → Fall earlier → (script_form accounts).judge header earlier fields ≡ Ok next → Fall next
+  script_falls : (header : ℕ) (earlier : List RowData) (fields : Fields) (next : List RowData) → Fall earlier → (script_form accounts).judge header earlier fields ≡ Ok next → Fall next
   unfolding script_row_at
   script_falls header earlier fields next falls is = by_read (read_in fields) is
     where
-      by_judged : (judged : Result ScriptEvent RowKind) → ((event : ScriptEvent) → judged ≡ Ok event → last_row_moment earlier ≤ event.at)
-          → and_then judged (λ event. Ok (event ∷ earlier)) ≡ Ok next → Fall next
+      by_judged : (judged : Result RowData RowKind) → ((row : RowData) → judged ≡ Ok row → last_row_moment earlier ≤ row.at)
+          → and_then judged (λ row. Ok (row ∷ earlier)) ≡ Ok next → Fall next
       by_judged (Err why) after is = absurd (cc is)
-      by_judged (Ok event) after is = let same : event ∷ earlier ≡ next = cc is in subst Fall same (after event refl, falls)
+      by_judged (Ok row) after is = let same : row ∷ earlier ≡ next = cc is in subst Fall same (after row refl, falls)
 
-      by_read : (read : Result ScriptEvent RowKind) → and_then (and_then read (judged_row accounts earlier)) (λ event. Ok (event ∷ earlier)) ≡ Ok next → Fall next
+      by_read : (read : Result RowData RowKind) → and_then (and_then read (judged_row accounts earlier)) (λ row. Ok (row ∷ earlier)) ≡ Ok next → Fall next
       by_read (Err why) is = absurd (cc is)
-      by_read (Ok event) is = by_judged (judged_row accounts earlier event) (λ judged at. row_kept earlier event judged at) is
+      by_read (Ok row) is = by_judged (judged_row accounts earlier row) (λ judged at. row_kept earlier row judged at) is
 
-abbrev pub of_event : ScriptEvent → ℕ
-of_event event = event.at
+abbrev pub of_event : RowData → ℕ
+of_event row = row.at
 
 -- where a list ends that begins at a moment
-abbrev end_from : ℕ → List ScriptEvent → ℕ
+abbrev end_from : ℕ → List RowData → ℕ
 end_from start [] = start
-end_from start (event ∷ events) = end_from event.at events
+end_from start (row ∷ rows) = end_from row.at rows
 
-order_more : (start : ℕ) (events : List ScriptEvent) (event : ScriptEvent) → ComesInOrder of_event start events → end_from start events ≤ event.at → ComesInOrder of_event start (events ++ event ∷ [])
-order_more start [] event order above = (above, tt)
-order_more start (first ∷ events) event order above = (order.0, order_more first.at events event order.1 above)
+order_more : (start : ℕ) (rows : List RowData) (row : RowData) → ComesInOrder of_event start rows → end_from start rows ≤ row.at → ComesInOrder of_event start (rows ++ row ∷ [])
+order_more start [] row order above = (above, tt)
+order_more start (first ∷ rows) row order above = (order.0, order_more first.at rows row order.1 above)
 
-end_more : (start : ℕ) (events : List ScriptEvent) (event : ScriptEvent) → end_from start (events ++ event ∷ []) ≡ event.at
-end_more start [] event = refl
-end_more start (first ∷ events) event = end_more first.at events event
+end_more : (start : ℕ) (rows : List RowData) (row : RowData) → end_from start (rows ++ row ∷ []) ≡ row.at
+end_more start [] row = refl
+end_more start (first ∷ rows) row = end_more first.at rows row
 
-turned : (newest : List ScriptEvent) → Fall newest → ComesInOrder of_event 0 (reverse newest) × (end_from 0 (reverse newest) ≡ last_row_moment newest)
+turned : (newest : List RowData) → Fall newest → ComesInOrder of_event 0 (reverse newest) × (end_from 0 (reverse newest) ≡ last_row_moment newest)
 turned [] falls = (tt, refl)
-turned (event ∷ earlier) falls =
+turned (row ∷ earlier) falls =
     let rest = turned earlier falls.1 in
-    let last = reverse-append (event ∷ []) earlier in (
-      subst (ComesInOrder of_event 0) (sym last) (order_more 0 (reverse earlier) event rest.0 (subst (λ (n : ℕ). n ≤ event.at) (sym rest.1) falls.0)),
-      ap (end_from 0) last ∙ end_more 0 (reverse earlier) event,
+    let last = reverse-append (row ∷ []) earlier in (
+      subst (ComesInOrder of_event 0) (sym last) (order_more 0 (reverse earlier) row rest.0 (subst (λ (n : ℕ). n ≤ row.at) (sym rest.1) falls.0)),
+      ap (end_from 0) last ∙ end_more 0 (reverse earlier) row,
     )
 
-script_ordered : (accounts : List (ℕ × OpeningCredit)) (rows : List Fields) (script : List ScriptEvent) → script_of accounts rows ≡ Ok script → ComesInOrder of_event 0 script
+script_ordered : (accounts : List (ℕ × OpeningCredit)) (rows : List Fields) (script : List RowData) → script_of accounts rows ≡ Ok script → ComesInOrder of_event 0 script
 script_ordered accounts rows script is = by_table (table_of (script_form accounts) rows) refl is
   where
-    by_table : (read : Result (List ScriptEvent) _) → table_of (script_form accounts) rows ≡ read → and_then read (λ newest. Ok (reverse newest)) ≡ Ok script → ComesInOrder of_event 0 script
+    by_table : (read : Result (List RowData) _) → table_of (script_form accounts) rows ≡ read → and_then read (λ newest. Ok (reverse newest)) ≡ Ok script → ComesInOrder of_event 0 script
     by_table (Err why) at is = absurd (cc is)
     by_table (Ok newest) at is =
         let same : reverse newest ≡ script = cc is in
         subst (ComesInOrder of_event 0) same (turned newest (table_keeps (script_form accounts) Fall (script_falls accounts) tt rows newest at)).0
 
-pub rows_ordered : (start : ℕ) (rows : List ScriptRow) → ComesInOrder of_event start (map script_event rows) → rows_are_in_order start rows ≡ true
+pub rows_ordered : (start : ℕ) (rows : List ScriptRow) → ComesInOrder of_event start (map row_data rows) → rows_are_in_order start rows ≡ true
 rows_ordered start [] order = refl
 rows_ordered start (row ∷ rows) order = let first : nat_le start row.at ≡ true = grind (arith, nat_tests, order.0) in rw first (rows_ordered row.at rows order.1)
 
@@ -251,7 +251,7 @@ named_fault tell (Err why) x is = absurd (cc is)
 pub read_input : (text : List ℕ) (said : RunInput) → input_of text ≡ Ok said → IsReadInput said
 read_input text said is = by_texts (ok_or (texts_of text) input.Parts) is
   where
-    by_script : (tariff : List Band) (setup : TableSetup) (rows : List Fields) (script : Result (List ScriptEvent) InputFault) → IsReadTariff tariff
+    by_script : (tariff : List Band) (setup : TableSetup) (rows : List Fields) (script : Result (List RowData) InputFault) → IsReadTariff tariff
         → IsStrictlySortedBy nat_cmp (keys_of setup.accounts) → as_input_fault input.Script (script_of setup.accounts rows) ≡ script
         → and_then script (λ script. Ok (record { tariff = tariff; setup = setup; script = script })) ≡ Ok said → IsReadInput said
     by_script tariff setup rows (Err why) read sorted at is = absurd (cc is)

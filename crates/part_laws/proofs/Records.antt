@@ -9,7 +9,7 @@ use Rattle.std.proofs.lemmas.Bool.Decides.{nat_tests}
 use Rattle.std.proofs.lemmas.List.Elements.{All-cons, All-head, All-nil, All-tail}
 use Rattle.std.proofs.lemmas.List.Kept.{IsStrictlySortedBy-filter}
 use Rattle.account_core.specs.Asked.{Asked, Credits, Reserves, Settles, Returns, call_of}
-use Rattle.account_core.specs.Events.{EntryData}
+use Rattle.account_core.specs.Entries.{EntryData}
 use Rattle.account_core.specs.Known.{CallFacts, known, paid_if_granted}
 use Rattle.account_core.specs.declared.entry.Reply.{Reply}
 use Rattle.call_records.specs.Calls.{end_by, first_said, report_by, call_reports_of, start_by, start_of, message_of_call}
@@ -31,11 +31,11 @@ use Rattle.shared_account.specs.Closed.{Closed}
 
 -- ---- what a history says of a call, without the numbers
 
-denies_same : (asked : Asked) (said_so : Reply) → denies (unnumbered asked) said_so ≡ denies asked said_so
-denies_same (Credits amount until) said_so = refl
-denies_same (Reserves call plan wanted least at) said_so = refl
-denies_same (Settles call number info) said_so = refl
-denies_same (Returns call) said_so = refl
+denies_same : (asked : Asked) (response : Reply) → denies (unnumbered asked) response ≡ denies asked response
+denies_same (Credits amount until) response = refl
+denies_same (Reserves call plan wanted least at) response = refl
+denies_same (Settles call number info) response = refl
+denies_same (Returns call) response = refl
 
 denies_call_same : (call : ℕ) (entry : EntryData) → denies_call call (without_number entry) ≡ denies_call call entry
 denies_call_same call entry =
@@ -54,11 +54,11 @@ denied_later_same call (entry ∷ h) =
     ∙ ap (λ (k : CallFacts). denies_call call entry && is_some k.plan || is_denied_later call (without_numbers h)) (known_same call h)
     ∙ ap (λ b. denies_call call entry && is_some (known call h).plan || b) (denied_later_same call h)
 
-last_by_same : (asked : Asked) (said_so : Reply) → last_by (unnumbered asked) said_so ≡ last_by asked said_so
-last_by_same (Credits amount until) said_so = refl
-last_by_same (Reserves call plan wanted least at) said_so = refl
-last_by_same (Settles call number info) said_so = refl
-last_by_same (Returns call) said_so = refl
+last_by_same : (asked : Asked) (response : Reply) → last_by (unnumbered asked) response ≡ last_by asked response
+last_by_same (Credits amount until) response = refl
+last_by_same (Reserves call plan wanted least at) response = refl
+last_by_same (Settles call number info) response = refl
+last_by_same (Returns call) response = refl
 
 last_grant_same : (call : ℕ) (h : List EntryData) → last_grant call (without_numbers h) ≡ last_grant call h
 last_grant_same call [] = refl
@@ -79,13 +79,13 @@ known_alike call h g same = sym (known_same call h) ∙ ap (known call) same ∙
 module _ (setup : Setup) (choice : Choice) where
   -- ---- what is told of a call
 
-  said_so_apart : {X : Type 0} (call : ℕ) (tell : SsfMsg → Option X) (body : Body) → (choice.calls call ≡ is_chosen choice body → ⊥) → message_of_call call tell body ≡ None
-  said_so_apart {X} call tell (Ssf other message) apart = by_call (other == call) refl
+  message_apart : {X : Type 0} (call : ℕ) (tell : SsfMsg → Option X) (body : Body) → (choice.calls call ≡ is_chosen choice body → ⊥) → message_of_call call tell body ≡ None
+  message_apart {X} call tell (Ssf other message) apart = by_call (other == call) refl
     where
       by_call : (b : Bool) → (other == call) ≡ b → (if b then tell message else None) ≡ None
       by_call true here = let its : call ≡ other = grind (arith, nat_tests, here) in absurd (apart (ap choice.calls its))
       by_call false here = refl
-  said_so_apart call tell (Recharge account amount until) apart = refl
+  message_apart call tell (Recharge account amount until) apart = refl
 
   first_same : {X : Type 0} (call : ℕ) (tell : ℕ → SsfMsg → Option X) (given : List (ℕ × Body)) → choice.calls call ≡ true
       → first_said call tell (chosen choice given) ≡ first_said call tell given
@@ -96,7 +96,7 @@ module _ (setup : Setup) (choice : Choice) where
           → first_said call tell (if b then item ∷ chosen choice given else chosen choice given) ≡ option_or (message_of_call call (tell item.0) item.1) (first_said call tell given)
       by_own true is rest = ap (option_or (message_of_call call (tell item.0) item.1)) rest
       by_own false is rest =
-          rest ∙ sym (ap (λ o. option_or o (first_said call tell given)) (said_so_apart call (tell item.0) item.1 (λ same. true≢false (sym own ∙ same ∙ is))))
+          rest ∙ sym (ap (λ o. option_or o (first_said call tell given)) (message_apart call (tell item.0) item.1 (λ same. true≢false (sym own ∙ same ∙ is))))
 
   first_none : {X : Type 0} (call : ℕ) (tell : ℕ → SsfMsg → Option X) (given : List (ℕ × Body)) → choice.calls call ≡ false → first_said call tell (chosen choice given) ≡ None
   first_none call tell [] apart = refl
@@ -105,7 +105,7 @@ module _ (setup : Setup) (choice : Choice) where
       by_own : (b : Bool) → is_chosen choice item.1 ≡ b → first_said call tell (chosen choice given) ≡ None
           → first_said call tell (if b then item ∷ chosen choice given else chosen choice given) ≡ None
       by_own true is rest =
-          ap (λ o. option_or o (first_said call tell (chosen choice given))) (said_so_apart call (tell item.0) item.1 (λ same. true≢false (sym is ∙ sym same ∙ apart))) ∙ rest
+          ap (λ o. option_or o (first_said call tell (chosen choice given))) (message_apart call (tell item.0) item.1 (λ same. true≢false (sym is ∙ sym same ∙ apart))) ∙ rest
       by_own false is rest = rest
 
   reports_same : (call : ℕ) (given : List (ℕ × Body)) → choice.calls call ≡ true → call_reports_of call (chosen choice given) ≡ call_reports_of call given
@@ -133,26 +133,26 @@ module _ (setup : Setup) (choice : Choice) where
   own_start call at (ChargingReport active info) start is by = absurd (cc)
   own_start call at Ended start is by = absurd (cc)
 
-  own_said_so : (call at : ℕ) (body : Body) (start : _) → message_of_call call (start_by at) body ≡ Some start → IsByAccount setup choice body → IsOwn call start.calling
-  own_said_so call at (Ssf other message) start is by = by_call (other == call) refl is
+  own_begun : (call at : ℕ) (body : Body) (start : _) → message_of_call call (start_by at) body ≡ Some start → IsByAccount setup choice body → IsOwn call start.calling
+  own_begun call at (Ssf other message) start is by = by_call (other == call) refl is
     where
       by_call : (b : Bool) → (other == call) ≡ b → (if b then start_by at message else None) ≡ Some start → IsOwn call start.calling
       by_call true here is =
           let its : other ≡ call = grind (arith, nat_tests, here) in
           subst (λ (c : ℕ). IsOwn c start.calling) its (own_start other at message start is by)
       by_call false here is = absurd (cc)
-  own_said_so call at (Recharge account amount until) start is by = absurd (cc)
+  own_begun call at (Recharge account amount until) start is by = absurd (cc)
 
   start_own : (call : ℕ) (given : List (ℕ × Body)) (start : _) → start_of call given ≡ Some start → AreByAccount setup choice given → IsOwn call start.calling
   start_own call [] start is by = absurd (cc)
   start_own call (item ∷ given) start is by =
       let P : ℕ × Body → Type 0 = λ i. IsByAccount setup choice i.1 in
-      by_said_so (message_of_call call (start_by item.0) item.1) refl (λ later. start_own call given start later (All-tail P item given by)) (All-head P item given by) is
+      by_message (message_of_call call (start_by item.0) item.1) refl (λ later. start_own call given start later (All-tail P item given by)) (All-head P item given by) is
     where
-      by_said_so : (said_so : _) → message_of_call call (start_by item.0) item.1 ≡ said_so → (start_of call given ≡ Some start → IsOwn call start.calling) → IsByAccount setup choice item.1
-          → option_or said_so (start_of call given) ≡ Some start → IsOwn call start.calling
-      by_said_so None said_so rest by is = rest is
-      by_said_so (Some first) said_so rest by is = own_said_so call item.0 item.1 start (said_so ∙ is) by
+      by_message : (found : _) → message_of_call call (start_by item.0) item.1 ≡ found → (start_of call given ≡ Some start → IsOwn call start.calling) → IsByAccount setup choice item.1
+          → option_or found (start_of call given) ≡ Some start → IsOwn call start.calling
+      by_message None found rest by is = rest is
+      by_message (Some first) found rest by is = own_begun call item.0 item.1 start (found ∙ is) by
 
   -- ---- the history of an account
 

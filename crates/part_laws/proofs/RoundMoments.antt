@@ -21,7 +21,7 @@ use Rattle.ssf_core.specs.Calls.{Advances, AreExpiries, IsExpiry, IsNextDue, Run
 use Rattle.ssf_core.specs.Happenings.{Expired, Happening, Took, What, sent_at, sent_in}
 use Rattle.ssf_core.specs.Inputs.{meets, operates}
 use Rattle.ssf_core.specs.Quantities.{last_happening_moment}
-use Rattle.ssf_core.specs.Table.{Effect, on_input}
+use Rattle.ssf_core.specs.Rules.{Effect, on_input}
 use Rattle.ssf_core.specs.Traces.{ComesBefore, HasEffect, IsTrace, MayFollow, due, phase_after}
 use Rattle.ssf_core.specs.declared.config.SsfConfig.{SsfConfig}
 use Rattle.ssf_core.specs.declared.deliveries.Delivery.{Delivery}
@@ -105,7 +105,7 @@ module _ (config : SsfConfig) (now : ℕ) (trace : List Happening) (ahead : (e :
 
 -- ---- a gsmSSF
 
--- of a gsmSSF no timer expires before its last moment, nor before this one
+-- of a gsmSSF no timer expires before its latest moment, nor before this one
 pub record IsTimely (now : ℕ) (view : View) : Type 0 where
   pub own : ExpiresFrom view view.last
   pub from : ExpiresFrom view now

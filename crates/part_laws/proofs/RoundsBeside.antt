@@ -62,7 +62,7 @@ nothing_before play after answers last round queue_order row_order =
 no_rows : (far : ℕ) (rows : List ScriptRow) → rows ≡ [] → All (λ (row : ScriptRow). far ≤ row.at) rows
 no_rows far rows none = subst (λ (l : List ScriptRow). All (λ (row : ScriptRow). far ≤ row.at) l) (sym none) (All-nil (λ (row : ScriptRow). far ≤ row.at))
 
--- a play that ends has nothing up to the last moment that a gsmSSF takes
+-- a play that ends has nothing up to the greatest moment that a gsmSSF takes
 nothing_left : (play after : Play) (answers : List Answer) (last : ℕ) → IsEnd play after answers → ComesInOrder of_delivery last (waiting play answers) → NothingBefore (HORIZON + 1) play (waiting play answers)
 nothing_left play after answers last end queue_order =
     let queue : List Delivery = waiting play answers in

@@ -1,7 +1,7 @@
 -- Without the numbers of items: a settle carries the number of its report's item, which is another in a run that was given fewer items.
 use Rattle.std.specs.Prelude.{List, map}
 use Rattle.account_core.specs.Asked.{Asked, Credits, Reserves, Settles, Returns}
-use Rattle.account_core.specs.Events.{EntryData}
+use Rattle.account_core.specs.Entries.{EntryData}
 use Rattle.cap_values.specs.Orders.{orders_of}
 use Rattle.run_values.specs.declared.post.Answer.{Answer}
 use Rattle.shared_account.specs.Closed.{Closed}
@@ -16,7 +16,7 @@ unnumbered (Returns call) = Returns call
 
 -- an entry, so
 abbrev pub without_number : EntryData → EntryData
-without_number event = record { seat = event.seat; asked = unnumbered event.asked; reply = event.reply }
+without_number entry = record { seat = entry.seat; asked = unnumbered entry.asked; reply = entry.reply }
 
 -- a history, so
 abbrev pub without_numbers : List EntryData → List EntryData

@@ -14,7 +14,7 @@ use Rattle.part_laws.specs.Printed.{run_given}
 use Rattle.run_command.specs.InParts.{IsMergedText, own_books}
 use Rattle.run_command.specs.Plays.{IsPlayOf}
 use Rattle.run_parts.specs.Parts.{part_rows, payer_of}
-use Rattle.run_texts.specs.Views.{rows_are_in_order, script_event, with_digits}
+use Rattle.run_texts.specs.Views.{rows_are_in_order, row_data, with_digits}
 use Rattle.run_texts.specs.declared.script.ScriptRow.{ScriptRow}
 use Rattle.run_values.specs.Setups.{Setup}
 use Rattle.run_values.specs.declared.post.Answer.{Answer}
@@ -28,7 +28,7 @@ use Rattle.tariff_core.specs.Laws.{IsProper}
 
 -- the account of each call in a script: that of the subscriber who starts it
 abbrev pub payer_in_rows : Setup → List ScriptRow → ℕ → Option ℕ
-payer_in_rows setup rows = payer_of (with_digits setup.subscribers) (map script_event rows)
+payer_in_rows setup rows = payer_of (with_digits setup.subscribers) (map row_data rows)
 
 -- one worker has played the rows of a part alone, and none of its asks was refused
 pub record IsPlayedByItsRows (setup : Setup) (config : SsfConfig) (delay : ℕ) (firsts : List ℕ) (rows : List ScriptRow) (part : ℕ) : Type 0 where

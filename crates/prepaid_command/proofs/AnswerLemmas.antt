@@ -29,7 +29,7 @@ use Rattle.tariff_core.specs.Rates.{Rates}
 use Rattle.tariff_core.specs.Times.{Elapsed}
 use Rattle.table_commands.specs.Answers.{IsAuditOfTable, IsAuditPrinted, IsQuotePrinted, price_of_input, replay_of_input}
 use Rattle.table_commands.specs.Explanations.{IsOfWords, IsSaidOfAnswer, IsSaidOfFault}
-use Rattle.table_commands.specs.Faults.{GivesAnswer, GivesOne, meaning_in, meaning_of_part, of_run_input, of_words}
+use Rattle.table_commands.specs.Faults.{GivesAnswer, GivesOne, meaning_in, meaning_of_section, of_run_input, of_words}
 use Rattle.table_commands.specs.Input.{sized, sized_as}
 use Rattle.table_commands.specs.PriceLines.{price_lines}
 use Rattle.table_commands.specs.Printouts.{Printout, plain}
@@ -38,9 +38,9 @@ use Rattle.table_commands.specs.Reports.{table_reports_of}
 use Rattle.table_commands.specs.Writers.{Written}
 use Rattle.table_commands.specs.declared.fault.Fault.{Fault}
 use Rattle.table_commands.specs.declared.fault.Fault.TheVariants as fault
-use Rattle.table_commands.specs.declared.fault.Part.TheVariants as part
+use Rattle.table_commands.specs.declared.fault.TableName.TheVariants as table_name
 use Rattle.prepaid_command.specs.Answers.{Answers, IsAnswer, IsAnswerTo, IsFiledRun, IsRunPrinted, IsSaidOrReported}
-use Rattle.prepaid_command.specs.Explanations.{IsAdded, IsSaidBehind, IsSaidBy, has_parts}
+use Rattle.prepaid_command.specs.Explanations.{IsAdded, IsSaidBehind, IsSaidBy, has_sections}
 use Rattle.prepaid_command.specs.Faults.{of_run}
 use Rattle.prepaid_command.specs.Printouts.{printout_of_files, printout_of_run}
 
@@ -63,13 +63,13 @@ sized_by false text = tt
 sized_of : (text : List ℕ) → IfErr (sized text) IsOfInput
 sized_of text = sized_by (nat_lt 16777216 (length text)) text
 
-reports_by : (plan : Rates) (reports : Result (List Elapsed) RowFault) → IfErr (and_then (meaning_in part.Reports reports) (λ all. Ok (plain (price_lines plan 0 all)))) IsOfInput
+reports_by : (plan : Rates) (reports : Result (List Elapsed) RowFault) → IfErr (and_then (meaning_in table_name.Reports reports) (λ all. Ok (plain (price_lines plan 0 all)))) IsOfInput
 reports_by plan (Ok reports) = tt
 reports_by plan (Err why) = tt
 
 price_of : (plan : Rates) (input : List ℕ) → IfErr (price_of_input plan input) IsOfInput
 price_of plan input =
-    after_of (sized input) (λ text. and_then (meaning_in part.Reports (table_reports_of plan (rows_of text))) (λ reports. Ok (plain (price_lines plan 0 reports)))) (sized_of input)
+    after_of (sized input) (λ text. and_then (meaning_in table_name.Reports (table_reports_of plan (rows_of text))) (λ reports. Ok (plain (price_lines plan 0 reports)))) (sized_of input)
     (λ text. reports_by plan (table_reports_of plan (rows_of text)))
 
 run_input_of : (why : InputFault) → IsOfInput (of_run_input why)
@@ -81,9 +81,9 @@ run_input_of (input_fault.Script row) = tt
 run_input_of input_fault.Device = tt
 run_input_of input_fault.OutOfMemory = tt
 
-part_of : (meaning : Result (List Band) InputFault) → IfErr (meaning_of_part meaning) IsOfInput
-part_of (Ok bands) = tt
-part_of (Err why) = run_input_of why
+section_of : (meaning : Result (List Band) InputFault) → IfErr (meaning_of_section meaning) IsOfInput
+section_of (Ok bands) = tt
+section_of (Err why) = run_input_of why
 
 quote_by : (wish : QuoteWish) (meaning : Result (List Band) Fault) (answer : Result Printout Fault) → IfErr meaning IsOfInput
     → MatchResult meaning (λ bands. IsQuotePrinted bands wish answer) (λ why. answer ≡ Err why) → IfErr answer IsOfInput
@@ -92,12 +92,12 @@ quote_by wish (Err why) answer of_meaning is = rw is of_meaning
 
 pub quote_of : (wish : QuoteWish) (input : List ℕ) (answer : Result Printout Fault) → IsAnswerTo (Quotes wish) input answer → IfErr answer IsOfInput
 quote_of wish input answer is =
-    quote_by wish (and_then (sized input) (λ text. meaning_of_part (tariff_in text))) answer
-    (after_of (sized input) (λ text. meaning_of_part (tariff_in text)) (sized_of input) (λ text. part_of (tariff_in text))) is
+    quote_by wish (and_then (sized input) (λ text. meaning_of_section (tariff_in text))) answer
+    (after_of (sized input) (λ text. meaning_of_section (tariff_in text)) (sized_of input) (λ text. section_of (tariff_in text))) is
 
-books_of_part : {X : Type 0} (read : Result X RowFault) → IfErr (meaning_in part.Book read) IsOfInput
-books_of_part (Ok x) = tt
-books_of_part (Err why) = tt
+books_of_table : {X : Type 0} (read : Result X RowFault) → IfErr (meaning_in table_name.Book read) IsOfInput
+books_of_table (Ok x) = tt
+books_of_table (Err why) = tt
 
 audit_by : (ask : AuditAsk) (text : List ℕ) (meaning : Result Books Fault) (answer : Result Printout Fault) → IfErr meaning IsOfInput
     → MatchResult meaning (λ books. IsAuditPrinted ask text books answer) (λ why. answer ≡ Err why) → IfErr answer IsOfInput
@@ -107,7 +107,7 @@ audit_by ask text (Err why) answer of_meaning is = rw is of_meaning
 audit_in : (ask : AuditAsk) (text : Result (List ℕ) Fault) (answer : Result Printout Fault) → IfErr text IsOfInput
     → MatchResult text (λ table. IsAuditOfTable ask table answer) (λ why. answer ≡ Err why) → IfErr answer IsOfInput
 audit_in ask (Ok table) answer of_text is =
-    let meaning = books_of (most_rows ask.size) (rows_of table) in audit_by ask table (meaning_in part.Book meaning) answer (books_of_part meaning) is
+    let meaning = books_of (most_rows ask.size) (rows_of table) in audit_by ask table (meaning_in table_name.Book meaning) answer (books_of_table meaning) is
 audit_in ask (Err why) answer of_text is = rw is of_text
 
 sized_as_of : (size : BookSize) (input : List ℕ) → IfErr (sized_as size input) IsOfInput
@@ -128,7 +128,7 @@ answers words wish input of_input (Err fault.Config) asked is = absurd (of_input
 answers words wish input of_input (Err fault.TooLong) asked is = record { wish = wish; asked = asked; answered = is }
 answers words wish input of_input (Err fault.Parts) asked is = record { wish = wish; asked = asked; answered = is }
 answers words wish input of_input (Err (fault.Tariff row)) asked is = record { wish = wish; asked = asked; answered = is }
-answers words wish input of_input (Err (fault.Table part row)) asked is = record { wish = wish; asked = asked; answered = is }
+answers words wish input of_input (Err (fault.Table name row)) asked is = record { wish = wish; asked = asked; answered = is }
 answers words wish input of_input (Err (fault.Log why)) asked is = record { wish = wish; asked = asked; answered = is }
 answers words wish input of_input (Err (fault.LogRow row kind)) asked is = record { wish = wish; asked = asked; answered = is }
 answers words wish input of_input (Err fault.Into) asked is = record { wish = wish; asked = asked; answered = is }
@@ -149,7 +149,7 @@ gives_one view (Err fault.Config) meaning gives = gives
 gives_one view (Err fault.TooLong) meaning gives = gives
 gives_one view (Err fault.Parts) meaning gives = gives
 gives_one view (Err (fault.Tariff row)) meaning gives = gives
-gives_one view (Err (fault.Table part row)) meaning gives = gives
+gives_one view (Err (fault.Table name row)) meaning gives = gives
 gives_one view (Err (fault.Log why)) meaning gives = gives
 gives_one view (Err (fault.LogRow row kind)) meaning gives = gives
 gives_one view (Err fault.Into) meaning gives = gives
@@ -168,13 +168,13 @@ refused_words words input words_fault.OutOfMemory is = tt
 
 -- ---- replays and runs
 
-lines_by : (lines : Result (List ℕ) RowFault) → IfErr (and_then (meaning_in part.Ops lines) (λ text. Ok (plain text))) IsOfInput
+lines_by : (lines : Result (List ℕ) RowFault) → IfErr (and_then (meaning_in table_name.Ops lines) (λ text. Ok (plain text))) IsOfInput
 lines_by (Ok lines) = tt
 lines_by (Err why) = tt
 
 replay_of : (opening limit : ℕ) (input : List ℕ) → IfErr (replay_of_input opening limit input) IsOfInput
 replay_of opening limit input =
-    after_of (sized input) (λ text. and_then (meaning_in part.Ops (replayed opening limit (rows_of text))) (λ lines. Ok (plain lines))) (sized_of input)
+    after_of (sized input) (λ text. and_then (meaning_in table_name.Ops (replayed opening limit (rows_of text))) (λ lines. Ok (plain lines))) (sized_of input)
     (λ text. lines_by (replayed opening limit (rows_of text)))
 
 ending_run : (made : Result RunSaid RunError) → IfErr (result_map_both printout_of_run of_run made) IsOfInput
@@ -209,7 +209,7 @@ filed_of ask folder input answer is = filed_by ask (sized input) answer (sized_o
 
 -- what is said of a fault over an input is said by the words
 said_by : {X : Type 0} (words : List (List ℕ)) (view : X → Printout) (known more : Option (List ℕ)) (answer : Result X Fault) (wish : Wish) → AsksFor words wish
-    → IfSome known (λ text. IfErr answer (λ why. IfSome more (λ said. IsSaidOfFault (has_parts wish) text why said)))
+    → IfSome known (λ text. IfErr answer (λ why. IfSome more (λ said. IsSaidOfFault (has_sections wish) text why said)))
     → IfSome known (λ text. IfErr (result_map_both view (λ why. why) answer) (λ why. IfSome more (λ said. IsSaidBy words text why said)))
 said_by words view None more answer wish asked said = tt
 said_by words view (Some text) more (Ok x) wish asked said = tt
@@ -225,7 +225,7 @@ none_added words text_of view (Some text) more (Err why) none = tt
 
 -- what is said behind an answer of a run, over its input
 pub run_added : {W X : Type 0} (words : List (List ℕ)) (text_of : W → List ℕ) (view : X → Printout) (known : Option (List ℕ)) (more : Option W) (answer : Result X Fault) (wish : Wish)
-    → AsksFor words wish → has_parts wish ≡ true → IfSome known (λ text. IfOk answer (λ x. IfSome more (λ m. IsSaidBehind text (view x).unplaced (text_of m))))
+    → AsksFor words wish → has_sections wish ≡ true → IfSome known (λ text. IfOk answer (λ x. IfSome more (λ m. IsSaidBehind text (view x).unplaced (text_of m))))
     → IfSome known (λ text. IfOk (result_map_both view (λ why. why) answer) (λ printout. IfSome (option_map text_of more) (λ said. IsAdded words text printout said)))
 run_added words text_of view None more answer wish asked run said = tt
 run_added words text_of view (Some text) more (Err why) wish asked run said = tt
@@ -254,7 +254,7 @@ module _ {X : Type 0} (view : X → Printout) (words : List (List ℕ)) (status 
   -- an answer to a wish, or its fault and what is said of that
   pub wished : (wish : Wish) → ((input : List ℕ) (answer : Result Printout Fault) → IsAnswerTo wish input answer → IfErr answer IsOfInput) → AsksFor words wish
       → IfSome known (λ input. GivesOne (IsAnswerTo wish input) (result_map_both view (λ why. why) answer)) → explaining ≡ explains words
-      → IsSaidOfAnswer explaining (has_parts wish) known answer more
+      → IsSaidOfAnswer explaining (has_sections wish) known answer more
       → IfSome known (λ text. IfOk (result_map_both view (λ why. why) answer) (λ printout. IfSome more (λ said. IsAdded words text printout said)))
       → IsSaidOrReported explaining more (result_map_both view (λ why. why) answer) status old new → Answers words known status old new
   wished wish of_input asked is explains_is said added ending = record {

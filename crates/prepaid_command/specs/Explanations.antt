@@ -14,23 +14,23 @@ pub record IsSaidBehind (input events_line text : List ℕ) : Type 0 where
   pub strangers : AreStrangersOf input calls
   pub lines : text ≡ strangers_line calls ++ events_line
 
--- whether what is wished has an input of three parts
-abbrev pub has_parts : Wish → Bool
-has_parts (Runs ask) = true
-has_parts (RunsInto ask folder) = true
-has_parts wish = false
+-- whether what is wished has an input of three sections
+abbrev pub has_sections : Wish → Bool
+has_sections (Runs ask) = true
+has_sections (RunsInto ask folder) = true
+has_sections wish = false
 
 -- the words have this wish, and a text is said of the fault over the input
 pub record IsExplained (words : List (List ℕ)) (input : List ℕ) (why : Fault) (text : List ℕ) : Type 0 where
   pub wish : Wish
   pub asked : AsksFor words wish
-  pub said : IsSaidOfFault (has_parts wish) input why text
+  pub said : IsSaidOfFault (has_sections wish) input why text
 
 -- the words wish a run over the input, and a text is said behind its answer
 pub record IsAdded (words : List (List ℕ)) (input : List ℕ) (printout : Printout) (text : List ℕ) : Type 0 where
   pub wish : Wish
   pub asked : AsksFor words wish
-  pub run : has_parts wish ≡ true
+  pub run : has_sections wish ≡ true
   pub said : IsSaidBehind input printout.unplaced text
 
 -- what is said of a fault: it explains it over the input, or is about the words

@@ -13,7 +13,7 @@ use Rattle.table_commands.specs.Faults.{no_header, of_run_input}
 use Rattle.table_commands.specs.Input.{is_out_of_memory}
 use Rattle.table_commands.specs.declared.fault.Fault.{Fault}
 use Rattle.table_commands.specs.declared.fault.Fault.TheVariants as fault
-use Rattle.table_commands.specs.declared.fault.Part.TheVariants as part
+use Rattle.table_commands.specs.declared.fault.TableName.TheVariants as table_name
 
 -- the fault of a log; memory that runs out while it is opened is that of the run
 abbrev pub of_log : LogFault → Fault
@@ -28,7 +28,7 @@ of_files why = if is_out_of_memory why then fault.Run run.OutOfMemory else fault
 -- the fault of an input that isn't served to its end
 abbrev pub of_serve : ServeError → Option Fault
 of_serve (serve.Input why) = Some (of_run_input why)
-of_serve serve.Header = Some (no_header part.Messages)
+of_serve serve.Header = Some (no_header table_name.Messages)
 of_serve (serve.Log why) = Some (of_log why)
 of_serve (serve.LogRow row kind) = Some (fault.LogRow row kind)
 of_serve (serve.Live live.Input) = Some fault.Device

@@ -10,7 +10,7 @@ use live_log::LogFault;
 use run_command::RunError;
 use runs_core::RunFault;
 use std::io::{Error, ErrorKind};
-use table_commands::{Fault, Part};
+use table_commands::{Fault, TableName};
 
 /// The fault of a run that has no text.
 pub(crate) fn fault_of_run(error: RunError) -> Fault
@@ -38,7 +38,7 @@ pub(crate) fn fault_of_serve(error: ServeError) -> Option<Fault>
 {
     match error {
         ServeError::Input(fault) => Some(Fault::of_run_input(fault)),
-        ServeError::Header => Some(Fault::no_header(Part::Messages)),
+        ServeError::Header => Some(Fault::no_header(TableName::Messages)),
         ServeError::Log(fault) => Some(fault_of_log(fault)),
         ServeError::LogRow(row, kind) => Some(Fault::LogRow(row, kind)),
         ServeError::Live(LiveFault::Output) => None,

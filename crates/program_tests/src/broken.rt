@@ -60,7 +60,7 @@ const CUT: [(&str, &str); 2] = [
     ),
 ];
 
-/// The status of a line of words over an input, how much was printed, and the fault that was told.
+/// The status of a line of words over an input, how much was printed, and the fault that was named.
 fn seen<R: Abort + AllocGlobal + Wait + Threads + Sync + Files<File = File>>(
     rt: &R,
     words: &str,
@@ -73,7 +73,7 @@ fn seen<R: Abort + AllocGlobal + Wait + Threads + Sync + Files<File = File>>(
 }
 
 #[test]
-fn tells_where_a_run_breaks_off(rt: HostRuntime) -> Result<(), Fail> {
+fn says_where_a_run_breaks_off(rt: HostRuntime) -> Result<(), Fail> {
     for &(text, fault) in &CUT {
         let (status, printed, faults) = seen(&rt, "run", text.as_bytes())?;
         gives(&rt, &text, &(status, printed), &(1, 0));
@@ -82,7 +82,7 @@ fn tells_where_a_run_breaks_off(rt: HostRuntime) -> Result<(), Fail> {
     Ok(())
 }
 
-/// An input that breaks off is taken, or is told as one fault; nothing else is printed then.
+/// An input that breaks off is taken, or is named as one fault; nothing else is printed then.
 #[test]
 fn takes_or_refuses_what_breaks_off(rt: HostRuntime) -> Result<(), Fail> {
     for &(words, text) in &INPUTS {
@@ -115,7 +115,7 @@ fn prints_nothing_of_an_input_that_fails(rt: HostRuntime) -> Result<(), Fail> {
 }
 
 #[test]
-fn tells_an_output_that_fails_at_once(rt: HostRuntime) -> Result<(), Fail> {
+fn reports_an_output_that_fails_at_once(rt: HostRuntime) -> Result<(), Fail> {
     for &(words, text) in &INPUTS {
         let mut output = Full::new(rt.alloc(), 0);
         let mut faults = Vec::new(rt.alloc());

@@ -56,7 +56,7 @@ const READERS: [(&str, &[u8], ErrorKind, u8, &str); 5] = [
 ];
 
 #[test]
-fn tells_a_failed_input(rt: HostRuntime) -> Result<(), Fail> {
+fn reports_a_failed_input(rt: HostRuntime) -> Result<(), Fail> {
     for (words, text, kind, status, fault) in READERS {
         for length in 0..=text.len() {
             let bytes = &text[..length];
@@ -120,7 +120,7 @@ impl Write for Full {
 }
 
 #[test]
-fn tells_a_failed_output_by_its_status_alone(rt: HostRuntime) -> Result<(), Fail> {
+fn reports_a_failed_output_by_its_status_alone(rt: HostRuntime) -> Result<(), Fail> {
     let reports: &[u8] = b"before,after\n3,0\n";
     let text = b"debit 55 total 55\ntotal 55\n";
     let whole = text.len();
@@ -162,7 +162,7 @@ fn a_failed_error_writer_has_a_front_of_the_line(rt: HostRuntime) -> Result<(), 
 }
 
 #[test]
-fn tells_refusals_behind_a_whole_output_alone(rt: HostRuntime) -> Result<(), Fail> {
+fn prints_refusals_behind_a_whole_output_alone(rt: HostRuntime) -> Result<(), Fail> {
     let input = input_of(rt.alloc(), "", "account,7,5\n", "0,,recharge,7,0\n")?;
     let text = b"account 7 opening 5 available 5 entries 0\n";
     let line = b"prepaid: refused: 1 OutOfRange\n";

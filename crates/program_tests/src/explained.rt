@@ -134,7 +134,7 @@ const TARIFFS: [Row; 4] = [
     ),
 ];
 
-/// Each slip is told as before, and with the word in front of the command it is explained.
+/// Each slip is named as before, and with the word in front of the command it is explained.
 #[test]
 fn slips_are_explained(rt: HostRuntime) -> Result<(), Fail> {
     let alloc = rt.alloc();

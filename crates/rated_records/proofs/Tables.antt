@@ -28,7 +28,7 @@ use Rattle.rating.specs.Rated.{IsPriced, Faulty}
 use Rattle.rating.specs.Texts.{IsRatedRow, IsRatedText, RateInput, RatedRow, headed, rate_input_of, rated_text}
 use Rattle.rating.specs.declared.fault.RateFault.{RateFault}
 use Rattle.rating.specs.declared.kind.RateKind.{RateKind}
-use Rattle.rating.specs.declared.tally.Tally.{Tally}
+use Rattle.rating.specs.declared.score.Score.{Score}
 use Rattle.run_laws.specs.Records.{IsServedRun, RecordsAreInRange}
 use Rattle.run_laws.specs.Starts.{HaveTheirStarts}
 use Rattle.run_texts.specs.Inputs.{as_input_fault}
@@ -172,9 +172,9 @@ module _ (Stood : Closed → ℕ → Knowing) (read : DecimalsAreRead) (plain : 
 
   -- ---- the text
 
-  table_rated : (table input : List ℕ) → (text : IsCallText clock run table) → All IsPrintable text.calls → IsInputOf run table input → (differing : Bool) (printed : List ℕ) (tally : Tally)
-      → IsRatedText differing (rate_input_of names_by_start input) printed tally → IsRatedTable differing clock text.calls printed tally
-  table_rated table input text printable input_is differing printed tally rated =
+  table_rated : (table input : List ℕ) → (text : IsCallText clock run table) → All IsPrintable text.calls → IsInputOf run table input → (differing : Bool) (printed : List ℕ) (score : Score)
+      → IsRatedText differing (rate_input_of names_by_start input) printed score → IsRatedTable differing clock text.calls printed score
+  table_rated table input text printable input_is differing printed score rated =
       let rows : List Fields = map (record_fields clock) text.calls in
       let read_as : rows_of input_is.first.rest ≡ header_fields ∷ rows = ap rows_of (input_is.rest ∙ text.is) ∙ table_rows text.calls printable text.are.each in
       let means : rate_input_of names_by_start input ≡ headed names_by_start run.setup.tariff (header_fields ∷ rows) =
@@ -186,7 +186,7 @@ module _ (Stood : Closed → ℕ → Knowing) (read : DecimalsAreRead) (plain : 
         rated = rated.rated;
         each = rows_rated rated.input rows has text.calls rated.rated (sym has.rows_are ∙ rated.are_rated.rows_are) printable text.are.each rated.are_rated.each;
         printed_is = subst Header has.header_is rated.printed_is;
-        tally_is = rated.tally_is;
+        score_is = rated.score_is;
       }
 
 was_said : {X E : Type 0} (tell : E → InputFault) (found : Result X E) (x : X) → as_input_fault tell found ≡ Ok x → found ≡ Ok x
@@ -196,5 +196,5 @@ was_said tell (Err why) x is = cc
 pub tables_rated : (Stood : Closed → ℕ → Knowing) → DecimalsAreRead → DecimalsArePlain → MomentsAreRead → MomentsArePlain → TablesAreRead → RecordsHaveNoDifference Stood → RecordsAreInRange Stood
     → ReadTariffsAreProper → TablesHaveNoDifference Stood
 tables_rated Stood read plain moments moments_plain tables right ranges propers run clock table input is starts text printable input_is =
-    let proper : IsProper run.setup.tariff = propers run.setup.tariff (rows_of input_is.first.part, was_said fault.Tariff (tariff_of (rows_of input_is.first.part)) run.setup.tariff input_is.tariff) in
+    let proper : IsProper run.setup.tariff = propers run.setup.tariff (rows_of input_is.first.section, was_said fault.Tariff (tariff_of (rows_of input_is.first.section)) run.setup.tariff input_is.tariff) in
     table_rated Stood read plain moments moments_plain tables right ranges run clock is starts proper table input text printable input_is

@@ -10,7 +10,7 @@ use Rattle.cap_values.specs.NumberDigits.{digits_of_number}
 use Rattle.cap_values.specs.declared.number.Number.{Number}
 use Rattle.rated_records.specs.Laws.{IsRatedBy, RecordsHaveNoDifference, paid_rightly}
 use Rattle.rating.specs.Rated.{Rating, Faulty, Priced}
-use Rattle.rating.specs.declared.charge.Charge.{Charge}
+use Rattle.rating.specs.declared.charge.PricedTimes.{PricedTimes}
 use Rattle.rating.specs.declared.kind.RateKind.TheVariants as kind
 use Rattle.run_laws.proofs.Unrouted.{routed}
 use Rattle.run_laws.specs.Records.{CallsPayTheirRoute, IsUntalked, PaysItsRoute, RecordsAreInRange}
@@ -33,7 +33,7 @@ module _ (run : Run) (call : CallRecord) (proper : IsProper run.setup.tariff) wh
   price_paid (inr pays) route is =
       ap (λ (rates : Rates). price_at rates call.times) (same_terms run.setup.tariff (digits_of_number call.called) call.start route pays.route proper is pays.routed).0 ∙ sym pays.paid
 
-  abbrev charge : ℕ → Charge
+  abbrev charge : ℕ → PricedTimes
   charge price = record { before = call.times.before; after = call.times.after; price = price }
 
   module _ (own : Option (List ℕ)) (its_own : IsPrefixOf run.setup.tariff (digits_of_number call.called) own) (paid : IsUntalked call ⊎ PaysItsRoute run call) (rating : Rating) where

@@ -13,9 +13,9 @@ use Rattle.rated_records.specs.Laws.{paid_rightly}
 use Rattle.rated_records.specs.Tables.{IsRowOf, NoRowIsPrinted, header_fields}
 use Rattle.rating.specs.Lines.{header_line, rated_line}
 use Rattle.rating.specs.Rated.{Rating, Faulty, Priced, is_right}
-use Rattle.rating.specs.Tallies.{counted, no_rows, passes}
+use Rattle.rating.specs.Scores.{counted, no_rows, passes}
 use Rattle.rating.specs.Texts.{RatedRow}
-use Rattle.rating.specs.declared.tally.Tally.{Tally}
+use Rattle.rating.specs.declared.score.Score.{Score}
 
 -- ---- each row is right
 
@@ -52,25 +52,25 @@ none_printed [] right = refl
 none_printed (row ∷ rated) right =
     let here : is_right row.rating ≡ true = All-head IsRightRow row rated right in rw (here, none_printed rated (All-tail IsRightRow row rated right)) refl
 
-counted_right : (tally : Tally) (rating : Rating) → is_right rating ≡ true → (counted tally rating).differing + (counted tally rating).faults ≡ tally.differing + tally.faults
-counted_right tally (Priced prefix charge None) right = refl
-counted_right tally (Priced prefix charge (Some paid)) right = by (charge.price == paid) refl right
+counted_right : (score : Score) (rating : Rating) → is_right rating ≡ true → (counted score rating).differing + (counted score rating).faults ≡ score.differing + score.faults
+counted_right score (Priced prefix charge None) right = refl
+counted_right score (Priced prefix charge (Some paid)) right = by (charge.price == paid) refl right
   where
-    by : (same : Bool) → (charge.price == paid) ≡ same → (not (not same) && not false) ≡ true → tally.differing + (if charge.price == paid then 0 else 1) + tally.faults ≡ tally.differing + tally.faults
+    by : (same : Bool) → (charge.price == paid) ≡ same → (not (not same) && not false) ≡ true → score.differing + (if charge.price == paid then 0 else 1) + score.faults ≡ score.differing + score.faults
     by true is right_here = rw is (omega arith)
     by false is right_here = absurd (true≢false (sym right_here))
-counted_right tally (Faulty why) right = absurd (true≢false (sym right))
+counted_right score (Faulty why) right = absurd (true≢false (sym right))
 
-all_counted : (tally : Tally) (rated : List RatedRow) → All IsRightRow rated
-    → (fold counted tally (map (λ row. row.rating) rated)).differing + (fold counted tally (map (λ row. row.rating) rated)).faults ≡ tally.differing + tally.faults
+all_counted : (score : Score) (rated : List RatedRow) → All IsRightRow rated
+    → (fold counted score (map (λ row. row.rating) rated)).differing + (fold counted score (map (λ row. row.rating) rated)).faults ≡ score.differing + score.faults
 unfolding IsRightRow
-all_counted tally [] right = refl
-all_counted tally (row ∷ rated) right =
-    all_counted (counted tally row.rating) rated (All-tail IsRightRow row rated right) ∙ counted_right tally row.rating (All-head IsRightRow row rated right)
+all_counted score [] right = refl
+all_counted score (row ∷ rated) right =
+    all_counted (counted score row.rating) rated (All-tail IsRightRow row rated right) ∙ counted_right score row.rating (All-head IsRightRow row rated right)
 
 pub unprinted : NoRowIsPrinted
-unprinted clock calls printed tally lawful prefixed table =
+unprinted clock calls printed score lawful prefixed table =
     let right = rows_right clock calls table.rated lawful prefixed table.each in (
       table.printed_is ∙ ap (λ lines. header_line header_fields ++ lines) (none_printed table.rated right) ∙ append-nil (header_line header_fields),
-      ap passes table.tally_is ∙ eq-eqb _ 0 (all_counted no_rows table.rated right),
+      ap passes table.score_is ∙ eq-eqb _ 0 (all_counted no_rows table.rated right),
     )

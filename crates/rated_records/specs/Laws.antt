@@ -7,7 +7,7 @@ use Rattle.cap_values.specs.NumberDigits.{digits_of_number}
 use Rattle.tariff_core.specs.Laws.{IsProper}
 use Rattle.rating.specs.Calls.{CallSaid, talk_split}
 use Rattle.rating.specs.Rated.{IsPriced, Rating, Faulty, Priced}
-use Rattle.rating.specs.declared.charge.Charge.{Charge}
+use Rattle.rating.specs.declared.charge.PricedTimes.{PricedTimes}
 use Rattle.rating.specs.declared.kind.RateKind.{RateKind}
 use Rattle.rating.specs.declared.kind.RateKind.TheVariants as kind
 use Rattle.run_laws.specs.Records.{IsServedRun}
@@ -28,7 +28,7 @@ IsRatedBy run call rating =
     MatchResult (record_says call) (λ said. IsPriced run.setup.tariff said.called said.answered said.paid rating) (λ why. rating ≡ Faulty why)
 
 -- its times, and what it has paid as their price
-abbrev pub charge_of : CallRecord → Charge
+abbrev pub charge_of : CallRecord → PricedTimes
 charge_of call = record { before = call.times.before; after = call.times.after; price = call.paid }
 
 -- what a record comes to whose price is just what it has paid: under its own prefix, or without a route where it has none

@@ -5,7 +5,7 @@ use Rattle.call_records.specs.Tables.{IsCallText}
 use Rattle.moment_texts.specs.declared.clock.Clock.{Clock}
 use Rattle.rated_records.specs.Tables.{IsInputOf, IsPrintable, IsRatedTable, names_by_start}
 use Rattle.rating.specs.Texts.{IsRatedText, rate_input_of}
-use Rattle.rating.specs.declared.tally.Tally.{Tally}
+use Rattle.rating.specs.declared.score.Score.{Score}
 use Rattle.run_command.specs.Answers.{IsRunOf, RunSaid}
 use Rattle.run_options.specs.declared.options.RunAsk.{RunAsk}
 
@@ -17,5 +17,5 @@ run_of_answer ask input ran is = record { setup = is.are_books.setup; given = is
 abbrev pub RunsHaveNoDifference : Type 0
 RunsHaveNoDifference =
     (ask : RunAsk) (input : List ℕ) (ran : RunSaid) (is : IsRunOf ask input ran) (clock : Clock) (text : IsCallText clock (run_of_answer ask input ran is) ran.text) → All IsPrintable text.calls
-    → (records : List ℕ) → IsInputOf (run_of_answer ask input ran is) ran.text records → (differing : Bool) (printed : List ℕ) (tally : Tally)
-    → IsRatedText differing (rate_input_of names_by_start records) printed tally → IsRatedTable differing clock text.calls printed tally
+    → (records : List ℕ) → IsInputOf (run_of_answer ask input ran is) ran.text records → (differing : Bool) (printed : List ℕ) (score : Score)
+    → IsRatedText differing (rate_input_of names_by_start records) printed score → IsRatedTable differing clock text.calls printed score

@@ -13,12 +13,12 @@ use Rattle.moment_texts.specs.declared.clock.Clock.{Clock}
 use Rattle.rated_records.specs.Laws.{paid_rightly}
 use Rattle.rating.specs.Asks.{NamesWish, ByUsualNames}
 use Rattle.rating.specs.Lines.{header_line}
-use Rattle.rating.specs.Tallies.{passes}
+use Rattle.rating.specs.Scores.{passes}
 use Rattle.rating.specs.Texts.{IsRatedText, RatedRow, counts_of, rate_input_of, rated_text}
-use Rattle.rating.specs.declared.tally.Tally.{Tally}
+use Rattle.rating.specs.declared.score.Score.{Score}
 use Rattle.run_laws.specs.Records.{IsServedRun}
 use Rattle.run_laws.specs.Starts.{HaveTheirStarts}
-use Rattle.run_texts.specs.FirstParts.{FirstPart, first_part}
+use Rattle.run_texts.specs.FirstSections.{FirstSection, first_section}
 use Rattle.run_texts.specs.Inputs.{tariff_in}
 use Rattle.shared_account.specs.Closed.{Closed}
 use Rattle.shared_account.specs.Refusals.{Knowing}
@@ -52,9 +52,9 @@ pub record IsPrintable (call : CallRecord) : Type 0 where
 
 -- an input of `rate`: the tariff of a run, and a table behind it
 pub record IsInputOf (run : Run) (table input : List ℕ) : Type 0 where
-  pub first : FirstPart
-  pub is_first : first_part input ≡ Ok first
-  pub tariff : tariff_in first.part ≡ Ok run.setup.tariff
+  pub first : FirstSection
+  pub is_first : first_section input ≡ Ok first
+  pub tariff : tariff_in first.section ≡ Ok run.setup.tariff
   pub rest : first.rest ≡ table
 
 -- a row that was rated is that of a record, and comes to just what the call has paid, unless it has a forfeit
@@ -63,21 +63,21 @@ pub record IsRowOf (clock : Clock) (call : CallRecord) (row : RatedRow) : Type 0
   pub rating : call.outcome ≢ outcome.Forfeit → row.rating ≡ paid_rightly call (prefix_of call)
 
 -- the text that is printed of these records, each in its row, and what is counted
-pub record IsRatedTable (differing : Bool) (clock : Clock) (calls : List CallRecord) (printed : List ℕ) (tally : Tally) : Type 0 where
+pub record IsRatedTable (differing : Bool) (clock : Clock) (calls : List CallRecord) (printed : List ℕ) (score : Score) : Type 0 where
   pub rated : List RatedRow
   pub each : AllZip (IsRowOf clock) calls rated
   pub printed_is : printed ≡ rated_text differing header_fields rated
-  pub tally_is : tally ≡ counts_of rated
+  pub score_is : score ≡ counts_of rated
 
 -- of a run's tariff with the table of its calls `rate` prints such a text, whatever it is asked to print
 abbrev pub TablesHaveNoDifference : (Closed → ℕ → Knowing) → Type 0
 TablesHaveNoDifference Stood =
     (run : Run) (clock : Clock) (table input : List ℕ) → IsServedRun Stood run → HaveTheirStarts run.given → (text : IsCallText clock run table) → All IsPrintable text.calls
-    → IsInputOf run table input → (differing : Bool) (printed : List ℕ) (tally : Tally) → IsRatedText differing (rate_input_of names_by_start input) printed tally
-    → IsRatedTable differing clock text.calls printed tally
+    → IsInputOf run table input → (differing : Bool) (printed : List ℕ) (score : Score) → IsRatedText differing (rate_input_of names_by_start input) printed score
+    → IsRatedTable differing clock text.calls printed score
 
 -- where no call has a forfeit and each has a prefix, all rows are right, and of those that aren't none is printed
 abbrev pub NoRowIsPrinted : Type 0
 NoRowIsPrinted =
-    (clock : Clock) (calls : List CallRecord) (printed : List ℕ) (tally : Tally) → All (λ call. call.outcome ≢ outcome.Forfeit) calls → All (λ call. is_some call.prefix ≡ true) calls
-    → IsRatedTable true clock calls printed tally → (printed ≡ header_line header_fields) × (passes tally ≡ true)
+    (clock : Clock) (calls : List CallRecord) (printed : List ℕ) (score : Score) → All (λ call. call.outcome ≢ outcome.Forfeit) calls → All (λ call. is_some call.prefix ≡ true) calls
+    → IsRatedTable true clock calls printed score → (printed ≡ header_line header_fields) × (passes score ≡ true)

@@ -107,10 +107,10 @@ either_by : (b : Bool) (field : List ℕ) (fields : Fields) (room : ℕ) → nat
 either_by true field fields room is more = one_more field (front (room - (length field + 1)) fields) fields (room - (length field + 1)) room (omega (arith, is_less (length field) room is)) more
 either_by false field fields room is more = too_long field fields room (isnt_less (length field) room is)
 
-same_by : (limit most : ℕ) (some fields : Fields) → limit ≤ most → WholeOrOver some fields most → nat_lt limit (row_size some) ≡ nat_lt limit (row_size fields)
-same_by limit most some fields within (inl same) = ap (λ l. nat_lt limit (row_size l)) same
-same_by limit most some fields within (inr over) =
-    less_is limit (row_size some) (omega (arith, within, over.0)) ∙ sym (less_is limit (row_size fields) (omega (arith, within, over.1)))
+same_by : (bound most : ℕ) (some fields : Fields) → bound ≤ most → WholeOrOver some fields most → nat_lt bound (row_size some) ≡ nat_lt bound (row_size fields)
+same_by bound most some fields within (inl same) = ap (λ l. nat_lt bound (row_size l)) same
+same_by bound most some fields within (inr over) =
+    less_is bound (row_size some) (omega (arith, within, over.0)) ∙ sym (less_is bound (row_size fields) (omega (arith, within, over.1)))
 
 -- either all of a row is shown, or it has more bytes than there is room for, and so has what is shown
 pub whole_or_over : (fields : Fields) (room : ℕ) → WholeOrOver (front room fields) fields room
@@ -120,5 +120,5 @@ whole_or_over (field ∷ fields) room =
     either_by (nat_lt (length field) room) field fields room refl (whole_or_over fields (room - (length field + 1)))
 
 -- whether it has more bytes than so many is seen by what is shown
-pub same_size : (limit most : ℕ) (fields : Fields) → limit ≤ most → nat_lt limit (row_size (front most fields)) ≡ nat_lt limit (row_size fields)
-same_size limit most fields within = same_by limit most (front most fields) fields within (whole_or_over fields most)
+pub same_size : (bound most : ℕ) (fields : Fields) → bound ≤ most → nat_lt bound (row_size (front most fields)) ≡ nat_lt bound (row_size fields)
+same_size bound most fields within = same_by bound most (front most fields) fields within (whole_or_over fields most)

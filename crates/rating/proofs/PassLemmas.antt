@@ -15,11 +15,11 @@ use Rattle.rating.proofs.StartCuts.{first_is}
 use Rattle.rating.proofs.StepLemmas.{IsCalm, IsPlain, StaysBy, after_cr, step_stays}
 use Rattle.rating.specs.Cuts.{CanPass, IsBetween, IsMove, passed_byte, closing, cut_from, cut_second, cut_start, cut_third, passed_text, passed_on, room_after, cut_state_of}
 use Rattle.rating.specs.declared.call.TheConstants.{MAX_SHOWN}
-use Rattle.rating.specs.declared.place.Moves.TheVariants as moves
-use Rattle.rating.specs.declared.place.Place.{Place}
-use Rattle.rating.specs.declared.place.Place.TheVariants as place
-use Rattle.rating.specs.declared.place.Within.{Within}
-use Rattle.rating.specs.declared.place.Within.TheVariants as within
+use Rattle.rating.specs.declared.cursor.Moves.TheVariants as moves
+use Rattle.rating.specs.declared.cursor.Cursor.{Cursor}
+use Rattle.rating.specs.declared.cursor.Cursor.TheVariants as cursor
+use Rattle.rating.specs.declared.cursor.Within.{Within}
+use Rattle.rating.specs.declared.cursor.Within.TheVariants as within
 
 -- ---- between two rows
 
@@ -168,15 +168,15 @@ stays_by most s to zero count c text all act.EndField stays whole some fits ih =
 stays_by most s to (suc room) count c text all act.EndField stays whole some fits ih =
     ap (λ l. c ∷ l) (ih room (inl stays) (λ between. absurd (not_plain to stays between)) (omega (arith, some)))
 
-rows_pass : (most : ℕ) (s : State) (room end : ℕ) (part rest : List ℕ) → IsCalm s → (IsBetween s → room ≡ most) → end < room → end < most → end < length part
-    → ((k : ℕ) → k < end → (slice_index part k == 34) ≡ false) → slice_index part end ≡ 10
-    → cut_from most s (Some room) (part ++ rest) ≡ take (suc end) part ++ cut_from most st.StartRecord (Some most) (drop (suc end) part ++ rest)
+rows_pass : (most : ℕ) (s : State) (room end : ℕ) (piece rest : List ℕ) → IsCalm s → (IsBetween s → room ≡ most) → end < room → end < most → end < length piece
+    → ((k : ℕ) → k < end → (slice_index piece k == 34) ≡ false) → slice_index piece end ≡ 10
+    → cut_from most s (Some room) (piece ++ rest) ≡ take (suc end) piece ++ cut_from most st.StartRecord (Some most) (drop (suc end) piece ++ rest)
 unfolding cut_from
 rows_pass most s room end [] rest calm whole some fits within plain is = absurd (omega (arith, within))
-rows_pass most s room zero (c ∷ part) rest calm whole some fits within plain is = rw is (line_feed most s room (part ++ rest) calm whole)
-rows_pass most s room (suc end) (c ∷ part) rest calm whole some fits within plain is =
-    stays_by most s (step default_config s c).0 room (suc end) c (part ++ rest) _ (step default_config s c).1 (step_stays s c (plain 0 (omega arith)) calm) whole (omega (arith, some)) (omega (arith, fits))
-    (λ room calm whole some. rows_pass most (step default_config s c).0 room end part rest calm whole (omega (arith, some)) (omega (arith, fits)) (omega (arith, within))
+rows_pass most s room zero (c ∷ piece) rest calm whole some fits within plain is = rw is (line_feed most s room (piece ++ rest) calm whole)
+rows_pass most s room (suc end) (c ∷ piece) rest calm whole some fits within plain is =
+    stays_by most s (step default_config s c).0 room (suc end) c (piece ++ rest) _ (step default_config s c).1 (step_stays s c (plain 0 (omega arith)) calm) whole (omega (arith, some)) (omega (arith, fits))
+    (λ room calm whole some. rows_pass most (step default_config s c).0 room end piece rest calm whole (omega (arith, some)) (omega (arith, fits)) (omega (arith, within))
     (λ k less. plain (suc k) (omega (arith, less))) is)
 
 not_true : (b : Bool) → (b ≡ true → ⊥) → b ≡ false
@@ -186,57 +186,57 @@ not_true false never = refl
 is_value : (c value : ℕ) → (c == value) ≡ true → c ≡ value
 is_value c value is = grind (arith, nat_tests)
 
--- no quote comes before a place
-before_quote : (part : List ℕ) (first : Option ℕ) (k : ℕ) → IsFirstByte (is_byte 34) part first → k < length part → k < unwrap_or first (length part) → (slice_index part k == 34) ≡ false
-before_quote part None k none within before = not_true (slice_index part k == 34) (none k (omega arith) within)
-before_quote part (Some quote) k first within before = not_true (slice_index part k == 34) (first.0.before k (omega arith) before)
+-- no quote comes before a cursor
+before_quote : (piece : List ℕ) (first : Option ℕ) (k : ℕ) → IsFirstByte (is_byte 34) piece first → k < length piece → k < unwrap_or first (length piece) → (slice_index piece k == 34) ≡ false
+before_quote piece None k none within before = not_true (slice_index piece k == 34) (none k (omega arith) within)
+before_quote piece (Some quote) k first within before = not_true (slice_index piece k == 34) (first.0.before k (omega arith) before)
 
-by_place : (place : Place) (count end : ℕ) (part rest : List ℕ) → CanPass place count → end < count → end < length part → ((k : ℕ) → k < end → (slice_index part k == 34) ≡ false) → slice_index part end ≡ 10
-    → passed_text place (part ++ rest) ≡ take (suc end) part ++ cut_from MAX_SHOWN st.StartRecord (Some MAX_SHOWN) (drop (suc end) part ++ rest)
-by_place place.Between count end part rest can before within plain is =
-    rows_pass MAX_SHOWN st.StartRecord MAX_SHOWN end part rest (inr (inl refl)) (λ _. refl) (omega (arith, can, before)) (omega (arith, can, before)) within plain is
-by_place (place.InRow within.StartField room) count end part rest can before fits plain is =
-    rows_pass MAX_SHOWN st.StartField room end part rest (inl tt) (λ between. absurd (not_plain st.StartField tt between)) (omega (arith, can.0, before)) (omega (arith, can.1, before)) fits plain is
-by_place (place.InRow within.InField room) count end part rest can before fits plain is =
-    rows_pass MAX_SHOWN st.InField room end part rest (inl tt) (λ between. absurd (not_plain st.InField tt between)) (omega (arith, can.0, before)) (omega (arith, can.1, before)) fits plain is
-by_place (place.InRow within.InQuoted room) count end part rest can before fits plain is = absurd (omega (arith, can, before))
-by_place (place.InRow within.AfterQuote room) count end part rest can before fits plain is = absurd (omega (arith, can, before))
-by_place (place.InRest at) count end part rest can before fits plain is = absurd (omega (arith, can, before))
-by_place place.Start count end part rest can before fits plain is = absurd (omega (arith, can, before))
-by_place place.FirstMark count end part rest can before fits plain is = absurd (omega (arith, can, before))
-by_place place.SecondMark count end part rest can before fits plain is = absurd (omega (arith, can, before))
+by_cursor : (cursor : Cursor) (count end : ℕ) (piece rest : List ℕ) → CanPass cursor count → end < count → end < length piece → ((k : ℕ) → k < end → (slice_index piece k == 34) ≡ false) → slice_index piece end ≡ 10
+    → passed_text cursor (piece ++ rest) ≡ take (suc end) piece ++ cut_from MAX_SHOWN st.StartRecord (Some MAX_SHOWN) (drop (suc end) piece ++ rest)
+by_cursor cursor.Between count end piece rest can before within plain is =
+    rows_pass MAX_SHOWN st.StartRecord MAX_SHOWN end piece rest (inr (inl refl)) (λ _. refl) (omega (arith, can, before)) (omega (arith, can, before)) within plain is
+by_cursor (cursor.InRow within.StartField room) count end piece rest can before fits plain is =
+    rows_pass MAX_SHOWN st.StartField room end piece rest (inl tt) (λ between. absurd (not_plain st.StartField tt between)) (omega (arith, can.0, before)) (omega (arith, can.1, before)) fits plain is
+by_cursor (cursor.InRow within.InField room) count end piece rest can before fits plain is =
+    rows_pass MAX_SHOWN st.InField room end piece rest (inl tt) (λ between. absurd (not_plain st.InField tt between)) (omega (arith, can.0, before)) (omega (arith, can.1, before)) fits plain is
+by_cursor (cursor.InRow within.InQuoted room) count end piece rest can before fits plain is = absurd (omega (arith, can, before))
+by_cursor (cursor.InRow within.AfterQuote room) count end piece rest can before fits plain is = absurd (omega (arith, can, before))
+by_cursor (cursor.InRest at) count end piece rest can before fits plain is = absurd (omega (arith, can, before))
+by_cursor cursor.Start count end piece rest can before fits plain is = absurd (omega (arith, can, before))
+by_cursor cursor.FirstMark count end piece rest can before fits plain is = absurd (omega (arith, can, before))
+by_cursor cursor.SecondMark count end piece rest can before fits plain is = absurd (omega (arith, can, before))
 
-pub skipped : (place : Place) (part : List ℕ) (quote : Option ℕ) (sure count end : ℕ) → IsFirstByte (is_byte 34) part quote → CanPass place count
-    → sure ≡ min (unwrap_or quote (length part)) count → IsLastByte (is_byte 10) (take sure part) (Some end)
-    → (rest : List ℕ) → passed_text place (part ++ rest) ≡ take (end + 1) part ++ cut_from MAX_SHOWN st.StartRecord (Some MAX_SHOWN) (drop (end + 1) part ++ rest)
-skipped place part quote sure count end first can is last = λ rest.
+pub skipped : (cursor : Cursor) (piece : List ℕ) (quote : Option ℕ) (sure count end : ℕ) → IsFirstByte (is_byte 34) piece quote → CanPass cursor count
+    → sure ≡ min (unwrap_or quote (length piece)) count → IsLastByte (is_byte 10) (take sure piece) (Some end)
+    → (rest : List ℕ) → passed_text cursor (piece ++ rest) ≡ take (end + 1) piece ++ cut_from MAX_SHOWN st.StartRecord (Some MAX_SHOWN) (drop (end + 1) piece ++ rest)
+skipped cursor piece quote sure count end first can is last = λ rest.
     let more : suc end ≡ end + 1 = omega arith in
-    let within : end < length part = omega (arith, last.0.high, length-take sure part) in
-    let early : end < sure = omega (arith, last.0.high, length-take sure part) in
-    let feed : slice_index part end ≡ 10 = sym (get_or-take sure part end 0 early) ∙ is_value _ 10 last.1 in
-    subst (λ n. passed_text place (part ++ rest) ≡ take n part ++ cut_from MAX_SHOWN st.StartRecord (Some MAX_SHOWN) (drop n part ++ rest)) more
-    (by_place place count end part rest can (omega (arith, early, is)) within (λ k less. before_quote part quote k first (omega (arith, less, within)) (omega (arith, less, early, is))) feed)
+    let within : end < length piece = omega (arith, last.0.high, length-take sure piece) in
+    let early : end < sure = omega (arith, last.0.high, length-take sure piece) in
+    let feed : slice_index piece end ≡ 10 = sym (get_or-take sure piece end 0 early) ∙ is_value _ 10 last.1 in
+    subst (λ n. passed_text cursor (piece ++ rest) ≡ take n piece ++ cut_from MAX_SHOWN st.StartRecord (Some MAX_SHOWN) (drop n piece ++ rest)) more
+    (by_cursor cursor count end piece rest can (omega (arith, early, is)) within (λ k less. before_quote piece quote k first (omega (arith, less, within)) (omega (arith, less, early, is))) feed)
 
 -- ---- a read
 
-passed_nothing : (place : Place) → passed_text place [] ≡ []
+passed_nothing : (cursor : Cursor) → passed_text cursor [] ≡ []
 unfolding cut_from cut_start cut_second cut_third
-passed_nothing place.Start = refl
-passed_nothing place.FirstMark = refl
-passed_nothing place.SecondMark = refl
-passed_nothing place.Between = refl
-passed_nothing (place.InRow at room) = refl
-passed_nothing (place.InRest at) = refl
+passed_nothing cursor.Start = refl
+passed_nothing cursor.FirstMark = refl
+passed_nothing cursor.SecondMark = refl
+passed_nothing cursor.Between = refl
+passed_nothing (cursor.InRow at room) = refl
+passed_nothing (cursor.InRest at) = refl
 
 -- at the end of a table nothing is left to pass on
-pub ends_there : (place : Place) (known : Option (List ℕ)) → IsAtEnd known → IsAtEnd (option_map (passed_text place) known)
-ends_there place None end = tt
-ends_there place (Some text) end = ap (λ l. passed_text place l) end ∙ passed_nothing place
+pub ends_there : (cursor : Cursor) (known : Option (List ℕ)) → IsAtEnd known → IsAtEnd (option_map (passed_text cursor) known)
+ends_there cursor None end = tt
+ends_there cursor (Some text) end = ap (λ l. passed_text cursor l) end ∙ passed_nothing cursor
 
 -- nothing was read
-pub none_read : (place now : Place) (first old new : Option (List ℕ)) → Keeps (option_map (passed_text place) first) (option_map (passed_text now) old) → Consumes old new []
-    → Consumes (option_map (passed_text place) first) (option_map (passed_text now) new) []
-none_read place now None old new keeps none = tt
-none_read place now (Some text) None new keeps none = absurd keeps
-none_read place now (Some text) (Some rest) None keeps none = absurd none
-none_read place now (Some text) (Some rest) (Some left) keeps none = sym keeps ∙ ap (λ l. passed_text now l) none
+pub none_read : (cursor now : Cursor) (first old new : Option (List ℕ)) → Keeps (option_map (passed_text cursor) first) (option_map (passed_text now) old) → Consumes old new []
+    → Consumes (option_map (passed_text cursor) first) (option_map (passed_text now) new) []
+none_read cursor now None old new keeps none = tt
+none_read cursor now (Some text) None new keeps none = absurd keeps
+none_read cursor now (Some text) (Some rest) None keeps none = absurd none
+none_read cursor now (Some text) (Some rest) (Some left) keeps none = sym keeps ∙ ap (λ l. passed_text now l) none

@@ -23,7 +23,7 @@ use Rattle.rating.specs.Cuts.{cut_start}
 use Rattle.tariff_core.specs.Bands.{Band}
 use Rattle.rating.specs.declared.call.TheConstants.{MAX_ROW, MAX_SHOWN}
 use Rattle.rating.specs.declared.columns.Columns.{Columns}
-use Rattle.rating.specs.Tallies.{counted, no_rows}
+use Rattle.rating.specs.Scores.{counted, no_rows}
 use Rattle.rating.specs.Texts.{AreRated, IsRatedRow, RateInput, RatedRow, rated_below, counts_of, headed, rated_text}
 use Rattle.rating.specs.Asks.{NamesWish}
 use Rattle.rating.specs.Columns.{found_columns}
@@ -33,11 +33,11 @@ use Rattle.rating.specs.declared.fault.RateFault.TheVariants as fault
 use Rattle.run_texts.specs.declared.input_fault.InputFault.TheVariants as input_fault
 use Rattle.table_core.specs.declared.fault.TableFault.{TableFault}
 use Rattle.table_core.specs.declared.fault.TableFault.TheVariants as table
-use Rattle.rating.specs.declared.tally.Tally.{Tally}
+use Rattle.rating.specs.declared.score.Score.{Score}
 
 -- some rows are rated, others are left; of the text of those, a part was written and a part not yet
 pub record IsUnderWay {R : Type 0} (remaining : R → Option (List ℕ)) (differing : Bool) (input : RateInput) (rows : Rows R) (old now : Option (List ℕ)) (text : List ℕ)
-    (tally : Tally) : Type 0 where
+    (score : Score) : Type 0 where
   pub read : List Fields
   pub left : List Fields
   pub rows_are : input.rows ≡ read ++ left
@@ -47,7 +47,7 @@ pub record IsUnderWay {R : Type 0} (remaining : R → Option (List ℕ)) (differ
   pub sent : List ℕ
   pub wrote : Appends old now sent
   pub text_is : sent ++ text ≡ rated_text differing input.header rated
-  pub tally_is : tally ≡ counts_of rated
+  pub score_is : score ≡ counts_of rated
 
 -- nothing was written yet
 pub nothing_yet : (known : Option (List ℕ)) → Appends known known []
@@ -116,13 +116,13 @@ module _ {R : Type 0} (remaining : R → Option (List ℕ)) (differing : Bool) (
     sent = [];
     wrote = nothing_yet known;
     text_is = is ∙ sym (append-nil (header_line input.header));
-    tally_is = refl;
+    score_is = refl;
   }
 
   -- what was written is a front of the text
-  pub in_part : (rows : Rows R) (old now : Option (List ℕ)) (text : List ℕ) (tally : Tally) → IsUnderWay remaining differing input rows old now text tally
+  pub in_part : (rows : Rows R) (old now : Option (List ℕ)) (text : List ℕ) (score : Score) → IsUnderWay remaining differing input rows old now text score
       → IsInPart differing (Ok input) old now
-  in_part rows old now text tally way = record {
+  in_part rows old now text score way = record {
     input = input;
     is_input = refl;
     read = way.read;
@@ -134,9 +134,9 @@ module _ {R : Type 0} (remaining : R → Option (List ℕ)) (differing : Bool) (
   }
 
   -- so it is where the output failed
-  pub failed : (rows : Rows R) (old now new : Option (List ℕ)) (text : List ℕ) (tally : Tally) → IsUnderWay remaining differing input rows old now text tally
+  pub failed : (rows : Rows R) (old now new : Option (List ℕ)) (text : List ℕ) (score : Score) → IsUnderWay remaining differing input rows old now text score
       → AppendsFront now new text → IsInPart differing (Ok input) old new
-  failed rows old now new text tally way front = record {
+  failed rows old now new text score way front = record {
     input = input;
     is_input = refl;
     read = way.read;
@@ -148,9 +148,9 @@ module _ {R : Type 0} (remaining : R → Option (List ℕ)) (differing : Bool) (
   }
 
   -- all of the text was written, where none is left
-  pub all_written : (rows : Rows R) (old now new : Option (List ℕ)) (text : List ℕ) (tally : Tally) (way : IsUnderWay remaining differing input rows old now text tally)
-      → map shown way.left ≡ [] → Appends now new text → IsRatedWhole differing (Ok input) tally old new
-  all_written rows old now new text tally way none wrote =
+  pub all_written : (rows : Rows R) (old now new : Option (List ℕ)) (text : List ℕ) (score : Score) (way : IsUnderWay remaining differing input rows old now text score)
+      → map shown way.left ≡ [] → Appends now new text → IsRatedWhole differing (Ok input) score old new
+  all_written rows old now new text score way none wrote =
       let all : input.rows ≡ way.read = way.rows_are ∙ ap (λ l. way.read ++ l) (none_left way.left none) ∙ append-nil way.read in
       record {
         printed = way.sent ++ text;
@@ -160,17 +160,17 @@ module _ {R : Type 0} (remaining : R → Option (List ℕ)) (differing : Bool) (
           rated = way.rated;
           are_rated = record { rows_are = all ∙ way.are_rated.rows_are; each = way.are_rated.each };
           printed_is = way.text_is;
-          tally_is = way.tally_is;
+          score_is = way.score_is;
         };
         whole = both_written old now new way.sent text way.wrote wrote;
       }
 
   -- one row more
-  pub row_more : (rows more : Rows R) (old now : Option (List ℕ)) (text new_text : List ℕ) (tally new_tally : Tally) (way : IsUnderWay remaining differing input rows old now text tally)
+  pub row_more : (rows more : Rows R) (old now : Option (List ℕ)) (text new_text : List ℕ) (score new_score : Score) (way : IsUnderWay remaining differing input rows old now text score)
       → TakesNext remaining more (map shown way.left) true
-      → ((whole : Fields) → fields_of more.row ≡ shown whole → AddsRatedRow input.bands (length input.header) input.columns differing whole text new_text tally new_tally)
-      → IsUnderWay remaining differing input more old now new_text new_tally
-  row_more rows more old now text new_text tally new_tally way takes added =
+      → ((whole : Fields) → fields_of more.row ≡ shown whole → AddsRatedRow input.bands (length input.header) input.columns differing whole text new_text score new_score)
+      → IsUnderWay remaining differing input more old now new_text new_score
+  row_more rows more old now text new_text score new_score way takes added =
       let (rest, first, has) = takes in
       let (whole, rated_below, left_is, row_is, rest_is) = first_left way.left (fields_of more.row) rest first in
       let adds = added whole row_is in
@@ -191,14 +191,14 @@ module _ {R : Type 0} (remaining : R → Option (List ℕ)) (differing : Bool) (
             ∙ ap (λ l. l ++ rated_line differing row.fields row.rating) way.text_is
             ∙ append_assoc (header_line input.header) _ _
             ∙ ap (λ l. header_line input.header ++ l) (sym (flat_map-append (λ r. rated_line differing r.fields r.rating) way.rated (row ∷ []) ∙ ap (λ l. flat_map (λ r. rated_line differing r.fields r.rating) way.rated ++ l) (append-nil (rated_line differing row.fields row.rating))));
-        tally_is = adds.tally ∙ ap (λ t. counted t adds.rating) way.tally_is
+        score_is = adds.score ∙ ap (λ t. counted t adds.rating) way.score_is
             ∙ sym (ap (λ l. fold counted no_rows l) (map-append (λ r. r.rating) way.rated (row ∷ [])) ∙ fold_push counted no_rows (map (λ r. r.rating) way.rated) adds.rating);
       }
 
   -- so much of the text so far was written
-  pub sent_more : (rows : Rows R) (old now new : Option (List ℕ)) (text rest : List ℕ) (tally : Tally) → IsUnderWay remaining differing input rows old now text tally
-      → SendsFront now new text rest → IsUnderWay remaining differing input rows old new rest tally
-  sent_more rows old now new text rest tally way sends = record {
+  pub sent_more : (rows : Rows R) (old now new : Option (List ℕ)) (text rest : List ℕ) (score : Score) → IsUnderWay remaining differing input rows old now text score
+      → SendsFront now new text rest → IsUnderWay remaining differing input rows old new rest score
+  sent_more rows old now new text rest score way sends = record {
     read = way.read;
     left = way.left;
     rows_are = way.rows_are;
@@ -208,21 +208,21 @@ module _ {R : Type 0} (remaining : R → Option (List ℕ)) (differing : Bool) (
     sent = way.sent ++ sends.sent;
     wrote = both_written old now new way.sent sends.sent way.wrote sends.wrote;
     text_is = append_assoc way.sent sends.sent rest ∙ ap (λ l. way.sent ++ l) (sym sends.is) ∙ way.text_is;
-    tally_is = way.tally_is;
+    score_is = way.score_is;
   }
 
 -- a row was added
-pub added : {X E : Type 0} (answer : Result X E) (bands : List Band) (width : ℕ) (columns : Columns) (differing : Bool) (fields : Fields) (old new : List ℕ) (old_tally new_tally : Tally) (rating : Rating)
+pub added : {X E : Type 0} (answer : Result X E) (bands : List Band) (width : ℕ) (columns : Columns) (differing : Bool) (fields : Fields) (old new : List ℕ) (old_score new_score : Score) (rating : Rating)
     → IsRated bands width columns fields rating → (differing && is_right rating) ≡ false → OnOk answer (new ≡ (old ++ with_commas fields) ++ columns_text rating)
-    → new_tally ≡ counted old_tally rating
-    → OnOk answer ((whole : Fields) → fields ≡ shown whole → AddsRatedRow bands width columns differing whole old new old_tally new_tally)
-added (Ok done) bands width columns differing fields old new old_tally new_tally rating rated printed is counts = λ whole fields_are. record {
+    → new_score ≡ counted old_score rating
+    → OnOk answer ((whole : Fields) → fields ≡ shown whole → AddsRatedRow bands width columns differing whole old new old_score new_score)
+added (Ok done) bands width columns differing fields old new old_score new_score rating rated printed is counts = λ whole fields_are. record {
   rating = rating;
   is_rated = rated_whole bands width columns whole rating (rw fields_are at rated);
   text = is ∙ ap (λ l. (old ++ with_commas l) ++ columns_text rating) fields_are ∙ row_written old whole rating ∙ rw printed refl;
-  tally = counts;
+  score = counts;
 }
-added (Err why) bands width columns differing fields old new old_tally new_tally rating rated printed is counts = tt
+added (Err why) bands width columns differing fields old new old_score new_score rating rated printed is counts = tt
 
 -- sent as far as it is
 pub sends_all : (old new : Option (List ℕ)) (text : List ℕ) → Appends old new text → SendsFront old new text []
@@ -233,10 +233,10 @@ sends_none known text = record { sent = []; wrote = nothing_yet known; is = refl
 
 -- ---- how rating ends at a fault
 
-pub failed_ends : (differing : Bool) (meaning : Result RateInput RateFault) (old new : Option (List ℕ)) (answer : Result Tally RateFault) (why : RateFault) → IsErrAnd answer (λ met. met ≡ why)
+pub failed_ends : (differing : Bool) (meaning : Result RateInput RateFault) (old new : Option (List ℕ)) (answer : Result Score RateFault) (why : RateFault) → IsErrAnd answer (λ met. met ≡ why)
     → why ≡ fault.Output → IsInPart differing meaning old new → EndsRating differing meaning old new answer
-failed_ends differing meaning old new (Ok tally) why met is part = absurd met
-failed_ends differing meaning old new (Err said_so) why met is part = rw (met, is) part
+failed_ends differing meaning old new (Ok score) why met is part = absurd met
+failed_ends differing meaning old new (Err named) why met is part = rw (met, is) part
 
 pub stops : (differing : Bool) (meaning : Result RateInput RateFault) (old new : Option (List ℕ)) (why : RateFault) → RateFaultMayAlwaysCome why → Keeps old new ⊎ IsInPart differing meaning old new
     → StopsBy differing meaning old new why
@@ -250,10 +250,10 @@ stops differing meaning old new (fault.Input (input_fault.Tariff row)) may part 
 stops differing meaning old new (fault.Input (input_fault.Setup row)) may part = absurd may
 stops differing meaning old new (fault.Input (input_fault.Script row)) may part = absurd may
 
-pub stopped_ends : (differing : Bool) (meaning : Result RateInput RateFault) (old new : Option (List ℕ)) (answer : Result Tally RateFault) (why : RateFault) → IsErrAnd answer (λ met. met ≡ why)
+pub stopped_ends : (differing : Bool) (meaning : Result RateInput RateFault) (old new : Option (List ℕ)) (answer : Result Score RateFault) (why : RateFault) → IsErrAnd answer (λ met. met ≡ why)
     → RateFaultMayAlwaysCome why → Keeps old new ⊎ IsInPart differing meaning old new → EndsRating differing meaning old new answer
-stopped_ends differing meaning old new (Ok tally) why met may part = absurd met
-stopped_ends differing meaning old new (Err said_so) why met may part = rw met (stops differing meaning old new why may part)
+stopped_ends differing meaning old new (Ok score) why met may part = absurd met
+stopped_ends differing meaning old new (Err named) why met may part = rw met (stops differing meaning old new why may part)
 
 -- rows that can't be read
 pub rows_may : (why : TableFault) → RateFaultMayAlwaysCome (of_rows why)
@@ -338,16 +338,16 @@ pub take_front : (front back : List ℕ) (count : ℕ) → count ≡ length fron
 take_front front back count is = rw is (take-append_seam front back)
 
 -- the line of a row isn't printed
-pub hidden : (bands : List Band) (width : ℕ) (columns : Columns) (differing : Bool) (fields : Fields) (old new : List ℕ) (old_tally new_tally : Tally) (rating : Rating)
-    → IsRated bands width columns fields rating → (differing && is_right rating) ≡ true → new ≡ old → new_tally ≡ counted old_tally rating
-    → (whole : Fields) → fields ≡ shown whole → AddsRatedRow bands width columns differing whole old new old_tally new_tally
-hidden bands width columns differing fields old new old_tally new_tally rating rated hides same counts = λ whole fields_are. record {
+pub hidden : (bands : List Band) (width : ℕ) (columns : Columns) (differing : Bool) (fields : Fields) (old new : List ℕ) (old_score new_score : Score) (rating : Rating)
+    → IsRated bands width columns fields rating → (differing && is_right rating) ≡ true → new ≡ old → new_score ≡ counted old_score rating
+    → (whole : Fields) → fields ≡ shown whole → AddsRatedRow bands width columns differing whole old new old_score new_score
+hidden bands width columns differing fields old new old_score new_score rating rated hides same counts = λ whole fields_are. record {
   rating = rating;
   is_rated = rated_whole bands width columns whole rating (rw fields_are at rated);
   text = same ∙ sym (append-nil old) ∙ rw hides refl;
-  tally = counts;
+  score = counts;
 }
 
-pub ends_same : (differing : Bool) (meaning other : Result RateInput RateFault) (old new : Option (List ℕ)) (answer : Result Tally RateFault) → meaning ≡ other
+pub ends_same : (differing : Bool) (meaning other : Result RateInput RateFault) (old new : Option (List ℕ)) (answer : Result Score RateFault) → meaning ≡ other
     → EndsRating differing other old new answer → EndsRating differing meaning old new answer
 ends_same differing meaning other old new answer is ends = subst (λ m. EndsRating differing m old new answer) (sym is) ends

@@ -8,12 +8,12 @@ use Rattle.csv.specs.declared.parser.State.{State}
 use Rattle.csv.specs.declared.parser.State.TheVariants as st
 use Rattle.rating.specs.declared.call.TheConstants.{MAX_SHOWN}
 use Rattle.rating.specs.declared.cut_rows.CutRows.{CutRows}
-use Rattle.rating.specs.declared.place.Moves.{Moves}
-use Rattle.rating.specs.declared.place.Moves.TheVariants as moves
-use Rattle.rating.specs.declared.place.Place.{Place}
-use Rattle.rating.specs.declared.place.Place.TheVariants as place
-use Rattle.rating.specs.declared.place.Within.{Within}
-use Rattle.rating.specs.declared.place.Within.TheVariants as within
+use Rattle.rating.specs.declared.cursor.Moves.{Moves}
+use Rattle.rating.specs.declared.cursor.Moves.TheVariants as moves
+use Rattle.rating.specs.declared.cursor.Cursor.{Cursor}
+use Rattle.rating.specs.declared.cursor.Cursor.TheVariants as cursor
+use Rattle.rating.specs.declared.cursor.Within.{Within}
+use Rattle.rating.specs.declared.cursor.Within.TheVariants as within
 
 -- what stands for the rest of a row where it is cut: a quote where one is open
 abbrev pub closing : State → List ℕ
@@ -73,14 +73,14 @@ cut_state_of within.InField = st.InField
 cut_state_of within.InQuoted = st.InQuoted
 cut_state_of within.AfterQuote = st.AfterQuote
 
--- what is passed on of the rest of a table from a place
-abbrev pub passed_text : Place → List ℕ → List ℕ
-passed_text place.Start text = cut_start MAX_SHOWN text
-passed_text place.FirstMark text = cut_second MAX_SHOWN (less (Some MAX_SHOWN)) text
-passed_text place.SecondMark text = cut_third MAX_SHOWN (less (less (Some MAX_SHOWN))) text
-passed_text place.Between text = cut_from MAX_SHOWN st.StartRecord (Some MAX_SHOWN) text
-passed_text (place.InRow at room) text = cut_from MAX_SHOWN (cut_state_of at) (Some room) text
-passed_text (place.InRest at) text = cut_from MAX_SHOWN (cut_state_of at) None text
+-- what is passed on of the rest of a table from a cursor
+abbrev pub passed_text : Cursor → List ℕ → List ℕ
+passed_text cursor.Start text = cut_start MAX_SHOWN text
+passed_text cursor.FirstMark text = cut_second MAX_SHOWN (less (Some MAX_SHOWN)) text
+passed_text cursor.SecondMark text = cut_third MAX_SHOWN (less (less (Some MAX_SHOWN))) text
+passed_text cursor.Between text = cut_from MAX_SHOWN st.StartRecord (Some MAX_SHOWN) text
+passed_text (cursor.InRow at room) text = cut_from MAX_SHOWN (cut_state_of at) (Some room) text
+passed_text (cursor.InRest at) text = cut_from MAX_SHOWN (cut_state_of at) None text
 
 -- between two rows, whatever ended the first
 abbrev pub IsBetween : State → Type 0
@@ -92,11 +92,11 @@ IsMove moves.EndsRow next = IsBetween next.0 × (next.1 ≡ act.EndRecord)
 IsMove (moves.Adds to) next = (next.0 ≡ cut_state_of to) × ((next.1 ≡ act.Copy) ⊎ (next.1 ≡ act.EndField))
 IsMove (moves.Skips to) next = (next.0 ≡ cut_state_of to) × (next.1 ≡ act.Skip)
 
--- so many bytes are passed on from a place, if no quote is among them
-abbrev pub CanPass : Place → ℕ → Type 0
-CanPass place.Between count = count ≤ MAX_SHOWN
-CanPass (place.InRow within.StartField room) count = (count ≤ room) × (count ≤ MAX_SHOWN)
-CanPass (place.InRow within.InField room) count = (count ≤ room) × (count ≤ MAX_SHOWN)
+-- so many bytes are passed on from a cursor, if no quote is among them
+abbrev pub CanPass : Cursor → ℕ → Type 0
+CanPass cursor.Between count = count ≤ MAX_SHOWN
+CanPass (cursor.InRow within.StartField room) count = (count ≤ room) × (count ≤ MAX_SHOWN)
+CanPass (cursor.InRow within.InField room) count = (count ≤ room) × (count ≤ MAX_SHOWN)
 CanPass _ count = count ≡ 0
 
 -- a byte or none
@@ -108,5 +108,5 @@ bytes_of (Some c) = c ∷ []
 abbrev pub reader_of : {R : Type 0} → CutRows R → R
 reader_of rows = rows.reader
 
-abbrev pub cut_place : {R : Type 0} → CutRows R → Place
-cut_place rows = rows.place
+abbrev pub cut_cursor : {R : Type 0} → CutRows R → Cursor
+cut_cursor rows = rows.cursor

@@ -7,17 +7,17 @@ use Rattle.rating.specs.Fronts.{AppendsFront}
 use Rattle.rating.specs.Texts.{AreRated, IsRatedText, RateInput, RatedRow, rated_text}
 use Rattle.rating.specs.Lines.{rated_line}
 use Rattle.rating.specs.Rated.{IsRated, Rating}
-use Rattle.rating.specs.Tallies.{counted}
+use Rattle.rating.specs.Scores.{counted}
 use Rattle.tariff_core.specs.Bands.{Band}
 use Rattle.rating.specs.declared.columns.Columns.{Columns}
 use Rattle.rating.specs.declared.fault.RateFault.{RateFault}
 use Rattle.rating.specs.declared.fault.RateFault.TheVariants as fault
-use Rattle.rating.specs.declared.tally.Tally.{Tally}
+use Rattle.rating.specs.declared.score.Score.{Score}
 
 -- all of the text was printed
-pub record IsRatedWhole (differing : Bool) (meaning : Result RateInput RateFault) (tally : Tally) (old new : Option (List ℕ)) : Type 0 where
+pub record IsRatedWhole (differing : Bool) (meaning : Result RateInput RateFault) (score : Score) (old new : Option (List ℕ)) : Type 0 where
   pub printed : List ℕ
-  pub is_text : IsRatedText differing meaning printed tally
+  pub is_text : IsRatedText differing meaning printed score
   pub whole : Appends old new printed
 
 -- a front of it was printed: of the text of the first rows
@@ -39,8 +39,8 @@ StopsBy differing meaning old new (fault.Input input.OutOfMemory) = Keeps old ne
 StopsBy differing meaning old new why = (meaning ≡ Err why) × Keeps old new
 
 -- how rating ends where this is to be rated, and only the rows are printed that aren't right or all
-abbrev pub EndsRating : Bool → Result RateInput RateFault → Option (List ℕ) → Option (List ℕ) → Result Tally RateFault → Type 0
-EndsRating differing meaning old new (Ok tally) = IsRatedWhole differing meaning tally old new
+abbrev pub EndsRating : Bool → Result RateInput RateFault → Option (List ℕ) → Option (List ℕ) → Result Score RateFault → Type 0
+EndsRating differing meaning old new (Ok score) = IsRatedWhole differing meaning score old new
 EndsRating differing meaning old new (Err why) = StopsBy differing meaning old new why
 
 -- at any input: a fault of the input, which has status 1, comes before anything is written
@@ -64,11 +64,11 @@ MayStop (fault.Input input.OutOfMemory) = ⊤
 MayStop why = ⊥
 
 -- a row was rated: its line is behind the text, and it is counted
-pub record AddsRatedRow (bands : List Band) (width : ℕ) (columns : Columns) (differing : Bool) (fields : Fields) (old_text new_text : List ℕ) (old_tally new_tally : Tally) : Type 0 where
+pub record AddsRatedRow (bands : List Band) (width : ℕ) (columns : Columns) (differing : Bool) (fields : Fields) (old_text new_text : List ℕ) (old_score new_score : Score) : Type 0 where
   pub rating : Rating
   pub is_rated : IsRated bands width columns fields rating
   pub text : new_text ≡ old_text ++ rated_line differing fields rating
-  pub tally : new_tally ≡ counted old_tally rating
+  pub score : new_score ≡ counted old_score rating
 
 -- a front of a text was written, and this is the rest
 pub record SendsFront (old new : Option (List ℕ)) (text rest : List ℕ) : Type 0 where

@@ -10,5 +10,5 @@ pub mod Laws
 pub mod Lines
 pub mod Rated
 pub mod SaidOf
-pub mod Tallies
+pub mod Scores
 pub mod Texts

@@ -5,7 +5,7 @@ use Rattle.csv.specs.Writing.{default_writer, field_text, row_text}
 use Rattle.table_core.specs.Rows.{Fields}
 use Rattle.rating.specs.Rated.{Rating, Faulty, Priced, is_right}
 use Rattle.rating.specs.declared.call.TheConstants.{MAX_SHOWN}
-use Rattle.rating.specs.declared.charge.Charge.{Charge}
+use Rattle.rating.specs.declared.charge.PricedTimes.{PricedTimes}
 use Rattle.rating.specs.declared.kind.RateKind.{RateKind}
 use Rattle.rating.specs.declared.kind.RateKind.TheVariants as kind
 
@@ -37,7 +37,7 @@ abbrev pub cell : List ℕ → List ℕ
 cell field = field_text default_writer field
 
 -- times and their price as they are printed, a comma before each and one behind all
-abbrev pub charge_text : Charge → List ℕ
+abbrev pub charge_text : PricedTimes → List ℕ
 charge_text charge = codes "," ++ (cell (decimal charge.before) ++ (codes "," ++ (cell (decimal charge.after) ++ (codes "," ++ (cell (decimal charge.price) ++ codes ",")))))
 
 -- the six columns as they are printed behind a comma, with the end of the line

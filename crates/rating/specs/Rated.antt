@@ -11,27 +11,27 @@ use Rattle.rating.specs.Charges.{before_switch}
 use Rattle.rating.specs.declared.call.Answered.{Answered}
 use Rattle.rating.specs.declared.call.Talk.{Talk}
 use Rattle.rating.specs.declared.call.Talk.TheVariants as talk
-use Rattle.rating.specs.declared.charge.Charge.{Charge}
+use Rattle.rating.specs.declared.charge.PricedTimes.{PricedTimes}
 use Rattle.rating.specs.declared.columns.Columns.{Columns}
 use Rattle.rating.specs.declared.kind.RateKind.{RateKind}
 use Rattle.rating.specs.declared.kind.RateKind.TheVariants as kind
 
 -- the prefix that counts, the times and their price, and what was charged; or a fault
 pub data Rating : Type 0 where
-  Priced : (prefix : List ℕ) → (charge : Charge) → (paid : Option ℕ) → Rating
+  Priced : (prefix : List ℕ) → (charge : PricedTimes) → (paid : Option ℕ) → Rating
   Faulty : (kind : RateKind) → Rating
 
 -- times and what they cost
-abbrev pub charged : Route → ℕ → ℕ → Charge
+abbrev pub charged : Route → ℕ → ℕ → PricedTimes
 charged route before after = record { before = before; after = after; price = price_of (rates_of route.plan) before after }
 
 -- what a call costs that was answered at a moment: its time is split at the switch of its route, and recorded times are as they are
-abbrev pub charge_by : Route → ℕ → Talk → Charge
+abbrev pub charge_by : Route → ℕ → Talk → PricedTimes
 charge_by route at (talk.Lasts time) = charged route (before_switch at time route.switch_at) (time - before_switch at time route.switch_at)
 charge_by route at (talk.Splits before after) = charged route before after
 
 -- no time, at no price
-abbrev pub no_charge : Charge
+abbrev pub no_charge : PricedTimes
 no_charge = record { before = 0; after = 0; price = 0 }
 
 -- the number has a route at the answer, and the call costs what its plan says

@@ -5,14 +5,14 @@ use Rattle.rating.specs.Calls.{CallSaid}
 use Rattle.rating.specs.Rated.{Rating, Faulty, Priced}
 use Rattle.rating.specs.declared.ask.Names.{Names}
 use Rattle.rating.specs.declared.ask.RateAsk.{RateAsk}
-use Rattle.rating.specs.declared.ask.Times.{Times}
-use Rattle.rating.specs.declared.ask.Times.TheVariants as times
+use Rattle.rating.specs.declared.ask.TimeNames.{TimeNames}
+use Rattle.rating.specs.declared.ask.TimeNames.TheVariants as times
 use Rattle.rating.specs.declared.call.Call.{Call}
 use Rattle.rating.specs.declared.rated.Rated.{Rated}
 use Rattle.rating.specs.declared.rated.Rated.TheVariants as rated
 
 -- the columns of times that are asked for
-abbrev pub times_of : Times → TimesWish
+abbrev pub times_of : TimeNames → TimesWish
 times_of times.UsualNames = ByUsualNames
 times_of (times.Time name) = ByTime name.now
 times_of (times.End name) = ByEnd name.now

@@ -2,7 +2,7 @@
 
 /// By which columns the times of a call are found.
 #[derive(Clone, Copy)]
-pub enum Times<'a> {
+pub enum TimeNames<'a> {
     /// `before` and `after` where the header has both, else `time` where it has that, else `end`.
     UsualNames,
     /// A column of how long the call lasted.
@@ -21,7 +21,7 @@ pub struct Names<'a> {
     /// When the call was answered.
     pub answer: &'a str,
     /// Its times.
-    pub times: Times<'a>,
+    pub times: TimeNames<'a>,
     /// What was charged: `paid` where there is such a column, if no name is asked for.
     pub paid: Option<&'a str>,
 }

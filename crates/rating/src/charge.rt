@@ -10,7 +10,7 @@ use tariff_core::{DAY, Route, price};
 
 /// The times of a call before the tariff switch and after it, in units of 100 ms, and their price.
 #[derive(Clone, Copy, Debug, PartialEq, Eq)]
-pub struct Charge {
+pub struct PricedTimes {
     /// Before the switch.
     pub before: u32,
     /// After it.
@@ -19,20 +19,20 @@ pub struct Charge {
     pub price: u64,
 }
 
-impl Charge {
+impl PricedTimes {
     /// No time, at no price.
-    pub(crate) const NONE: Charge = Charge {
+    pub(crate) const NONE: PricedTimes = PricedTimes {
         before: 0,
         after: 0,
         price: 0,
     };
 
     /// Times at their price.
-    pub(crate) fn of_times(route: &Route, before: u32, after: u32) -> Charge
+    pub(crate) fn of_times(route: &Route, before: u32, after: u32) -> PricedTimes
         requires { before + after ≤ DAY }
         ensures { result ≡ charged route.now before after }
     {
-        Charge {
+        PricedTimes {
             before,
             after,
             price: price(&route.plan, before, after),
@@ -42,7 +42,7 @@ impl Charge {
 
 /// What a call costs that is answered at a moment and lasts so long, its time split at the switch
 /// of its route.
-pub fn charge_call(route: &Route, at: u64, talk: u32) -> Charge
+pub fn charge_call(route: &Route, at: u64, talk: u32) -> PricedTimes
     requires time { talk ≤ DAY }
     requires switch { IfSome route.now.switch_at (λ switch. at < switch) }
     ensures exact { result ≡ charge_by route.now at (talks.Lasts talk) }
@@ -50,7 +50,7 @@ pub fn charge_call(route: &Route, at: u64, talk: u32) -> Charge
         ≡ price_of_call (rates_of route.now.plan) at route.now.switch_at talk }
 {
     let before = before_switch(at, talk, route.switch_at);
-    Charge::of_times(route, before, talk - before)
+    PricedTimes::of_times(route, before, talk - before)
 }
 
 /// How much of a call lies before the switch.

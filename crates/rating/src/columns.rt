@@ -6,7 +6,7 @@ ghost use Rattle.rating.specs.Columns.{HasAllColumns, HasTimes, found_columns, n
 ghost use Rattle.rating.specs.Asks.{ByUsualNames};
 ghost use Rattle.rating.specs.SaidOf.{wished_names, times_of};
 
-use crate::ask::{Names, Times};
+use crate::ask::{Names, TimeNames};
 use csv::ByteRecord;
 use table_core::is_word;
 
@@ -52,15 +52,15 @@ impl Columns {
 }
 
 /// The columns of the times.
-fn times(header: &ByteRecord, names: Times<'_>) -> Option<TimeColumns>
+fn times(header: &ByteRecord, names: TimeNames<'_>) -> Option<TimeColumns>
     ensures value { result ≡ times_in (fields_of header.now) (times_of names.entry) }
     ensures within { IfSome result (HasTimes (length (fields_of header.now))) }
 {
     match names {
-        Times::UsualNames => usual_times(header),
-        Times::Time(name) => Some(TimeColumns::Time(needed(header, name)?)),
-        Times::End(name) => Some(TimeColumns::End(needed(header, name)?)),
-        Times::Split(before, after) => {
+        TimeNames::UsualNames => usual_times(header),
+        TimeNames::Time(name) => Some(TimeColumns::Time(needed(header, name)?)),
+        TimeNames::End(name) => Some(TimeColumns::End(needed(header, name)?)),
+        TimeNames::Split(before, after) => {
             let before = needed(header, before)?;
             let after = needed(header, after)?;
             Some(TimeColumns::Split(before, after))

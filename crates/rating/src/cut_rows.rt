@@ -2,7 +2,7 @@
 
 ghost use Rattle.std.specs.Prelude.{◌≡◌, option_map};
 
-use crate::place::Place;
+use crate::cursor::Cursor;
 use std::io::{Error, ErrorKind, Read, Result};
 
 /// A reader of a table that passes on no more than the first `MAX_SHOWN` bytes of a row, and then
@@ -10,39 +10,39 @@ use std::io::{Error, ErrorKind, Read, Result};
 /// little memory, and the row behind it is whole.
 pub(crate) struct CutRows<R> {
     reader: R,
-    place: Place,
+    cursor: Cursor,
 }
 
 impl<R: Drop> Drop for CutRows<R> {
     fn drop(self) {
         let CutRows {
             reader: _reader,
-            place: _place,
+            cursor: _cursor,
         } = self;
     }
 }
 
 impl<R: Read> CutRows<R> {
-    ghost use Rattle.rating.specs.Cuts.{cut_place, reader_of};
-    ghost use Rattle.rating.specs.declared.place.Place.TheVariants as place;
+    ghost use Rattle.rating.specs.Cuts.{cut_cursor, reader_of};
+    ghost use Rattle.rating.specs.declared.cursor.Cursor.TheVariants as cursor;
 
     /// The table of a reader, from its start.
     pub(crate) fn new(reader: R) -> CutRows<R>
         ensures reader { reader_of result ≡ reader }
-        ensures place { cut_place result ≡ place.Start }
+        ensures cursor { cut_cursor result ≡ cursor.Start }
     {
         CutRows {
             reader,
-            place: Place::Start,
+            cursor: Cursor::Start,
         }
     }
 }
 
 impl<R: Read> Read for CutRows<R> {
     ghost use Rattle.std.specs.Prelude.{option_map};
-    ghost use Rattle.rating.specs.Cuts.{passed_text, cut_place, reader_of};
+    ghost use Rattle.rating.specs.Cuts.{passed_text, cut_cursor, reader_of};
 
-    ghost remaining = { λ rows. option_map (passed_text (cut_place rows)) (R.remaining
+    ghost remaining = { λ rows. option_map (passed_text (cut_cursor rows)) (R.remaining
         (reader_of rows)) };
 
     fn read(&mut self, buf: &mut [u8]) -> Result<usize> {
@@ -51,7 +51,7 @@ impl<R: Read> Read for CutRows<R> {
             if count == 0 {
                 return Ok(0);
             }
-            let kept = self.place.pass(&mut buf[..count]);
+            let kept = self.cursor.pass(&mut buf[..count]);
             if kept > 0 {
                 return Ok(kept);
             }

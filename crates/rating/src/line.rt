@@ -10,7 +10,7 @@ ghost use Rattle.rating.specs.Calls.{with_commas};
 ghost use Rattle.rating.specs.Lines.{cell, charge_text, columns_text, difference, header_line};
 ghost use Rattle.rating.specs.SaidOf.{rating_of};
 
-use crate::Charge;
+use crate::PricedTimes;
 use crate::rated::Rated;
 use csv::ByteRecord;
 use itoa::Buffer;
@@ -108,7 +108,7 @@ pub(crate) fn push_rated(text: &mut Vec<u8>, rated: &Rated<'_>) -> Result<(), Al
 }
 
 /// Adds the times and the price, a comma before each and one behind all.
-fn push_charge(text: &mut Vec<u8>, charge: &Charge) -> Result<(), AllocError>
+fn push_charge(text: &mut Vec<u8>, charge: &PricedTimes) -> Result<(), AllocError>
     ensures { OnOk result (text.new.items
         ≡ text.old.items ++ charge_text charge.now) }
 {

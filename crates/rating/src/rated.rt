@@ -12,7 +12,7 @@ ghost use Rattle.rating.specs.SaidOf.{rating_of};
 use crate::call::{Answered, Call, MAX_ROW, Talk};
 use crate::charge::charge_call;
 use crate::columns::Columns;
-use crate::{Charge, RateKind};
+use crate::{PricedTimes, RateKind};
 use csv::ByteRecord;
 use tariff_core::{DAY, HORIZON, Route, Tariff};
 
@@ -20,7 +20,7 @@ use tariff_core::{DAY, HORIZON, Route, Tariff};
 #[derive(Clone, Copy)]
 pub(crate) enum Rated<'a> {
     /// The prefix that counts, the times and their price, and what was charged.
-    Priced(&'a [u8], Charge, Option<u64>),
+    Priced(&'a [u8], PricedTimes, Option<u64>),
     /// A fault.
     Faulty(RateKind),
 }
@@ -83,7 +83,7 @@ fn rate_call<'a>(tariff: &Tariff, call: &Call<'a>) -> Rated<'a>
         (rating_of result) }
 {
     let Some(answered) = call.answered else {
-        return Rated::Priced(b"", Charge::NONE, call.paid);
+        return Rated::Priced(b"", PricedTimes::NONE, call.paid);
     };
     match tariff.quote(call.called, answered.at) {
         Some(quote) => {
@@ -95,13 +95,13 @@ fn rate_call<'a>(tariff: &Tariff, call: &Call<'a>) -> Rated<'a>
 }
 
 /// What a call costs by its route.
-fn charge_answered(route: &Route, answered: Answered) -> Charge
+fn charge_answered(route: &Route, answered: Answered) -> PricedTimes
     requires time { IsWithinDay answered.talk }
     requires switch { IfSome route.now.switch_at (λ switch. answered.at < switch) }
     ensures { result ≡ charge_by route.now answered.at answered.talk }
 {
     match answered.talk {
         Talk::Lasts(time) => charge_call(route, answered.at, time),
-        Talk::Splits(before, after) => Charge::of_times(route, before, after),
+        Talk::Splits(before, after) => PricedTimes::of_times(route, before, after),
     }
 }

@@ -9,7 +9,7 @@ ghost use Rattle.rating.specs.Ends.{AddsRatedRow, EndsRating, IsRatingCutOff, Is
 ghost use Rattle.rating.specs.Lines.{header_line, shown};
 ghost use Rattle.rating.specs.Rated.{is_right};
 ghost use Rattle.rating.specs.SaidOf.{wished_names, rating_of};
-ghost use Rattle.rating.specs.Tallies.{IsBoundedTally};
+ghost use Rattle.rating.specs.Scores.{IsBoundedScore};
 ghost use Rattle.rating.specs.Texts.{headed, rate_input_of};
 
 use crate::call::MAX_SHOWN;
@@ -17,9 +17,9 @@ use crate::columns::Columns;
 use crate::cut_rows::CutRows;
 use crate::line::{push_fields, push_names, push_rated};
 use crate::rated::{Rated, rate_row};
-use crate::{RateAsk, RateFault, Tally, write_text};
+use crate::{RateAsk, RateFault, Score, write_text};
 use csv::ByteRecord;
-use run_texts::{InputFault, read_part, read_tariff};
+use run_texts::{InputFault, read_section, read_tariff};
 use std::alloc::{AllocError, Global};
 use std::io::{BufReader, Read, Write};
 use table_core::Rows;
@@ -41,18 +41,18 @@ pub fn rate<I: Read + Drop, O: Write>(
     ask: &RateAsk<'_>,
     input: I,
     output: &mut O,
-) -> Result<Tally, RateFault>
+) -> Result<Score, RateFault>
     ensures ends { IfSome (I.remaining input) (λ text.
         EndsRating ask.now.differing (rate_input_of (wished_names ask.now.names) text)
         (O.contents output.old) (O.contents output.new) result) }
     ensures silent { IfErr result
         (IsRatingSilent (O.contents output.old) (O.contents output.new)) }
-    ensures bounded { IfOk result IsBoundedTally }
+    ensures bounded { IfOk result IsBoundedScore }
 {
     let Ok(mut input) = BufReader::new(alloc, input) else {
         return Err(RateFault::Input(InputFault::OutOfMemory));
     };
-    let text = read_part(alloc, &mut input)?;
+    let text = read_section(alloc, &mut input)?;
     let tariff = read_tariff(alloc, text.as_slice())?;
     rate_records(alloc, &tariff, ask, input, output)
 }
@@ -64,13 +64,13 @@ fn rate_records<I: Read + Drop, O: Write>(
     ask: &RateAsk<'_>,
     records: I,
     output: &mut O,
-) -> Result<Tally, RateFault>
+) -> Result<Score, RateFault>
     ensures ends { IfSome (I.remaining records) (λ text.
         EndsRating ask.now.differing (headed (wished_names ask.now.names) tariff.now (rows_of text))
         (O.contents output.old) (O.contents output.new) result) }
     ensures silent { IfErr result
         (IsRatingSilent (O.contents output.old) (O.contents output.new)) }
-    ensures bounded { IfOk result IsBoundedTally }
+    ensures bounded { IfOk result IsBoundedScore }
 {
     let mut rows = Rows::new(alloc, CutRows::new(records));
     if !rows.next_row()? {
@@ -109,22 +109,22 @@ impl Rater<'_> {
         &self,
         row: &ByteRecord,
         text: &mut Vec<u8>,
-        tally: &mut Tally,
+        score: &mut Score,
     ) -> Result<(), AllocError>
         requires columns { HasAllColumns self.now.width self.now.columns }
-        requires bounded { IsBoundedTally tally.old }
-        requires room { tally.old.rows < 2 ^ 64 - 1 }
+        requires bounded { IsBoundedScore score.old }
+        requires room { score.old.rows < 2 ^ 64 - 1 }
         ensures adds { OnOk result ((whole : Fields) → fields_of row.now ≡ shown whole
             → AddsRatedRow self.now.tariff.now self.now.width self.now.columns self.now.differing
-            whole text.old.items text.new.items tally.old tally.new) }
-        ensures one { OnOk result (tally.new.rows ≡ tally.old.rows + 1) }
-        ensures bounded { IsBoundedTally tally.new }
+            whole text.old.items text.new.items score.old score.new) }
+        ensures one { OnOk result (score.new.rows ≡ score.old.rows + 1) }
+        ensures bounded { IsBoundedScore score.new }
     {
         let start = text.len();
         push_fields(text, row)?;
         let size = text.len() - start;
         let rated = rate_row(self.tariff, &self.columns, self.width, row, size);
-        tally.count(&rated);
+        score.count(&rated);
         if self.hides(&rated) {
             text.truncate(start);
             return Ok(());
@@ -147,7 +147,7 @@ fn rate_rows<I: Read + Drop, O: Write>(
     rows: Rows<I>,
     text: Vec<u8>,
     output: &mut O,
-) -> Result<Tally, RateFault>
+) -> Result<Score, RateFault>
     requires { HasAllColumns rater.now.width rater.now.columns }
     ensures ends { (header : Fields) → (left : List Fields)
         → HasRowsLeft I.remaining rows (map shown left) → text.items ≡ header_line header
@@ -160,10 +160,10 @@ fn rate_rows<I: Read + Drop, O: Write>(
         }))
         (O.contents output.old) (O.contents output.new) result }
     ensures stopped { IfErr result MayStop }
-    ensures bounded { IfOk result IsBoundedTally }
+    ensures bounded { IfOk result IsBoundedScore }
 {
     let (mut rows, mut text) = (rows, text);
-    let mut tally = Tally::new();
+    let mut score = Score::new();
     for _turn in 0..u64::MAX {
         let found = match rows.next_row() {
             Ok(found) => found,
@@ -174,9 +174,9 @@ fn rate_rows<I: Read + Drop, O: Write>(
         };
         if !found {
             write_rest(output, text.as_slice())?;
-            return Ok(tally);
+            return Ok(score);
         }
-        rater.add_row(rows.row(), &mut text, &mut tally)?;
+        rater.add_row(rows.row(), &mut text, &mut score)?;
         send(output, &mut text)?;
     }
     Err(RateFault::Input(InputFault::OutOfMemory))

@@ -1,6 +1,6 @@
 //! `refused_growths CALL` makes a public call that takes memory, and says by its status how that
 //! went: 0 as with memory; 2 where it said that memory ran out, and what it left was right; 3 where
-//! it was told once more when the call was made again; 1 where something was wrong. Without a word
+//! it was said once more when the call was made again; 1 where something was wrong. Without a word
 //! it makes all of them, and prints the names of those that went as with memory.
 //!
 //! It is run with growths of memory refused.

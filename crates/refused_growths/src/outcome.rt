@@ -19,7 +19,7 @@ pub(crate) enum Outcome {
     Answered = 0,
     /// An answer, or what a call has left, was another than it has to be.
     Wrong = 1,
-    /// Want of memory was told and nothing was changed; where it was made again, it answered as
+    /// Want of memory was reported and nothing was changed; where it was made again, it answered as
     /// with memory.
     Refused = 2,
     /// The same, but when it was made again it found no memory once more.

@@ -84,9 +84,9 @@ impl Driver for Hearing {
 
     ghost ended = { λ hearing. hearing.player.ended };
 
-    ghost Plan = { Unit {0} };
+    ghost Agenda = { Unit {0} };
 
-    ghost plan = { λ _. tt };
+    ghost agenda = { λ _. tt };
 
     fn given(&self) -> &[(u64, Body)] {
         self.player.given()

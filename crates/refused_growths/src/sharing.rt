@@ -62,7 +62,7 @@ impl<S: Form, R: Wait> Watched for Desk<'_, S, R> {
         }
     }
 
-    /// The other seat is told that a call isn't open, which takes no memory.
+    /// The other seat hears that a call isn't open, which takes no memory.
     fn is_free(&mut self) -> bool {
         let op = Op::Return { call: u64::MAX };
         let answer = self.account.call(self.rt, &mut self.second, op, &OpenGate);

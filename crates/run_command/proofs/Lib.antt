@@ -1,3 +1,4 @@
+pub mod Jobbing
 pub mod Joining
 pub mod ListenLemmas
 pub mod Merging
@@ -11,4 +12,3 @@ pub mod Saying
 pub mod Starts
 pub mod Tabling
 pub mod Timing
-pub mod Turning

@@ -20,7 +20,7 @@ use Rattle.run_options.specs.declared.options.RunAsk.{RunAsk}
 use Rattle.run_options.specs.declared.options.RunOutput.{RunOutput}
 use Rattle.run_options.specs.declared.options.RunOutput.TheVariants as output
 use Rattle.run_parts.specs.Parts.{AreParts, part_count, part_rows, payer_of}
-use Rattle.run_texts.specs.Views.{script_event, with_digits}
+use Rattle.run_texts.specs.Views.{row_data, with_digits}
 use Rattle.run_texts.specs.declared.script.ScriptRow.{ScriptRow}
 use Rattle.run_values.specs.Setups.{Setup}
 use Rattle.runs_core.specs.Teams.{are_workers}
@@ -195,12 +195,12 @@ module _ (ask : RunAsk) (setup : Setup) (firsts : List ℕ) (rows : ℕ → List
 pub in_parts : (asked : ℕ) (ask : RunAsk) (setup : Setup) (rows : List ScriptRow) (firsts : List ℕ) (scripts : List (List ScriptRow)) (parts : List Part) (whole : Part) (text : List ℕ)
     (events : List UnplacedEvent)
     → 1 + length firsts ≡ part_count asked (length setup.accounts)
-    → AreParts firsts (payer_of (with_digits setup.subscribers) (map script_event rows)) rows scripts → ArePlayed ask setup firsts scripts parts
+    → AreParts firsts (payer_of (with_digits setup.subscribers) (map row_data rows)) rows scripts → ArePlayed ask setup firsts scripts parts
     → ((output : RunOutput) (said : List PartSaid) → AreKept output said parts → KeepsPart output (joined_parts said) whole)
     → ((said : PartSaid) → KeepsPart ask.output said whole → IsPartsText ask.output setup.tariff said.books said.calls text) → (ask.output ≡ output.Book → All IsTyped whole.books.items)
     → AreByCall whole.unplaced.items events → IsInParts asked ask setup rows text whole.refusals events
 in_parts asked ask setup rows firsts scripts parts whole text events count divided played joins printed typed merged =
-    let payer = payer_of (with_digits setup.subscribers) (map script_event rows) in
+    let payer = payer_of (with_digits setup.subscribers) (map row_data rows) in
     let own : (part : ℕ) → part < length parts → get_or scripts part [] ≡ part_rows firsts payer rows part =
     λ part within. divided.each part (let all = played.count in let many = divided.count in omega (arith, all, many, within)) in
     let said = all_said ask setup firsts (part_rows firsts payer rows) 0 parts

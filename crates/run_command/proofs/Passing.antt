@@ -20,7 +20,7 @@ use Rattle.run_command.specs.Laws.{InputIsInRange, PassTheirAudits, PlayedBooksP
 use Rattle.run_command.specs.Plays.{IsGivenBy}
 use Rattle.run_options.specs.declared.options.RunAsk.{RunAsk}
 use Rattle.run_parts.specs.Parts.{part_of, part_of_account, part_script, payer_of}
-use Rattle.run_texts.specs.Happenings.{ScriptEvent, is_in_time}
+use Rattle.run_texts.specs.Happenings.{RowData, is_in_time}
 use Rattle.run_texts.specs.Inputs.{RunInput}
 use Rattle.run_values.specs.declared.directory.OpeningCredit.{OpeningCredit}
 use Rattle.run_values.specs.declared.post.Answer.{Answer}
@@ -51,7 +51,7 @@ audits_of pass few accounts books has small same are =
 module _ (reports : ReportsAreInRange) (auditable : RunBooksAreAuditable StoodIn) (have : RunBooksHaveTheirAccounts StoodIn) (ask : RunAsk) (said : RunInput) (may_be : are_workers ask.workers ≡ true)
     (range : InputIsInRange said) where
   -- a script of recharges in time, which is played over the accounts of the input
-  module _ (script : List ScriptEvent) (in_time : All (λ event. is_in_time event.what ≡ true) script) (given : List (ℕ × Body)) (heard : List (List Answer)) (books : List Closed)
+  module _ (script : List RowData) (in_time : All (λ row. is_in_time row.what ≡ true) script) (given : List (ℕ × Body)) (heard : List (List Answer)) (books : List Closed)
       (given_by : IsGivenBy ask script heard given) (are : AreBooksOf ask said given heard books) where
     timely_run : IsTimelyRun StoodIn are.setup ask.workers given (all_heard heard) books
     timely_run = record {
@@ -70,12 +70,12 @@ module _ (reports : ReportsAreInRange) (auditable : RunBooksAreAuditable StoodIn
 
   -- a part of the input
   module _ (firsts : List ℕ) (part : ℕ) (kept : PartSaid) (is : IsPartOf ask said firsts part kept) where
-    abbrev script : List ScriptEvent
+    abbrev script : List RowData
     script = part_script firsts (payer_of said.setup.subscribers said.script) said.script part
 
-    in_time : All (λ event. is_in_time event.what ≡ true) script
+    in_time : All (λ row. is_in_time row.what ≡ true) script
     in_time =
-        All-filter (λ event. part_of firsts (payer_of said.setup.subscribers said.script) event.what == part) (λ event. is_in_time event.what ≡ true) said.script range.recharges
+        All-filter (λ row. part_of firsts (payer_of said.setup.subscribers said.script) row.what == part) (λ row. is_in_time row.what ≡ true) said.script range.recharges
 
     part_accounts : map (λ book. book.account) kept.books ≡ filter (λ a. part_of_account firsts a == part) (keys_of said.setup.accounts)
     part_accounts =

@@ -3,7 +3,7 @@ use Rattle.std.proofs.Common.{◌≡◌, ℕ, true, false, List, [], ◌∷◌, 
 use Rattle.std.proofs.lemmas.List.{append-nil}
 use Rattle.run_command.specs.Plays.{HearsItsRounds, IsAskedFor, IsGivenWithout, IsPlayWithout}
 use Rattle.run_options.specs.declared.options.RunAsk.{RunAsk}
-use Rattle.run_texts.specs.Views.{script_event}
+use Rattle.run_texts.specs.Views.{row_data}
 use Rattle.run_texts.specs.declared.script.ScriptRow.{ScriptRow}
 use Rattle.script_player.specs.Chains.{Chain}
 use Rattle.script_player.specs.Plays.{IsPlayed, Play}
@@ -58,17 +58,17 @@ play_of config delay taken left rows heard given play none all rounds lives ende
       unplaced = refl;
     })
 
--- the plan of a player is the same after a run as before it: the configuration and the delay that were asked for, and the rows of the script
+-- the agenda of a player is the same after a run as before it: the configuration and the delay that were asked for, and the rows of the script
 pub given_by : (ask : RunAsk) (config other : SsfConfig) (delay : ℕ) (rows taken left : List ScriptRow) (heard : List (List Answer)) (given : List (ℕ × Body)) (without : List ScriptRow)
     → IsAskedFor ask config → other ≡ config → delay ≡ ask.delay → taken ++ left ≡ rows → IsPlayWithout other delay rows heard given without
-    → IsGivenWithout ask (map script_event rows) heard given without
+    → IsGivenWithout ask (map row_data rows) heard given without
 given_by ask config other delay rows taken left heard given without asked_for same after all plays =
     let Asked : SsfConfig → Type 0 = λ c. IsAskedFor ask c in
     let Plays : ℕ → Type 0 = λ d. IsPlayWithout other d rows heard given without in
     let own = subst Plays after plays in
     record { given_by = record { config = other; asked_for = subst Asked (sym same) asked_for; rows = rows; says = refl; play = own.plays }; unplaced = own.unplaced }
 
--- the rounds of a player, by its plan as it is after them
+-- the rounds of a player, by its agenda as it is after them
 pub rounds_of : (config other : SsfConfig) (delay now : ℕ) (rows : List ScriptRow) (old : Play) (heard : List (List Answer)) (new : Play) → old ≡ fresh_play config delay rows → other ≡ config → now ≡ delay
     → Rounds (λ before answers after. before.ended ≡ false → Hears before answers after) [] old heard new → HearsItsRounds other now rows heard new
 rounds_of config other delay now rows old heard new is same_config same_delay rounds =

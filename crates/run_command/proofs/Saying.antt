@@ -19,9 +19,9 @@ use Rattle.run_command.specs.declared.refusals.Refusals.{Refusals}
 use Rattle.run_command.specs.declared.unplaced.UnplacedEvent.{UnplacedEvent}
 use Rattle.run_options.specs.declared.options.RunAsk.{RunAsk}
 use Rattle.run_parts.specs.Parts.{part_count, part_rows, part_script, payer_of}
-use Rattle.run_texts.specs.Happenings.{ScriptEvent}
+use Rattle.run_texts.specs.Happenings.{RowData}
 use Rattle.run_texts.specs.Inputs.{RunInput}
-use Rattle.run_texts.specs.Views.{script_event, with_digits}
+use Rattle.run_texts.specs.Views.{row_data, with_digits}
 use Rattle.run_texts.specs.declared.script.ScriptRow.{ScriptRow}
 use Rattle.run_values.specs.Setups.{Setup}
 use Rattle.run_values.specs.declared.post.Answer.{Answer}
@@ -29,10 +29,10 @@ use Rattle.run_values.specs.declared.post.Body.{Body}
 use Rattle.tariff_core.specs.Bands.{Band}
 
 -- a script that says the same is given alike, and the same rows have no place in it
-said_alike : (ask : RunAsk) (script other : List ScriptEvent) (heard : List (List Answer)) (given : List (ℕ × Body)) → script ≡ other → (given_by : IsGivenBy ask script heard given)
+said_alike : (ask : RunAsk) (script other : List RowData) (heard : List (List Answer)) (given : List (ℕ × Body)) → script ≡ other → (given_by : IsGivenBy ask script heard given)
     → IsGivenWithout ask other heard given given_by.play.play.unplaced
 said_alike ask script other heard given same given_by =
-    let P : List ScriptEvent → Type 0 = λ s. IsGivenWithout ask s heard given given_by.play.play.unplaced in
+    let P : List RowData → Type 0 = λ s. IsGivenWithout ask s heard given given_by.play.play.unplaced in
     subst P same (record { given_by = given_by; unplaced = refl })
 
 pub events_moved : (without now : List ScriptRow) (events : List UnplacedEvent) → now ≡ without → AreByCall (events_in_rows without) events → AreByCall (events_in_rows now) events
@@ -42,7 +42,7 @@ pub whole_said : PlayedBooksPass → PlayedCallsHavePaid → (ask : RunAsk) (inp
     → IsWhole ask setup rows ran → IsRunOf ask input ran
 whole_said pass paid ask input setup rows ran start is =
     let said = start.said in
-    let moved = said_alike ask (map script_event rows) said.script is.heard is.given start.says is.given_by in
+    let moved = said_alike ask (map row_data rows) said.script is.heard is.given start.says is.given_by in
     let given_by : IsGivenBy ask said.script is.heard is.given = moved.given_by in
     let are : AreBooksOf ask said is.given is.heard is.books = record { setup = setup; of_input = start.of_input; run = is.run } in
     record {
@@ -66,7 +66,7 @@ pub tables_are_said : PlayedBooksPass → PlayedCallsHavePaid → (ask : RunAsk)
     → AreWhole ask setup rows tables → AreTablesOf ask input tables
 tables_are_said pass paid ask input setup rows tables start is =
     let said = start.said in
-    let moved = said_alike ask (map script_event rows) said.script is.heard is.given start.says is.given_by in
+    let moved = said_alike ask (map row_data rows) said.script is.heard is.given start.says is.given_by in
     let given_by : IsGivenBy ask said.script is.heard is.given = moved.given_by in
     let are : AreBooksOf ask said is.given is.heard is.books = record { setup = setup; of_input = start.of_input; run = is.run } in
     record {
@@ -86,19 +86,19 @@ tables_are_said pass paid ask input setup rows tables start is =
     }
 
 module _ (paid : PlayedCallsHavePaid) (ask : RunAsk) (said : RunInput) (setup : Setup) (rows : List ScriptRow) (of_input : IsSetupOf ask said setup) (accounts : HasAccounts said.setup.accounts)
-    (says : map script_event rows ≡ said.script) (firsts : List ℕ) where
-  its_script : (part : ℕ) → map script_event (part_rows firsts (payer_of (with_digits setup.subscribers) (map script_event rows)) rows part)
+    (says : map row_data rows ≡ said.script) (firsts : List ℕ) where
+  its_script : (part : ℕ) → map row_data (part_rows firsts (payer_of (with_digits setup.subscribers) (map row_data rows)) rows part)
       ≡ part_script firsts (payer_of said.setup.subscribers said.script) said.script part
   its_script part =
-      part_said_alike firsts (payer_of (with_digits setup.subscribers) (map script_event rows)) rows part
+      part_said_alike firsts (payer_of (with_digits setup.subscribers) (map row_data rows)) rows part
       ∙ ap (λ s. part_script firsts (payer_of (with_digits setup.subscribers) s) s part) says
       ∙ ap (λ b. part_script firsts (payer_of b said.script) said.script part) of_input.subscribers
 
-  part_of_input : (part : ℕ) (kept : PartSaid) → IsPlayedPart ask setup firsts part (part_rows firsts (payer_of (with_digits setup.subscribers) (map script_event rows)) rows part) kept
+  part_of_input : (part : ℕ) (kept : PartSaid) → IsPlayedPart ask setup firsts part (part_rows firsts (payer_of (with_digits setup.subscribers) (map row_data rows)) rows part) kept
       → IsPartOf ask said firsts part kept
   part_of_input part kept is =
-      let script : List ScriptEvent = part_script firsts (payer_of said.setup.subscribers said.script) said.script part in
-      let moved = said_alike ask (map script_event (part_rows firsts (payer_of (with_digits setup.subscribers) (map script_event rows)) rows part)) script is.heard is.given (its_script part) is.given_by in
+      let script : List RowData = part_script firsts (payer_of said.setup.subscribers said.script) said.script part in
+      let moved = said_alike ask (map row_data (part_rows firsts (payer_of (with_digits setup.subscribers) (map row_data rows)) rows part)) script is.heard is.given (its_script part) is.given_by in
       let given_by : IsGivenBy ask script is.heard is.given = moved.given_by in
       let own : RunInput = record said { script = script } in
       let own_are : AreBooksOf ask own is.given is.heard is.books = record {

@@ -92,11 +92,11 @@ later_start call start items later = λ k d within.
     later_body call start (slice_index_or items k d).0 (slice_index_or items k d).1 (all_passing (λ (item : ℕ × Body). is_of_call call item.1) IsLaterItem items later k d within)
 
 -- the start of a call, where a message of its own, or of another call, goes before these items
-abbrev said_so : Bool → ℕ → SsfMsg → List (ℕ × Body) → ℕ → Option (ℕ × Number × Number)
-said_so same at msg items call = option_map (λ start. (start.at, start.calling, start.called)) (option_or (if same then start_by at msg else None) (first_said call start_by items))
+abbrev start_after : Bool → ℕ → SsfMsg → List (ℕ × Body) → ℕ → Option (ℕ × Number × Number)
+start_after same at msg items call = option_map (λ start. (start.at, start.calling, start.called)) (option_or (if same then start_by at msg else None) (first_said call start_by items))
 
 own_starts : (call at other : ℕ) (msg : SsfMsg) (items : List (ℕ × Body)) → All IsLaterItem (items_of call items)
-    → All (StartsItem call (said_so true at msg items call)) ((at, body.Ssf other msg) ∷ items)
+    → All (StartsItem call (start_after true at msg items call)) ((at, body.Ssf other msg) ∷ items)
 own_starts call at other (message.InitialDp third calling called) items later =
     let start : Option (ℕ × Number × Number) = Some (at, calling, called) in
     All-cons (StartsItem call start) (at, body.Ssf other (message.InitialDp third calling called)) items (λ _. refl) (later_start call start items later)
@@ -119,7 +119,7 @@ other_starts call other at message.Ended start not = tt
 starts_by : (same : Bool) (call at other : ℕ) (msg : SsfMsg) (items : List (ℕ × Body)) → (other == call) ≡ same
     → (All IsLaterItem (drop 1 (items_of call items)) → All (StartsItem call (begins_with call items)) items)
     → All IsLaterItem (drop 1 (if same then (at, body.Ssf other msg) ∷ items_of call items else items_of call items))
-    → All (StartsItem call (said_so same at msg items call)) ((at, body.Ssf other msg) ∷ items)
+    → All (StartsItem call (start_after same at msg items call)) ((at, body.Ssf other msg) ∷ items)
 starts_by true call at other msg items is rest later = own_starts call at other msg items later
 starts_by false call at other msg items is rest later =
     let start = begins_with call items in

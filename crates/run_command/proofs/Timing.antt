@@ -8,8 +8,8 @@ use Rattle.entry_rows.specs.Fits.{FitsReport, IsMoment}
 use Rattle.runs_core.proofs.Listed.{all_passing, all_unmapped}
 use Rattle.run_laws.specs.Timely.{AreTimely, IsTimely}
 use Rattle.run_command.specs.Plays.{IsPlayOf}
-use Rattle.run_texts.specs.Happenings.{ScriptEvent, is_in_time}
-use Rattle.run_texts.specs.Views.{happens_of, script_event}
+use Rattle.run_texts.specs.Happenings.{RowData, is_in_time}
+use Rattle.run_texts.specs.Views.{happens_of, row_data}
 use Rattle.run_texts.specs.declared.script.Happening.{Happening}
 use Rattle.run_texts.specs.declared.script.Happening.TheVariants as happening
 use Rattle.run_texts.specs.declared.script.ScriptRow.{ScriptRow}
@@ -102,8 +102,8 @@ given_timely reports config delay rows heard given play in_time = λ k d within.
     (all_passing (λ (item : ℕ × Body). is_recharge item.1) IsTimelyItem given recharged k d within)
 
 -- rows that say a script in time are so
-pub rows_in_time : (rows : List ScriptRow) (script : List ScriptEvent) → map script_event rows ≡ script → All (λ event. is_in_time event.what ≡ true) script
+pub rows_in_time : (rows : List ScriptRow) (script : List RowData) → map row_data rows ≡ script → All (λ row. is_in_time row.what ≡ true) script
     → All (λ row. is_in_time (happens_of row.what) ≡ true) rows
 rows_in_time rows script says in_time =
-    let P : ScriptEvent → Type 0 = λ event. is_in_time event.what ≡ true in
-    all_unmapped P script_event rows (All-same P (map script_event rows) script says in_time)
+    let P : RowData → Type 0 = λ row. is_in_time row.what ≡ true in
+    all_unmapped P row_data rows (All-same P (map row_data rows) script says in_time)

@@ -22,7 +22,7 @@ use Rattle.run_options.specs.declared.options.RunOutput.{RunOutput}
 use Rattle.run_options.specs.declared.options.RunOutput.TheVariants as output
 use Rattle.run_parts.specs.Parts.{part_count, part_of_account, part_rows, part_script, payer_of}
 use Rattle.run_texts.specs.Inputs.{RunInput, input_of}
-use Rattle.run_texts.specs.Views.{script_event, with_digits}
+use Rattle.run_texts.specs.Views.{row_data, with_digits}
 use Rattle.run_texts.specs.declared.script.ScriptRow.{ScriptRow}
 use Rattle.run_values.specs.Setups.{Setup}
 use Rattle.run_values.specs.declared.post.Answer.{Answer}
@@ -121,7 +121,7 @@ pub record IsPlayedPart (ask : RunAsk) (setup : Setup) (firsts : List ℕ) (part
   pub workers : are_workers ask.workers ≡ true
   pub given : List (ℕ × Body)
   pub heard : List (List Answer)
-  pub given_by : IsGivenBy ask (map script_event rows) heard given
+  pub given_by : IsGivenBy ask (map row_data rows) heard given
   pub books : List Closed
   pub run : IsRun StoodIn setup ask.workers given (all_heard heard) books
   pub own : kept.books ≡ own_books firsts part books
@@ -166,7 +166,7 @@ pub record IsInParts (asked : ℕ) (ask : RunAsk) (setup : Setup) (rows : List S
   pub parts : List PartSaid
   pub all : length parts ≡ 1 + length firsts
   pub each : (part : ℕ) (d : PartSaid) → part < length parts
-      → IsPlayedPart ask setup firsts part (part_rows firsts (payer_of (with_digits setup.subscribers) (map script_event rows)) rows part) (slice_index_or parts part d)
+      → IsPlayedPart ask setup firsts part (part_rows firsts (payer_of (with_digits setup.subscribers) (map row_data rows)) rows part) (slice_index_or parts part d)
   pub printed : IsPartsText ask.output setup.tariff (flat_map (λ part. part.books) parts) (flat_map (λ part. part.calls) parts) text
   pub typed : ask.output ≡ output.Book → All IsTyped (flat_map (λ part. part.books) parts)
   pub refused : refusals ≡ added_up (map (λ part. part.refusals) parts)

@@ -1,6 +1,7 @@
 pub mod Answers
 pub mod Books
 pub mod InParts
+pub mod Jobs
 pub mod Joined
 pub mod Laws
 pub mod Listening
@@ -12,5 +13,4 @@ pub mod Refused
 pub mod Starts
 pub mod Strangers
 pub mod Tables
-pub mod Turns
 pub mod Unplaced

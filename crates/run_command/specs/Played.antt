@@ -11,7 +11,7 @@ use Rattle.run_command.specs.declared.playing.Played.{Played}
 use Rattle.run_options.specs.Options.{is_trace}
 use Rattle.run_options.specs.declared.options.RunAsk.{RunAsk}
 use Rattle.run_options.specs.declared.options.RunOutput.TheVariants as output
-use Rattle.run_texts.specs.Views.{script_event}
+use Rattle.run_texts.specs.Views.{row_data}
 use Rattle.run_texts.specs.declared.script.ScriptRow.{ScriptRow}
 use Rattle.run_values.specs.Setups.{Setup}
 use Rattle.run_values.specs.declared.post.Answer.{Answer}
@@ -30,7 +30,7 @@ run_of setup played = record { setup = setup; given = played.listener.player.net
 -- what was given is the play of these rows, of which the player says which had no place, and the books are those of a run in this setup; the answers are kept for a trace, and their refusals are counted
 pub record IsPlayedRun (ask : RunAsk) (setup : Setup) (rows : List ScriptRow) (played : Played) : Type 0 where
   pub heard : List (List Answer)
-  pub given_by : IsGivenBy ask (map script_event rows) heard (run_of setup played).given
+  pub given_by : IsGivenBy ask (map row_data rows) heard (run_of setup played).given
   pub unplaced : given_by.play.play.unplaced ≡ played.listener.player.unplaced
   pub run : IsRun StoodIn setup ask.workers (run_of setup played).given (all_heard heard) (run_of setup played).books
   pub kept : is_trace ask.output ≡ true → played.listener.heard.items ≡ all_heard heard
@@ -41,7 +41,7 @@ pub record IsWhole (ask : RunAsk) (setup : Setup) (rows : List ScriptRow) (ran :
   pub workers : are_workers ask.workers ≡ true
   pub given : List (ℕ × Body)
   pub heard : List (List Answer)
-  pub given_by : IsGivenBy ask (map script_event rows) heard given
+  pub given_by : IsGivenBy ask (map row_data rows) heard given
   pub books : List Closed
   pub run : IsRun StoodIn setup ask.workers given (all_heard heard) books
   pub printed : IsTextOf ask.output (record { setup = setup; given = given; books = books }) (all_heard heard) ran.text
@@ -54,7 +54,7 @@ pub record AreWhole (ask : RunAsk) (setup : Setup) (rows : List ScriptRow) (tabl
   pub workers : are_workers ask.workers ≡ true
   pub given : List (ℕ × Body)
   pub heard : List (List Answer)
-  pub given_by : IsGivenBy ask (map script_event rows) heard given
+  pub given_by : IsGivenBy ask (map row_data rows) heard given
   pub books : List Closed
   pub run : IsRun StoodIn setup ask.workers given (all_heard heard) books
   pub printed : AreTextsOf (clock_of ask.output) (record { setup = setup; given = given; books = books }) (all_heard heard) tables

@@ -1,8 +1,8 @@
 -- What the workers of a run are given: what a script says, and what the gsmSSFs of its calls send.
 use Rattle.std.specs.Prelude.{◌≡◌, ℕ, true, List, [], map}
 use Rattle.run_options.specs.declared.options.RunAsk.{RunAsk}
-use Rattle.run_texts.specs.Happenings.{ScriptEvent}
-use Rattle.run_texts.specs.Views.{script_event}
+use Rattle.run_texts.specs.Happenings.{RowData}
+use Rattle.run_texts.specs.Views.{row_data}
 use Rattle.run_texts.specs.declared.script.ScriptRow.{ScriptRow}
 use Rattle.script_player.specs.Plays.{IsPlayed, Play}
 use Rattle.script_player.specs.Posts.{Begins, items_of, opening_item_of, recharges_in, recharge_items_of}
@@ -46,14 +46,14 @@ pub record IsAskedFor (ask : RunAsk) (config : SsfConfig) : Type 0 where
   pub default_handling : config.default_handling ≡ ask.default_handling
 
 -- the play of a script as it was asked for, where these answers are heard
-pub record IsGivenBy (ask : RunAsk) (script : List ScriptEvent) (heard : List (List Answer)) (given : List (ℕ × Body)) : Type 0 where
+pub record IsGivenBy (ask : RunAsk) (script : List RowData) (heard : List (List Answer)) (given : List (ℕ × Body)) : Type 0 where
   pub config : SsfConfig
   pub asked_for : IsAskedFor ask config
   pub rows : List ScriptRow
-  pub says : map script_event rows ≡ script
+  pub says : map row_data rows ≡ script
   pub play : IsPlayOf config ask.delay rows heard given
 
 -- the same, in which these rows had no place
-pub record IsGivenWithout (ask : RunAsk) (script : List ScriptEvent) (heard : List (List Answer)) (given : List (ℕ × Body)) (without : List ScriptRow) : Type 0 where
+pub record IsGivenWithout (ask : RunAsk) (script : List RowData) (heard : List (List Answer)) (given : List (ℕ × Body)) (without : List ScriptRow) : Type 0 where
   pub given_by : IsGivenBy ask script heard given
   pub unplaced : given_by.play.play.unplaced ≡ without

@@ -7,7 +7,7 @@ use Rattle.run_command.specs.declared.error.RunError.TheVariants as error
 use Rattle.run_options.specs.declared.options.RunAsk.{RunAsk}
 use Rattle.run_texts.specs.InputFaults.{RefusesInput}
 use Rattle.run_texts.specs.Inputs.{RunInput, input_of}
-use Rattle.run_texts.specs.Views.{script_event}
+use Rattle.run_texts.specs.Views.{row_data}
 use Rattle.run_texts.specs.declared.script.ScriptRow.{ScriptRow}
 use Rattle.run_values.specs.Setups.{Setup}
 use Rattle.runs_core.specs.declared.run_fault.RunFault.TheVariants as run
@@ -18,7 +18,7 @@ pub record IsStartOf (ask : RunAsk) (input : List ℕ) (setup : Setup) (rows : L
   pub read : input_of input ≡ Ok said
   pub of_input : IsSetupOf ask said setup
   pub range : InputIsInRange said
-  pub says : map script_event rows ≡ said.script
+  pub says : map row_data rows ≡ said.script
 
 -- why a run of this input doesn't begin: the first fault of the input. A failed reader and out of memory may come at any
 abbrev pub MayNotStart : List ℕ → RunError → Type 0

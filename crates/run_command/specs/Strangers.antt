@@ -2,7 +2,7 @@
 use Rattle.std.specs.Prelude.{◌≡◌, ℕ, List, [], ◌∷◌, Ok, if◌then◌else◌, is_some}
 use Rattle.std.specs.List.{flat_map}
 use Rattle.run_parts.specs.Parts.{account_of_digits}
-use Rattle.run_texts.specs.Happenings.{Happens, Meets, Recharges, ScriptEvent, Starts}
+use Rattle.run_texts.specs.Happenings.{Happens, Meets, Recharges, RowData, Starts}
 use Rattle.run_texts.specs.Inputs.{RunInput, input_of}
 
 -- the call that starts so, where no subscriber has its calling number
@@ -12,7 +12,7 @@ stranger_of subscribers (Meets call event) = []
 stranger_of subscribers (Recharges account amount until) = []
 
 -- all of these in a script, in the order in which they start
-abbrev pub strangers_in : List (List ℕ × ℕ) → List ScriptEvent → List ℕ
+abbrev pub strangers_in : List (List ℕ × ℕ) → List RowData → List ℕ
 strangers_in subscribers script = flat_map (λ event. stranger_of subscribers event.what) script
 
 -- these are the calls of an input whose calling number no subscriber has, in the order in which they start

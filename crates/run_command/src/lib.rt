@@ -3,6 +3,7 @@
 #![tactic(auto)]
 
 mod error;
+mod jobs;
 mod laws;
 mod listening;
 mod parts;
@@ -12,7 +13,6 @@ mod running;
 mod setting_up;
 mod strangers;
 mod tables;
-mod turns;
 mod unplaced;
 mod watched;
 mod watching;

@@ -53,9 +53,9 @@ impl Driver for Listener {
 
     ghost ended = { λ listener. listener.player.ended };
 
-    ghost Plan = { SsfConfig × ℕ × List ScriptRow };
+    ghost Agenda = { SsfConfig × ℕ × List ScriptRow };
 
-    ghost plan = { λ listener. (
+    ghost agenda = { λ listener. (
       listener.player.network.config,
       listener.player.delay,
       listener.player.taken ++ listener.player.left,

@@ -10,8 +10,8 @@ ghost use Rattle.run_options.specs.declared.options.RunOutput.{RunOutput};
 ghost use Rattle.run_options.specs.Options.{ask_of};
 ghost use Rattle.run_texts.specs.Views.{rows_are_in_order};
 
+use crate::jobs::play_all;
 use crate::playing::{Played, play};
-use crate::turns::play_all;
 use crate::unplaced::{by_call, events_of};
 use crate::watching::{Watch, Watching};
 use crate::{Ran, Refusals, RunError, UnplacedEvent};

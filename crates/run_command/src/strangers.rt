@@ -3,7 +3,7 @@
 ghost use Rattle.std.specs.Prelude.{◌≡◌, ◌++◌, ◌∷◌, [], IfErr, IfOk, OnOk, if◌then◌else◌, is_some, map};
 ghost use Rattle.run_command.specs.Starts.{MayNotStart};
 ghost use Rattle.run_command.specs.Strangers.{AreStrangersOf, stranger_of, strangers_in};
-ghost use Rattle.run_texts.specs.Views.{happens_of, script_event, with_digits};
+ghost use Rattle.run_texts.specs.Views.{happens_of, row_data, with_digits};
 
 use crate::RunError;
 use crate::setting_up::{Start, set_up};
@@ -33,7 +33,7 @@ fn strangers_in(
     script: &[ScriptRow],
 ) -> Result<Vec<u64>, AllocError>
     ensures { IfOk result (λ calls. calls.items
-        ≡ strangers_in (with_digits setup.now.subscribers) (map script_event script.now)) }
+        ≡ strangers_in (with_digits setup.now.subscribers) (map row_data script.now)) }
 {
     let mut calls = Vec::new(alloc);
     for row in script {

@@ -25,9 +25,9 @@ impl<W: Watch> Driver for Watched<'_, W> {
 
     ghost ended = { λ watched. watched.listener.player.ended };
 
-    ghost Plan = { SsfConfig × ℕ × List ScriptRow };
+    ghost Agenda = { SsfConfig × ℕ × List ScriptRow };
 
-    ghost plan = { λ watched. (
+    ghost agenda = { λ watched. (
       watched.listener.player.network.config,
       watched.listener.player.delay,
       watched.listener.player.taken ++ watched.listener.player.left,

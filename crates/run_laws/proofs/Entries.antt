@@ -3,10 +3,10 @@ use Rattle.std.proofs.Common.{◌≡◌, ◌<◌, ℕ, true, List, length, refl,
 use Rattle.std.specs.Prelude.{◌==◌, ◌&&◌, nat_le, slice_index_or}
 use Rattle.std.proofs.lemmas.Bool.{and_parts, eq-eqb, leb-true}
 use Rattle.account_core.specs.Asked.{Asked, Credits, Reserves, Settles, Returns, is_in_range}
-use Rattle.account_core.specs.Events.{EntryData}
+use Rattle.account_core.specs.Entries.{EntryData}
 use Rattle.account_core.specs.Laws.{EntriesAreInRange, EntryIsInRange}
 use Rattle.book_texts.specs.Typed.{IsTyped, IsTypedAsked}
-use Rattle.entry_rows.specs.Fits.{FitsAsked, FitsEvent}
+use Rattle.entry_rows.specs.Fits.{FitsAsked, FitsEntry}
 use Rattle.runs_core.proofs.Listed.{all_passing}
 use Rattle.run_laws.proofs.Openings.{IsOpenedWithin}
 use Rattle.run_laws.proofs.Posts.{IsTimelyAsked, handled_all, mine_timely}
@@ -33,28 +33,28 @@ asked_fits (Returns call) range typed timely = typed
 
 -- ---- an entry of a history is one of its worker's own
 
-pub own_holds : (P : EntryData → Type 0) (history : List EntryData) (workers : ℕ) → All (λ event. event.seat < workers) history
+pub own_holds : (P : EntryData → Type 0) (history : List EntryData) (workers : ℕ) → All (λ entry. entry.seat < workers) history
     → ((worker : ℕ) → worker < workers → All P (own worker history)) → All P history
 own_holds P history workers owned each = λ k d within.
-    let event : EntryData = slice_index_or history k d in
-    all_passing (λ (other : EntryData). other.seat == event.seat) P history (each event.seat (owned k d within)) k d within (eq-eqb event.seat event.seat refl)
+    let entry : EntryData = slice_index_or history k d in
+    all_passing (λ (other : EntryData). other.seat == entry.seat) P history (each entry.seat (owned k d within)) k d within (eq-eqb entry.seat entry.seat refl)
 
 -- ---- the entries of a book
 
 module _ (Stood : Closed → ℕ → Knowing) (serves : RunEntriesAreServed Stood) (reserves : ReservesAreInTheBooks Stood) (ranges : EntriesAreInRange) (setup : Setup) (workers : ℕ) (given : List (ℕ × Body)) (answers : List Answer)
     (books : List Closed) (run : IsRun Stood setup workers given answers books) (timely : AreTimely given) where
   history_timely : (place : ℕ) (d : Closed) → place < length books → IsBookAt setup books (slice_index_or books place d).account place (slice_index_or books place d)
-      → All (λ event. IsTimelyAsked event.asked) (slice_index_or books place d).history
+      → All (λ entry. IsTimelyAsked entry.asked) (slice_index_or books place d).history
   history_timely place d within is =
       let book : Closed = slice_index_or books place d in
-      own_holds (λ (event : EntryData). IsTimelyAsked event.asked) book.history workers (run.owned place d within) (λ seat here.
+      own_holds (λ (entry : EntryData). IsTimelyAsked entry.asked) book.history workers (run.owned place d within) (λ seat here.
       let its = run.answered seat here in
       mine_timely setup place book.account its.posts (own seat book.history) (serves setup workers given answers books seat book.account place book its is)
       (handled_all (λ at body. IsTimely body) workers given seat its.posts its.share timely)
       (reserves setup workers given answers books seat book.account place book its is))
 
   pub history_fits : (place : ℕ) (d : Closed) → place < length books → IsBookAt setup books (slice_index_or books place d).account place (slice_index_or books place d)
-      → IsOpenedWithin workers (slice_index_or books place d) → IsTyped (slice_index_or books place d) → All FitsEvent (slice_index_or books place d).history
+      → IsOpenedWithin workers (slice_index_or books place d) → IsTyped (slice_index_or books place d) → All FitsEntry (slice_index_or books place d).history
   history_fits place d within is opened typed =
       let book : Closed = slice_index_or books place d in
       let in_range : All EntryIsInRange book.history = ranges book.opening book.until book.history opened.opening (run.legal place d within) in

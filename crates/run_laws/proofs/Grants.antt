@@ -5,7 +5,7 @@ use Rattle.std.proofs.lemmas.Bool.{eqb-true}
 use Rattle.std.proofs.lemmas.List.Elements.{All-head, All-tail}
 use Rattle.std.specs.List.{All}
 use Rattle.account_core.specs.Asked.{Asked, Credits, Reserves, Settles, Returns, call_of}
-use Rattle.account_core.specs.Events.{EntryData}
+use Rattle.account_core.specs.Entries.{EntryData}
 use Rattle.account_core.specs.Known.{CallFacts, EntryDeed, Ends, Forfeits, Grants, Reports, Rests, deed, deed_of, known, known_after}
 use Rattle.account_core.specs.declared.entry.Reply.{Reply}
 use Rattle.account_core.specs.declared.entry.Reply.TheVariants as reply
@@ -51,12 +51,12 @@ granted_by R (Returns call) (reply.CreditOver available) holds = tt
 granted_by R (Returns call) (reply.Granted units last available) holds = tt
 granted_by R (Returns call) (reply.Denied available) holds = tt
 
-of_call : (R : ℕ → Rates → Type 0) (call : ℕ) (event : EntryData) (same : Bool) → (call_of event.asked == call) ≡ same → IfReserves R event.asked
-    → IfGrants (R call) (if same then deed_of event.asked event.reply else Rests)
-of_call R call event true same holds =
-    let Its : ℕ → Type 0 = λ c. IfGrants (R c) (deed_of event.asked event.reply) in
-    subst Its (eqb-true (call_of event.asked) call same) (granted_by R event.asked event.reply holds)
-of_call R call event false same holds = tt
+of_call : (R : ℕ → Rates → Type 0) (call : ℕ) (entry : EntryData) (same : Bool) → (call_of entry.asked == call) ≡ same → IfReserves R entry.asked
+    → IfGrants (R call) (if same then deed_of entry.asked entry.reply else Rests)
+of_call R call entry true same holds =
+    let Its : ℕ → Type 0 = λ c. IfGrants (R c) (deed_of entry.asked entry.reply) in
+    subst Its (eqb-true (call_of entry.asked) call same) (granted_by R entry.asked entry.reply holds)
+of_call R call entry false same holds = tt
 
 -- a call's plan is one that it was granted
 module _ (Q : Rates → Type 0) (before : CallFacts) (plan : Rates) (earlier : (its : Rates) → before.plan ≡ Some its → Q its) where
@@ -72,11 +72,11 @@ module _ (Q : Rates → Type 0) (before : CallFacts) (plan : Rates) (earlier : (
   plan_has Rests holds is = earlier plan is
 
 -- what holds of each Reserve in a history holds of each call that was granted anything there, and of its plan
-pub granted_has : (R : ℕ → Rates → Type 0) (call : ℕ) (plan : Rates) (h : List EntryData) → All (λ event. IfReserves R event.asked) h → (known call h).plan ≡ Some plan → R call plan
+pub granted_has : (R : ℕ → Rates → Type 0) (call : ℕ) (plan : Rates) (h : List EntryData) → All (λ entry. IfReserves R entry.asked) h → (known call h).plan ≡ Some plan → R call plan
 unfolding deed
 granted_has R call plan [] all is = cc
-granted_has R call plan (event ∷ h) all is =
+granted_has R call plan (entry ∷ h) all is =
     let P : EntryData → Type 0 = λ e. IfReserves R e.asked in
-    plan_has (R call) (known call h) plan (λ its had. granted_has R call its h (All-tail P event h all) had)
-    (if call_of event.asked == call then deed_of event.asked event.reply else Rests)
-    (of_call R call event (call_of event.asked == call) refl (All-head P event h all)) is
+    plan_has (R call) (known call h) plan (λ its had. granted_has R call its h (All-tail P entry h all) had)
+    (if call_of entry.asked == call then deed_of entry.asked entry.reply else Rests)
+    (of_call R call entry (call_of entry.asked == call) refl (All-head P entry h all)) is

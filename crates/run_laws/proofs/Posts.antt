@@ -3,7 +3,7 @@ use Rattle.std.proofs.Common.{◌≡◌, ◌+◌, ℕ, Bool, true, false, Option
 use Rattle.std.specs.Prelude.{◌==◌, if◌then◌else◌, slice_index_or, IfSome}
 use Rattle.std.proofs.lemmas.List.Elements.{All-cons, All-filter, All-head, All-nil, All-same, All-tail}
 use Rattle.account_core.specs.Asked.{Asked, Credits, Reserves, Settles, Returns}
-use Rattle.account_core.specs.Events.{EntryData}
+use Rattle.account_core.specs.Entries.{EntryData}
 use Rattle.cap_values.specs.declared.message.SsfMsg.{SsfMsg}
 use Rattle.cap_values.specs.declared.message.SsfMsg.TheVariants.{InitialDp, EventReport, ChargingReport, Ended}
 use Rattle.entry_rows.specs.Fits.{FitsReport, IsMoment}
@@ -80,12 +80,12 @@ asked_timely setup place posts (Settles call number info) settled credited on_te
 asked_timely setup place posts (Returns call) settled credited on_terms = tt
 
 pub mine_timely : (setup : Setup) (place account : ℕ) (posts : List Post) (mine : List EntryData) → IsServed account posts mine → All (λ post. IsTimely post.body) posts
-    → All (λ event. IsOnTerms setup place posts event.asked) mine → All (λ event. IsTimelyAsked event.asked) mine
+    → All (λ entry. IsOnTerms setup place posts entry.asked) mine → All (λ entry. IsTimelyAsked entry.asked) mine
 mine_timely setup place account posts mine served timely on_terms =
     let reported : All IsTimelyReport (reports_of posts) =
     all_joined IsTimelyReport (λ (post : Post). reported_in post.number post.body) posts (λ k d within. body_reports (slice_index_or posts k d).number (slice_index_or posts k d).body (timely k d within)) in
     let recharged : All IsTimelyMoney (recharges_of account posts) =
     all_joined IsTimelyMoney (λ (post : Post). recharged_in account post.body) posts (λ k d within. body_recharges account (slice_index_or posts k d).body (timely k d within)) in
-    let settled = all_pieces IsTimelyReport (λ (event : EntryData). settled_in event.asked) mine (all_part IsTimelyReport (settles_of mine) (reports_of posts) served.settles reported) in
-    let credited = all_pieces IsTimelyMoney (λ (event : EntryData). credited_in event.asked) mine (all_part IsTimelyMoney (credits_of mine) (recharges_of account posts) served.credits recharged) in
+    let settled = all_pieces IsTimelyReport (λ (entry : EntryData). settled_in entry.asked) mine (all_part IsTimelyReport (settles_of mine) (reports_of posts) served.settles reported) in
+    let credited = all_pieces IsTimelyMoney (λ (entry : EntryData). credited_in entry.asked) mine (all_part IsTimelyMoney (credits_of mine) (recharges_of account posts) served.credits recharged) in
     λ k d within. asked_timely setup place posts (slice_index_or mine k d).asked (settled k d within) (credited k d within) (on_terms k d within)

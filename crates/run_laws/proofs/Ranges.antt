@@ -5,7 +5,7 @@ use Rattle.account_core.proofs.CallStateLemmas.{paid_within}
 use Rattle.account_core.proofs.Fitting.{money_within}
 use Rattle.account_core.proofs.SoundPasts.{legal_is_sound}
 use Rattle.account_core.proofs.Soundness.{stands}
-use Rattle.account_core.specs.Events.{EntryData}
+use Rattle.account_core.specs.Entries.{EntryData}
 use Rattle.account_core.specs.Known.{CallFacts, known, paid_of, paid_under}
 use Rattle.account_core.specs.Sound.{IsSoundPast, IsSoundUnder}
 use Rattle.account_core.specs.TariffLaws.{TariffLaws}

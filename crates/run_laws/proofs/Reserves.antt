@@ -3,7 +3,7 @@ use Rattle.std.proofs.Common.{◌≡◌, ◌<◌, ℕ, Option, Some, None, true,
 use Rattle.std.specs.Prelude.{is_some, slice_index_or}
 use Rattle.std.proofs.lemmas.List.Elements.{All-contains, All-contains_itself}
 use Rattle.account_core.specs.Asked.{Asked, Credits, Reserves, Settles, Returns}
-use Rattle.account_core.specs.Events.{EntryData}
+use Rattle.account_core.specs.Entries.{EntryData}
 use Rattle.call_records.specs.Calls.{parties_of}
 use Rattle.call_records.specs.Records.{Run}
 use Rattle.cap_values.specs.NumberDigits.{digits_of_number}
@@ -62,11 +62,11 @@ begun_by run place posts given (Settles call number info) terms = tt
 begun_by run place posts given (Returns call) terms = tt
 
 pub book_begun : (Stood : Closed → ℕ → Knowing) → ReservesAreInTheBooks Stood → (run : Run) → IsServedRun Stood run → (place : ℕ) (d : Closed) → place < length run.books
-    → All (λ event. IfReserves (IsBegun run place) event.asked) (slice_index_or run.books place d).history
+    → All (λ entry. IfReserves (IsBegun run place) entry.asked) (slice_index_or run.books place d).history
 book_begun Stood reserves run is place d within =
     let book : Closed = slice_index_or run.books place d in
     let here = book_of run.setup is.workers run.books is.may_be is.served.opened is.accounts place d within in
-    own_holds (λ (event : EntryData). IfReserves (IsBegun run place) event.asked) book.history is.workers (is.served.owned place d within) (λ seat seated.
+    own_holds (λ (entry : EntryData). IfReserves (IsBegun run place) entry.asked) book.history is.workers (is.served.owned place d within) (λ seat seated.
     let its = is.served.answered seat seated in
     let given : All (λ post. Contains run.given (post.at, post.body)) its.posts =
     handled_all (λ at body. Contains run.given (at, body)) is.workers run.given seat its.posts its.share (All-contains_itself run.given) in

@@ -11,7 +11,7 @@ use Rattle.std.proofs.lemmas.List.Sums.{sum_by-cons}
 use Rattle.account_core.proofs.Moves.{calls_once}
 use Rattle.account_core.proofs.Sums.{times_in}
 use Rattle.account_core.specs.Available.{calls}
-use Rattle.account_core.specs.Events.{EntryData}
+use Rattle.account_core.specs.Entries.{EntryData}
 use Rattle.account_core.specs.Known.{known, paid_if_granted}
 use Rattle.call_records.proofs.LawLemmas.{none_paid, parties_start, started_by}
 use Rattle.call_records.specs.Records.{AreRecords, IsRecord, Run}
@@ -81,7 +81,7 @@ module _ (Stood : Closed → ℕ → Knowing) (reserves : ReservesAreInTheBooks 
   begun_in : (place : ℕ) (d : Closed) → place < length run.books → (call : ℕ) → paid_in call (slice_index_or run.books place d) ≢ 0 → (plan : Rates) × IsBegun run place call plan
   begun_in place d within call some =
       let book : Closed = slice_index_or run.books place d in
-      let P : EntryData → Type 0 = λ event. IfReserves (IsBegun run place) event.asked in
+      let P : EntryData → Type 0 = λ entry. IfReserves (IsBegun run place) entry.asked in
       let (plan, planned) = there (known call (reverse book.history)).plan (paid_granted call book some) in
       (plan, granted_has (IsBegun run place) call plan (reverse book.history) (reversed P book.history (book_begun Stood reserves run is place d within)) planned)
 

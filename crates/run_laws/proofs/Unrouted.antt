@@ -4,7 +4,7 @@ use Rattle.std.specs.Option.{option_map}
 use Rattle.std.specs.Prelude.{find, is_some, unwrap_or}
 use Rattle.std.proofs.lemmas.List.{reverse-append}
 use Rattle.std.proofs.lemmas.List.Elements.{All-append, All-cons, All-head, All-nil, All-same, All-tail}
-use Rattle.account_core.specs.Events.{EntryData}
+use Rattle.account_core.specs.Entries.{EntryData}
 use Rattle.account_core.specs.Known.{known}
 use Rattle.call_records.proofs.LawLemmas.{parties_start, ungranted_pays_nothing, unrouted_has_none}
 use Rattle.call_records.specs.Records.{Run}
@@ -25,9 +25,9 @@ use Rattle.tariff_core.specs.Routes.{HasNoRoute, IsPrefixFor}
 
 pub reversed : (P : EntryData → Type 0) (h : List EntryData) → All P h → All P (reverse h)
 reversed P [] all = All-nil P
-reversed P (event ∷ h) all =
-    All-same P (reverse (event ∷ h)) (reverse h ++ event ∷ []) (reverse-append (event ∷ []) h)
-    (All-append P (reverse h) (event ∷ []) (reversed P h (All-tail P event h all)) (All-cons P event [] (All-head P event h all) (All-nil P)))
+reversed P (entry ∷ h) all =
+    All-same P (reverse (entry ∷ h)) (reverse h ++ entry ∷ []) (reverse-append (entry ∷ []) h)
+    (All-append P (reverse h) (entry ∷ []) (reversed P h (All-tail P entry h all)) (All-cons P entry [] (All-head P entry h all) (All-nil P)))
 
 pub all_found : (Q : Closed → Type 0) (test : Closed → Bool) (books : List Closed) (book : Closed) → All Q books → find test books ≡ Some book → Q book
 all_found Q test [] book all is = cc
@@ -47,14 +47,14 @@ routed bands called prefix is_prefix no_route =
 
 module _ (Stood : Closed → ℕ → Knowing) (reserves : ReservesAreInTheBooks Stood) (run : Run) (is : IsServedRun Stood run) where
   abbrev HasBegun : Closed → Type 0
-  HasBegun book = (place : ℕ) × All (λ event. IfReserves (IsBegun run place) event.asked) book.history
+  HasBegun book = (place : ℕ) × All (λ entry. IfReserves (IsBegun run place) entry.asked) book.history
 
   granted_begun : (call : ℕ) (plan : Rates) (found : Option Closed) → ((book : Closed) → found ≡ Some book → HasBegun book) → (known call (past_in found)).plan ≡ Some plan
       → (place : ℕ) × IsBegun run place call plan
   granted_begun call plan None each granted = cc
   granted_begun call plan (Some book) each granted =
       let begun = each book refl in
-      let P : EntryData → Type 0 = λ event. IfReserves (IsBegun run begun.0) event.asked in
+      let P : EntryData → Type 0 = λ entry. IfReserves (IsBegun run begun.0) entry.asked in
       (begun.0, granted_has (IsBegun run begun.0) call plan (reverse book.history) (reversed P book.history begun.1) granted)
 
   pub past_begun : (call : ℕ) (plan : Rates) (account : Option ℕ) → (known call (past_of account run.books)).plan ≡ Some plan → (place : ℕ) × IsBegun run place call plan

@@ -11,8 +11,8 @@ use Rattle.cap_values.specs.NumberDigits.{digits_of_number}
 use Rattle.cap_values.specs.declared.number.Number.{Number}
 use Rattle.rising_map.proofs.RisingLemmas.{looked_up}
 use Rattle.run_parts.specs.Parts.{account_of_digits, payer_by, payer_in, payer_of}
-use Rattle.run_texts.specs.Happenings.{ScriptEvent}
-use Rattle.run_texts.specs.Views.{script_event, with_digits}
+use Rattle.run_texts.specs.Happenings.{RowData}
+use Rattle.run_texts.specs.Views.{row_data, with_digits}
 use Rattle.run_texts.specs.declared.script.ScriptRow.{ScriptRow}
 use Rattle.run_values.specs.Setups as setups
 
@@ -24,21 +24,21 @@ either : {X : Type 0} (one two three : Option X) → option_or one (option_or tw
 either None two three = refl
 either (Some x) two three = refl
 
-payer_more : (subscribers : List (List ℕ × ℕ)) (script : List ScriptEvent) (event : ScriptEvent) (call : ℕ)
-    → payer_of subscribers (script ++ event ∷ []) call ≡ option_or (payer_of subscribers script call) (payer_by subscribers call event.what)
-payer_more subscribers [] event call = or_none (payer_by subscribers call event.what)
-payer_more subscribers (first ∷ script) event call =
-    ap (λ later. option_or (payer_by subscribers call first.what) later) (payer_more subscribers script event call)
-    ∙ either (payer_by subscribers call first.what) (payer_of subscribers script call) (payer_by subscribers call event.what)
+payer_more : (subscribers : List (List ℕ × ℕ)) (script : List RowData) (row : RowData) (call : ℕ)
+    → payer_of subscribers (script ++ row ∷ []) call ≡ option_or (payer_of subscribers script call) (payer_by subscribers call row.what)
+payer_more subscribers [] row call = or_none (payer_by subscribers call row.what)
+payer_more subscribers (first ∷ script) row call =
+    ap (λ later. option_or (payer_by subscribers call first.what) later) (payer_more subscribers script row call)
+    ∙ either (payer_by subscribers call first.what) (payer_of subscribers script call) (payer_by subscribers call row.what)
 
 -- the payer of a call, with one row more
 pub payer_next : (subscribers : List (List ℕ × ℕ)) (rows : List ScriptRow) (i : ℕ) (row : ScriptRow) (call : ℕ) → i < length rows → row ≡ get_or rows i row
-    → payer_of subscribers (map script_event (take (i + 1) rows)) call
-    ≡ option_or (payer_of subscribers (map script_event (take i rows)) call) (payer_by subscribers call (script_event row).what)
+    → payer_of subscribers (map row_data (take (i + 1) rows)) call
+    ≡ option_or (payer_of subscribers (map row_data (take i rows)) call) (payer_by subscribers call (row_data row).what)
 payer_next subscribers rows i row call within is =
-    ap (λ done. payer_of subscribers (map script_event done) call) (take_more rows i row within ∙ ap (λ r. take i rows ++ r ∷ []) (sym is))
-    ∙ ap (λ script. payer_of subscribers script call) (map-append script_event (take i rows) (row ∷ []))
-    ∙ payer_more subscribers (map script_event (take i rows)) (script_event row) call
+    ap (λ done. payer_of subscribers (map row_data done) call) (take_more rows i row within ∙ ap (λ r. take i rows ++ r ∷ []) (sym is))
+    ∙ ap (λ script. payer_of subscribers script call) (map-append row_data (take i rows) (row ∷ []))
+    ∙ payer_more subscribers (map row_data (take i rows)) (row_data row) call
 
 -- the account of a number is that of its digits
 pub by_its_digits : (number : Number) (subscribers : List (Number × ℕ)) → setups.account_of number subscribers ≡ account_of_digits (digits_of_number number) (with_digits subscribers)

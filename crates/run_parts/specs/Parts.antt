@@ -6,7 +6,7 @@ use Rattle.std.specs.Map.{lookup}
 use Rattle.std.specs.Option.{option_or}
 use Rattle.std.specs.Ordering.{nat_cmp}
 use Rattle.std.specs.Str.{bytes_eq}
-use Rattle.run_texts.specs.Happenings.{Happens, Meets, Recharges, ScriptEvent, Starts}
+use Rattle.run_texts.specs.Happenings.{Happens, Meets, Recharges, RowData, Starts}
 use Rattle.run_texts.specs.Views.{happens_of}
 use Rattle.run_texts.specs.declared.script.ScriptRow.{ScriptRow}
 
@@ -36,13 +36,13 @@ payer_by subscribers call (Meets other event) = None
 payer_by subscribers call (Recharges account amount until) = None
 
 -- the account of a call: that of the subscriber who starts it
-abbrev pub payer_of : List (List ℕ × ℕ) → List ScriptEvent → ℕ → Option ℕ
+abbrev pub payer_of : List (List ℕ × ℕ) → List RowData → ℕ → Option ℕ
 payer_of subscribers [] call = None
-payer_of subscribers (event ∷ script) call = option_or (payer_by subscribers call event.what) (payer_of subscribers script call)
+payer_of subscribers (row ∷ script) call = option_or (payer_by subscribers call row.what) (payer_of subscribers script call)
 
 -- what happens in a part of a script, in order
-abbrev pub part_script : List ℕ → (ℕ → Option ℕ) → List ScriptEvent → ℕ → List ScriptEvent
-part_script firsts payer script part = filter (λ event. part_of firsts payer event.what == part) script
+abbrev pub part_script : List ℕ → (ℕ → Option ℕ) → List RowData → ℕ → List RowData
+part_script firsts payer script part = filter (λ row. part_of firsts payer row.what == part) script
 
 -- the rows of it
 abbrev pub part_rows : List ℕ → (ℕ → Option ℕ) → List ScriptRow → ℕ → List ScriptRow

@@ -5,7 +5,7 @@ ghost use Rattle.std.specs.List.Sorted.{IsStrictlySortedBy};
 ghost use Rattle.std.specs.Ordering.{nat_cmp};
 ghost use Rattle.run_parts.specs.Parts.{AreParts, part_by, part_count, part_of, payer_in, payer_of};
 ghost use Rattle.run_values.specs.Setups.{has_account};
-ghost use Rattle.run_texts.specs.Views.{rows_are_in_order, happens_of, script_event, with_digits};
+ghost use Rattle.run_texts.specs.Views.{rows_are_in_order, happens_of, row_data, with_digits};
 
 use crate::firsts::Firsts;
 use crate::payers::payers_in;
@@ -42,7 +42,7 @@ pub fn divide(
     ensures firsts { IfOk result (λ division.
         All (λ first. has_account first setup.now.accounts ≡ true) division.firsts) }
     ensures parts { IfOk result (λ division. AreParts division.firsts
-        (payer_of (with_digits setup.now.subscribers) (map script_event script.items))
+        (payer_of (with_digits setup.now.subscribers) (map row_data script.items))
         script.items (map (λ rows. rows.items) division.scripts.items)) }
     ensures in_range { IfOk result (λ division. All (λ row. row.at ≤ MAX_MOMENT) script.items
         → All (λ rows. All (λ row. row.at ≤ MAX_MOMENT) rows.items) division.scripts.items) }

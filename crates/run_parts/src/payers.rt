@@ -3,7 +3,7 @@
 ghost use Rattle.std.specs.Prelude.{◌≡◌, ◌==◌, ℕ, None, if◌then◌else◌, map, IfOk, OnOk};
 ghost use Rattle.std.specs.Option.{option_or};
 ghost use Rattle.run_parts.specs.Parts.{HavePayers, payer_by, payer_in, payer_of};
-ghost use Rattle.run_texts.specs.Views.{happens_of, script_event, with_digits};
+ghost use Rattle.run_texts.specs.Views.{happens_of, row_data, with_digits};
 
 use rising_map::RisingMap;
 use run_texts::{Happening, ScriptRow};
@@ -17,7 +17,7 @@ pub(crate) fn payers_in(
     script: &[ScriptRow],
 ) -> Result<RisingMap<u32>, AllocError>
     ensures { IfOk result (HavePayers
-        (payer_of (with_digits setup.now.subscribers) (map script_event script.now))) }
+        (payer_of (with_digits setup.now.subscribers) (map row_data script.now))) }
 {
     let mut payers = RisingMap::new(alloc);
     for row in script {

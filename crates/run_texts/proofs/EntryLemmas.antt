@@ -13,7 +13,7 @@ use Rattle.table_core.specs.declared.fault.RowKind.TheVariants as kind
 use Rattle.run_values.specs.Setups.{Listing, account_of, has_account, subscriber_fault, with_subscriber}
 use Rattle.run_values.specs.declared.setup_fault.SetupFault.{SetupFault}
 use Rattle.run_values.specs.declared.setup_fault.SetupFault.TheVariants as fault
-use Rattle.run_texts.specs.Entries.{RefusesEntry, entry_fault_of}
+use Rattle.run_texts.specs.ListedRows.{RefusesRow, list_fault_of}
 use Rattle.run_texts.specs.Setups.{TableSetup, has_subscriber, name_subscriber}
 use Rattle.run_texts.specs.Views.{setup_in, with_digits}
 
@@ -42,7 +42,7 @@ subscriber_named number (first ∷ subscribers) =
 
 module _ (next : TableSetup) where
   refusal : (named known : Bool) (why : SetupFault) → (why ≢ fault.OutOfMemory → subscriber_fault named known ≡ Some why)
-      → RefusesEntry (entry_fault_of why) (if named then Err kind.Repeated else if known then Ok next else Err kind.Unknown)
+      → RefusesRow (list_fault_of why) (if named then Err kind.Repeated else if known then Ok next else Err kind.Unknown)
   refusal named known fault.OutOfMemory is = tt
   refusal true known fault.Repeated is = refl
   refusal true known fault.Unknown is = cc (is (λ same. cc))
@@ -61,7 +61,7 @@ module _ (next : TableSetup) where
 
 pub subscriber_refused : (listing : Listing) (number : Number) (account : ℕ) (why : SetupFault)
     → (why ≢ fault.OutOfMemory → subscriber_fault (is_some (account_of number listing.subscribers)) (has_account account listing.accounts) ≡ Some why)
-    → RefusesEntry (entry_fault_of why) (name_subscriber (setup_in listing) (digits_of_number number) account)
+    → RefusesRow (list_fault_of why) (name_subscriber (setup_in listing) (digits_of_number number) account)
 subscriber_refused listing number account why is =
     refusal _ (has_subscriber (digits_of_number number) (with_digits listing.subscribers)) (has_account account listing.accounts) why
     (λ other. ap (λ named. subscriber_fault named (has_account account listing.accounts)) (sym (subscriber_named number listing.subscribers)) ∙ is other)

@@ -1,5 +1,5 @@
 pub mod EntryLemmas
 pub mod FieldLemmas
-pub mod FirstPartLemmas
-pub mod PartLemmas
+pub mod FirstSectionLemmas
 pub mod ScriptLemmas
+pub mod SectionLemmas

@@ -6,10 +6,10 @@ use Rattle.std.specs.Ordering.{is_eq, nat_cmp}
 use Rattle.std.proofs.lemmas.Bool.Decides.{nat_tests}
 use Rattle.std.proofs.lemmas.List.{map-append, reverse-append, reverse-reverse}
 use Rattle.std.proofs.lemmas.Bool.{and_parts}
-use Rattle.run_texts.specs.Happenings.{ScriptEvent, Happens, Meets, Recharges, Starts}
+use Rattle.run_texts.specs.Happenings.{RowData, Happens, Meets, Recharges, Starts}
 use Rattle.run_texts.specs.Scripts.{is_started, starts}
 use Rattle.run_texts.specs.Starts.{HasCalls, NotesStart}
-use Rattle.run_texts.specs.Views.{rows_are_in_order, script_event}
+use Rattle.run_texts.specs.Views.{rows_are_in_order, row_data}
 use Rattle.run_texts.specs.declared.script.ScriptRow.{ScriptRow}
 
 abbrev Fields : Type 0
@@ -36,23 +36,23 @@ call_more before after (Starts call calling called) q is notes has = rw (notes.0
 call_more before after (Meets call event) q is notes has = rw (notes, has) (no_more is)
 call_more before after (Recharges account amount until) q is notes has = rw (notes, has) (no_more is)
 
-calls_more : (before after : BTreeSet ℕ) (event : ScriptEvent) (earlier : List ScriptEvent) → NotesStart event.what before after → HasCalls before earlier → HasCalls after (event ∷ earlier)
-calls_more before after event earlier notes has q = call_more before after event.what q (is_started q earlier) notes (has q)
+calls_more : (before after : BTreeSet ℕ) (row : RowData) (earlier : List RowData) → NotesStart row.what before after → HasCalls before earlier → HasCalls after (row ∷ earlier)
+calls_more before after row earlier notes has q = call_more before after row.what q (is_started q earlier) notes (has q)
 
 -- ---- the rows so far, newest first
 
-abbrev pub earlier_of : List ScriptRow → List ScriptEvent
-earlier_of rows = reverse (map script_event rows)
+abbrev pub earlier_of : List ScriptRow → List RowData
+earlier_of rows = reverse (map row_data rows)
 
-events_more : (rows : List ScriptRow) (row : ScriptRow) → map script_event (rows ++ row ∷ []) ≡ map script_event rows ++ script_event row ∷ []
-events_more rows row = map-append script_event rows (row ∷ [])
+data_more : (rows : List ScriptRow) (row : ScriptRow) → map row_data (rows ++ row ∷ []) ≡ map row_data rows ++ row_data row ∷ []
+data_more rows row = map-append row_data rows (row ∷ [])
 
-pub earlier_more : (rows : List ScriptRow) (row : ScriptRow) → earlier_of (rows ++ row ∷ []) ≡ script_event row ∷ earlier_of rows
-earlier_more rows row = rw (events_more rows row) (reverse-append (map script_event rows) (script_event row ∷ []))
+pub earlier_more : (rows : List ScriptRow) (row : ScriptRow) → earlier_of (rows ++ row ∷ []) ≡ row_data row ∷ earlier_of rows
+earlier_more rows row = rw (data_more rows row) (reverse-append (map row_data rows) (row_data row ∷ []))
 
-pub calls_after : (before after : BTreeSet ℕ) (rows : List ScriptRow) (row : ScriptRow) → NotesStart (script_event row).what before after → HasCalls before (earlier_of rows)
+pub calls_after : (before after : BTreeSet ℕ) (rows : List ScriptRow) (row : ScriptRow) → NotesStart (row_data row).what before after → HasCalls before (earlier_of rows)
     → HasCalls after (earlier_of (rows ++ row ∷ []))
-calls_after before after rows row notes has = rw (earlier_more rows row) (calls_more before after (script_event row) (earlier_of rows) notes has)
+calls_after before after rows row notes has = rw (earlier_more rows row) (calls_more before after (row_data row) (earlier_of rows) notes has)
 
 -- ---- the order of the moments
 
@@ -73,11 +73,11 @@ pub order_more : (start : ℕ) (rows : List ScriptRow) (row : ScriptRow) → row
     → rows_are_in_order start (rows ++ row ∷ []) ≡ true
 order_more start [] row ordered after = in_turn (nat_le start row.at) true (grind (arith, nat_tests, after)) refl
 order_more start (first ∷ rows) row ordered after =
-    let parts = and_parts (nat_le start first.at) (rows_are_in_order first.at rows) ordered in
-    in_turn (nat_le start first.at) (rows_are_in_order first.at (rows ++ row ∷ [])) parts.0 (order_more first.at rows row parts.1 after)
+    let sections = and_parts (nat_le start first.at) (rows_are_in_order first.at rows) ordered in
+    in_turn (nat_le start first.at) (rows_are_in_order first.at (rows ++ row ∷ [])) sections.0 (order_more first.at rows row sections.1 after)
 
 -- ---- the rows
 
 -- the rows so far, in turn
-pub rows_in_turn : (rows : List ScriptRow) → reverse (earlier_of rows) ≡ map script_event rows
-rows_in_turn rows = reverse-reverse (map script_event rows)
+pub rows_in_turn : (rows : List ScriptRow) → reverse (earlier_of rows) ≡ map row_data rows
+rows_in_turn rows = reverse-reverse (map row_data rows)

@@ -11,7 +11,7 @@ pub data Happens : Type 0 where
   Recharges : (account amount : ℕ) (until : Option ℕ) → Happens
 
 -- what happens, and its moment in units of 100 ms
-pub record ScriptEvent : Type 0 where
+pub record RowData : Type 0 where
   pub at : ℕ
   pub what : Happens
 

@@ -1,10 +1,10 @@
-pub mod Entries
-pub mod FirstParts
+pub mod FirstSections
 pub mod Happenings
 pub mod InputFaults
 pub mod Inputs
-pub mod Parts
+pub mod ListedRows
 pub mod Scripts
+pub mod Sections
 pub mod Setups
 pub mod Starts
 pub mod Views

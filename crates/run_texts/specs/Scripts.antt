@@ -11,7 +11,7 @@ use Rattle.table_core.specs.declared.fault.RowFault.{RowFault}
 use Rattle.table_core.specs.declared.fault.RowKind.{RowKind}
 use Rattle.table_core.specs.declared.fault.RowKind.TheVariants as kind
 use Rattle.moment_texts.specs.Fields.{moment_in}
-use Rattle.run_texts.specs.Happenings.{ScriptEvent, Happens, Meets, Recharges, Starts}
+use Rattle.run_texts.specs.Happenings.{RowData, Happens, Meets, Recharges, Starts}
 use Rattle.run_texts.specs.Setups.{account_in, amount_in, party_in, until_in}
 use Rattle.run_texts.specs.declared.script.Word.{Word}
 use Rattle.run_texts.specs.declared.script.Word.TheVariants as word
@@ -73,19 +73,19 @@ happens_in fields word.Disconnect = disconnect_in fields
 happens_in fields word.Recharge = recharge_row_in fields
 
 -- what happens in a row, and its moment of 0 to 10^12
-abbrev pub read_in : List (List ℕ) → Result ScriptEvent RowKind
+abbrev pub read_in : List (List ℕ) → Result RowData RowKind
 read_in fields = and_then (row_word_in fields) (λ word. and_then (moment_in fields 0 MAX_MOMENT) (λ at. and_then (happens_in fields word) (λ what. Ok (record { at = at; what = what }))))
 
 -- ---- rows; the earlier ones newest first
 
 -- the rows from the first on
-abbrev pub first_to_last : {E : Type 0} → Result (List ScriptEvent) E → Result (List ScriptEvent) E
-first_to_last events = and_then events (λ newest_first. Ok (reverse newest_first))
+abbrev pub first_to_last : {E : Type 0} → Result (List RowData) E → Result (List RowData) E
+first_to_last rows = and_then rows (λ newest_first. Ok (reverse newest_first))
 
 -- the moment of the row before, 0 at the first
-abbrev pub last_row_moment : List ScriptEvent → ℕ
+abbrev pub last_row_moment : List RowData → ℕ
 last_row_moment [] = 0
-last_row_moment (event ∷ earlier) = event.at
+last_row_moment (row ∷ earlier) = row.at
 
 -- whether a call starts
 abbrev pub starts : ℕ → Happens → Bool
@@ -94,22 +94,22 @@ starts call (Meets other event) = false
 starts call (Recharges account amount until) = false
 
 -- whether a call has started
-abbrev pub is_started : ℕ → List ScriptEvent → Bool
+abbrev pub is_started : ℕ → List RowData → Bool
 is_started call [] = false
-is_started call (event ∷ earlier) = is_started call earlier || starts call event.what
+is_started call (row ∷ earlier) = is_started call earlier || starts call row.what
 
 -- a call starts once; only a call that has started meets anything, and only an account of the setup is recharged
-abbrev pub judged_by : List (ℕ × OpeningCredit) → List ScriptEvent → ScriptEvent → Happens → Result ScriptEvent RowKind
-judged_by accounts earlier event (Starts call calling called) = if is_started call earlier then Err kind.Repeated else Ok event
-judged_by accounts earlier event (Meets call met) = if is_started call earlier then Ok event else Err kind.Unknown
-judged_by accounts earlier event (Recharges account amount until) = if has_account account accounts then Ok event else Err kind.Unknown
+abbrev pub judged_by : List (ℕ × OpeningCredit) → List RowData → RowData → Happens → Result RowData RowKind
+judged_by accounts earlier row (Starts call calling called) = if is_started call earlier then Err kind.Repeated else Ok row
+judged_by accounts earlier row (Meets call met) = if is_started call earlier then Ok row else Err kind.Unknown
+judged_by accounts earlier row (Recharges account amount until) = if has_account account accounts then Ok row else Err kind.Unknown
 
 -- a row may come after the earlier ones; no moment lies below the one before
-abbrev pub judged_row : List (ℕ × OpeningCredit) → List ScriptEvent → ScriptEvent → Result ScriptEvent RowKind
-judged_row accounts earlier event = if nat_lt event.at (last_row_moment earlier) then Err kind.Order else judged_by accounts earlier event event.what
+abbrev pub judged_row : List (ℕ × OpeningCredit) → List RowData → RowData → Result RowData RowKind
+judged_row accounts earlier row = if nat_lt row.at (last_row_moment earlier) then Err kind.Order else judged_by accounts earlier row row.what
 
 -- what a row says, after the earlier rows
-unfoldable pub script_row_at : List (ℕ × OpeningCredit) → List ScriptEvent → List (List ℕ) → Result ScriptEvent RowKind
+unfoldable pub script_row_at : List (ℕ × OpeningCredit) → List RowData → List (List ℕ) → Result RowData RowKind
 script_row_at accounts earlier fields = and_then (read_in fields) (judged_row accounts earlier)
 
 -- the headers of a script, the older one first
@@ -119,11 +119,11 @@ script_headers =
     ∷ (codes "moment" ∷ codes "call" ∷ codes "what" ∷ codes "x" ∷ codes "y" ∷ codes "z" ∷ []) ∷ []
 
 -- one of these headers, and 1,000,000 rows at most; each says what happens after the earlier ones
-abbrev pub script_form : List (ℕ × OpeningCredit) → TableForm (List ScriptEvent) RowKind RowFault
+abbrev pub script_form : List (ℕ × OpeningCredit) → TableForm (List RowData) RowKind RowFault
 script_form accounts =
     table_form script_headers 1000000 []
-    (λ header earlier fields. and_then (script_row_at accounts earlier fields) (λ event. Ok (event ∷ earlier)))
+    (λ header earlier fields. and_then (script_row_at accounts earlier fields) (λ row. Ok (row ∷ earlier)))
 
 -- what a script says, where these are the accounts of the setup
-abbrev pub script_of : List (ℕ × OpeningCredit) → List (List (List ℕ)) → Result (List ScriptEvent) RowFault
+abbrev pub script_of : List (ℕ × OpeningCredit) → List (List (List ℕ)) → Result (List RowData) RowFault
 script_of accounts rows = first_to_last (table_of (script_form accounts) rows)

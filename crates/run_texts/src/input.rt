@@ -8,8 +8,8 @@ ghost use Rattle.run_texts.specs.Inputs.{input_in, input_of, tariff_in, as_input
 ghost use Rattle.run_texts.specs.Scripts.{script_of};
 ghost use Rattle.run_texts.specs.Setups.{table_setup_of};
 ghost use Rattle.run_texts.specs.Happenings.{is_in_time};
-ghost use Rattle.run_texts.specs.Views.{rows_are_in_order, happens_of, script_event, setup_in, texts_of_parts};
-ghost use Rattle.run_texts.specs.Parts.{is_divider, lines_in_text, parts_of, texts_of};
+ghost use Rattle.run_texts.specs.Views.{rows_are_in_order, happens_of, row_data, setup_in, texts_of_sections};
+ghost use Rattle.run_texts.specs.Sections.{is_divider, lines_in_text, sections_of, texts_of};
 ghost use Rattle.table_core.specs.Rows.{rows_of};
 ghost use Rattle.run_values.specs.Setups.{ListingIsWithin};
 ghost use Rattle.run_texts.specs.declared.input_fault.InputFault.TheVariants as out;
@@ -30,7 +30,7 @@ pub struct RunTexts {
     pub script: Vec<ScriptRow>,
 }
 
-/// Reads an input of three parts. The first fault is the result, the parts judged in order.
+/// Reads an input of three sections. The first fault is the result, the sections judged in order.
 pub fn read_texts(alloc: Global, input: &[u8]) -> Result<RunTexts, InputFault>
     ensures means { GivesInput input_in result (input_of input.now) }
     ensures within { IfOk result (λ texts. ListingIsWithin texts.directory) }
@@ -40,7 +40,7 @@ pub fn read_texts(alloc: Global, input: &[u8]) -> Result<RunTexts, InputFault>
         (λ texts. All (λ row. is_in_time (happens_of row.what) ≡ true) texts.script.items) }
     ensures in_order { IfOk result (λ texts. rows_are_in_order 0 texts.script.items ≡ true) }
 {
-    let Parts {
+    let Sections {
         tariff,
         setup,
         script,
@@ -82,7 +82,7 @@ fn read_script(
     directory: &Directory,
     text: &[u8],
 ) -> Result<Vec<ScriptRow>, InputFault>
-    ensures means { GivesInput (λ rows. map script_event rows.items) result
+    ensures means { GivesInput (λ rows. map row_data rows.items) result
         (as_input_fault out.Script (script_of directory.now.accounts (rows_of text.now))) }
     ensures in_range { IfOk result (λ rows. All (λ row. row.at ≤ MAX_MOMENT) rows.items) }
     ensures in_time { IfOk result (λ rows.
@@ -97,7 +97,7 @@ fn read_script(
 
 /// The three texts of a run.
 #[derive(Clone, Copy, Debug, PartialEq, Eq)]
-pub struct Parts<'a> {
+pub struct Sections<'a> {
     /// The tariff table.
     pub tariff: &'a [u8],
     /// The accounts and the subscribers.
@@ -108,14 +108,14 @@ pub struct Parts<'a> {
 
 /// The three texts of an input, which two lines `%%` divide. Each of these stands alone and is
 /// ended by LF, CR LF or the end of the input. None where there are more or fewer such lines.
-pub fn divide(input: &[u8]) -> Option<Parts<'_>>
-    ensures { option_map texts_of_parts result ≡ texts_of input.now }
+pub fn divide(input: &[u8]) -> Option<Sections<'_>>
+    ensures { option_map texts_of_sections result ≡ texts_of input.now }
 {
     let (tariff, rest) = split(input)?;
     let (setup, script) = split(rest)?;
     match split(script) {
         Some(_) => None,
-        None => Some(Parts {
+        None => Some(Sections {
             tariff,
             setup,
             script,
@@ -126,8 +126,9 @@ pub fn divide(input: &[u8]) -> Option<Parts<'_>>
 /// What is before the first divider of a text, and what is after it.
 fn split(text: &[u8]) -> Option<(&[u8], &[u8])>
     ensures divided { IfSome result
-        (λ parts. parts_of (lines_in_text text.now) ≡ parts.0.now ∷ parts_of (lines_in_text parts.1.now)) }
-    ensures whole { IfNone result (parts_of (lines_in_text text.now) ≡ text.now ∷ []) }
+        (λ both. sections_of (lines_in_text text.now)
+        ≡ both.0.now ∷ sections_of (lines_in_text both.1.now)) }
+    ensures whole { IfNone result (sections_of (lines_in_text text.now) ≡ text.now ∷ []) }
 {
     let mut start = 0;
     while start < text.len() {
@@ -160,7 +161,7 @@ fn line_end(text: &[u8]) -> Option<usize>
     text.iter().position(|byte| *byte == b'\n')
 }
 
-/// Whether a line divides two parts.
+/// Whether a line divides two sections.
 pub(crate) fn is_divider(line: &[u8]) -> bool
     ensures { result ≡ is_divider line.now }
 {

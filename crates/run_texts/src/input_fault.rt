@@ -7,12 +7,12 @@ use std::alloc::{AllocError, AllocFailed};
 use table_core::{RowFault, TableFault};
 use tariff_core::{TariffFault, TariffKind};
 
-/// Why the input of a run says nothing: its first fault, the parts judged in order.
+/// Why the input of a run says nothing: its first fault, the sections judged in order.
 #[derive(Clone, Copy, Debug)]
 pub enum InputFault {
-    /// It doesn't have three parts, or a divider that is behind a part isn't there.
+    /// It doesn't have three sections, or a divider that is behind a section isn't there.
     Parts,
-    /// A part that is read as it comes has more than `MAX_PART` bytes, its divider counted.
+    /// A section that is read as it comes has more than `MAX_SECTION` bytes, its divider counted.
     TooLong,
     /// A row of the tariff has a fault, neither `Device` nor `OutOfMemory`.
     Tariff(TariffFault),

@@ -5,13 +5,13 @@
 mod fields;
 mod input;
 mod input_fault;
-mod part;
 mod script;
+mod section;
 mod setup;
 
 pub use fields::{account, amount, party, until};
-pub use input::{Parts, RunTexts, divide, read_directory, read_tariff, read_texts};
+pub use input::{RunTexts, Sections, divide, read_directory, read_tariff, read_texts};
 pub use input_fault::InputFault;
-pub use part::{MAX_PART, read_line, read_part};
 pub use script::{Happening, ScriptRow, read_script};
+pub use section::{MAX_SECTION, read_line, read_section};
 pub use setup::read_setup;

@@ -5,7 +5,7 @@ ghost use Rattle.std.specs.Result.{result_map_both};
 ghost use Rattle.run_texts.specs.Scripts.{judged_by, last_row_moment, script_row_at, script_of, call_in, disconnect_in, event_row_in, happens_in, leg_of, read_in, recharge_row_in, start_row_in, row_when_blank, row_word_in};
 ghost use Rattle.run_texts.specs.Starts.{HasCalls, NotesStart};
 ghost use Rattle.run_texts.specs.Happenings.{is_in_time};
-ghost use Rattle.run_texts.specs.Views.{rows_are_in_order, script_event, happens_of};
+ghost use Rattle.run_texts.specs.Views.{rows_are_in_order, row_data, happens_of};
 ghost use Rattle.csv.specs.Records.{fields_of};
 ghost use Rattle.table_core.specs.Faults.{GivesTable};
 ghost use Rattle.table_core.specs.Rows.{rows_of};
@@ -44,7 +44,7 @@ pub fn read_script<I: Read + Drop>(
     reader: I,
 ) -> Result<Vec<ScriptRow>, TableFault>
     ensures means { IfSome (I.remaining reader) (λ text.
-        GivesTable (λ rows. map script_event rows.items) result
+        GivesTable (λ rows. map row_data rows.items) result
         (script_of directory.now.accounts (rows_of text))) }
     ensures in_range { IfOk result (λ rows. All (λ row. row.at ≤ MAX_MOMENT) rows.items) }
     ensures in_time { IfOk result (λ rows.
@@ -81,7 +81,7 @@ fn judge(
 ) -> Result<ScriptRow, RowKind>
     requires { 5 ≤ length (fields_of row.now) }
     ensures says { (earlier : _) → HasCalls calls.now earlier → last ≡ last_row_moment earlier
-        → result_map_both script_event (λ kind. kind) result
+        → result_map_both row_data (λ kind. kind) result
         ≡ script_row_at directory.now.accounts earlier (fields_of row.now) }
     ensures in_range { IfOk result (λ row. row.at ≤ MAX_MOMENT) }
     ensures in_time { IfOk result (λ row. is_in_time (happens_of row.what) ≡ true) }
@@ -98,9 +98,9 @@ fn judge(
 /// Refuses a call that starts again, an event of a call that hasn't started, and a recharge of no
 /// account.
 fn check(directory: &Directory, calls: &BTreeSet<u64>, what: Happening) -> Result<(), RowKind>
-    ensures { (earlier : _) (event : _) → HasCalls calls.now earlier
-        → result_map_both (λ done. event) (λ kind. kind) result
-        ≡ judged_by directory.now.accounts earlier event (happens_of what) }
+    ensures { (earlier : _) (row : _) → HasCalls calls.now earlier
+        → result_map_both (λ done. row) (λ kind. kind) result
+        ≡ judged_by directory.now.accounts earlier row (happens_of what) }
 {
     match what {
         Happening::Start { call, .. } => {
@@ -174,7 +174,7 @@ pub enum Happening {
 /// What a row says, wherever it is: of five fields, or of six under the second header.
 fn read_row(row: &ByteRecord) -> Result<ScriptRow, RowKind>
     requires { 5 ≤ length (fields_of row.now) }
-    ensures says { result_map_both script_event (λ kind. kind) result
+    ensures says { result_map_both row_data (λ kind. kind) result
         ≡ read_in (fields_of row.now) }
     ensures in_range { IfOk result (λ row. row.at ≤ MAX_MOMENT) }
     ensures in_time { IfOk result (λ row. is_in_time (happens_of row.what) ≡ true) }

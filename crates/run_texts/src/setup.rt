@@ -1,14 +1,14 @@
 //! The setup table of a run: its accounts and its subscribers.
 
 ghost use Rattle.std.specs.Prelude.{◌≡◌, ◌≤◌, ◌+◌, IfOk, IfSome, OnOk, length};
-ghost use Rattle.run_texts.specs.Entries.{Enters, entry_fault_of};
+ghost use Rattle.run_texts.specs.ListedRows.{ListsRow, list_fault_of};
 ghost use Rattle.run_texts.specs.Setups.{account_row, setup_row_at, table_setup_of, subscriber_row};
 ghost use Rattle.run_texts.specs.Views.{setup_in};
 ghost use Rattle.csv.specs.Records.{fields_of};
 ghost use Rattle.table_core.specs.Faults.{GivesTable};
 ghost use Rattle.table_core.specs.Rows.{rows_of};
 ghost use Rattle.run_values.specs.Setups.{ListingIsWithin};
-ghost use Rattle.run_texts.specs.declared.setup.EntryFault.TheVariants as out;
+ghost use Rattle.run_texts.specs.declared.setup.ListFault.TheVariants as out;
 
 use crate::fields::{account, amount, is_left_out, party, until};
 use csv::ByteRecord;
@@ -43,46 +43,46 @@ pub fn read_setup<I: Read + Drop>(alloc: Global, reader: I) -> Result<Directory,
     let mut table = Table::open(alloc, reader, headers, MAX_ROWS)?;
     let mut directory = Directory::new(alloc);
     while table.next_row()? {
-        match enter(&mut directory, table.row()) {
+        match list_row(&mut directory, table.row()) {
             Ok(()) => {}
-            Err(EntryFault::Row(kind)) => return Err(table.fault(kind)),
-            Err(EntryFault::OutOfMemory) => return Err(TableFault::OutOfMemory),
+            Err(ListFault::Row(kind)) => return Err(table.fault(kind)),
+            Err(ListFault::OutOfMemory) => return Err(TableFault::OutOfMemory),
         }
     }
     Ok(directory)
 }
 
-/// Enters what a row names.
+/// Lists what a row names.
 #[tactic(auto, unfolding(crate::specs::Setups::setup_row_at))]
-fn enter(directory: &mut Directory, row: &ByteRecord) -> Result<(), EntryFault>
+fn list_row(directory: &mut Directory, row: &ByteRecord) -> Result<(), ListFault>
     requires fields { 3 ≤ length (fields_of row.now) }
     requires few { length directory.old.accounts ≤ 1000 }
-    ensures means { Enters result (setup_in directory.new)
+    ensures means { ListsRow result (setup_in directory.new)
         (setup_row_at (setup_in directory.old) (fields_of row.now)) }
     ensures few { OnOk result (length directory.new.accounts ≤ 1000) }
     ensures count { OnOk result (length directory.new.accounts + length directory.new.subscribers
         ≡ length directory.old.accounts + length directory.old.subscribers + 1) }
 {
     if is_word(row, 0, "account") {
-        enter_account(directory, row)
+        list_account(directory, row)
     } else if is_word(row, 0, "subscriber") {
-        enter_subscriber(directory, row)
+        list_subscriber(directory, row)
     } else {
-        Err(EntryFault::Row(RowKind::What))
+        Err(ListFault::Row(RowKind::What))
     }
 }
 
-fn enter_account(directory: &mut Directory, row: &ByteRecord) -> Result<(), EntryFault>
+fn list_account(directory: &mut Directory, row: &ByteRecord) -> Result<(), ListFault>
     requires fields { 3 ≤ length (fields_of row.now) }
     requires few { length directory.old.accounts ≤ 1000 }
-    ensures means { Enters result (setup_in directory.new)
+    ensures means { ListsRow result (setup_in directory.new)
         (account_row (setup_in directory.old) (fields_of row.now)) }
     ensures few { OnOk result (length directory.new.accounts ≤ 1000) }
     ensures count { OnOk result (length directory.new.accounts + length directory.new.subscribers
         ≡ length directory.old.accounts + length directory.old.subscribers + 1) }
 {
     if directory.account_count() >= MAX_ACCOUNTS {
-        return Err(EntryFault::Row(RowKind::TooManyRows));
+        return Err(ListFault::Row(RowKind::TooManyRows));
     }
     let number = account(row, 1)?;
     let opening = OpeningCredit {
@@ -93,10 +93,10 @@ fn enter_account(directory: &mut Directory, row: &ByteRecord) -> Result<(), Entr
     Ok(())
 }
 
-fn enter_subscriber(directory: &mut Directory, row: &ByteRecord) -> Result<(), EntryFault>
+fn list_subscriber(directory: &mut Directory, row: &ByteRecord) -> Result<(), ListFault>
     requires fields { 3 ≤ length (fields_of row.now) }
     requires few { length directory.old.accounts ≤ 1000 }
-    ensures means { Enters result (setup_in directory.new)
+    ensures means { ListsRow result (setup_in directory.new)
         (subscriber_row (setup_in directory.old) (fields_of row.now)) }
     ensures few { OnOk result (length directory.new.accounts ≤ 1000) }
     ensures count { OnOk result (length directory.new.accounts + length directory.new.subscribers
@@ -105,38 +105,38 @@ fn enter_subscriber(directory: &mut Directory, row: &ByteRecord) -> Result<(), E
     let number = party(row, 1)?;
     let account = account(row, 2)?;
     if !is_left_out(row, 3) {
-        return Err(EntryFault::Row(RowKind::Empty));
+        return Err(ListFault::Row(RowKind::Empty));
     }
     directory.subscriber(number, account)?;
     Ok(())
 }
 
-/// Why a row of a setup isn't entered.
+/// Why what a row of a setup names isn't listed.
 #[derive(Clone, Copy, Debug)]
-enum EntryFault {
+enum ListFault {
     /// The row has a fault.
     Row(RowKind),
     /// Memory ran out.
     OutOfMemory,
 }
 
-impl From<RowKind> for EntryFault {
+impl From<RowKind> for ListFault {
     ghost from_gives = { λ kind fault. fault ≡ out.Row kind };
 
-    fn from(kind: RowKind) -> EntryFault {
-        EntryFault::Row(kind)
+    fn from(kind: RowKind) -> ListFault {
+        ListFault::Row(kind)
     }
 }
 
-impl From<SetupFault> for EntryFault {
-    ghost from_gives = { λ why fault. fault ≡ entry_fault_of why };
+impl From<SetupFault> for ListFault {
+    ghost from_gives = { λ why fault. fault ≡ list_fault_of why };
 
-    fn from(fault: SetupFault) -> EntryFault {
+    fn from(fault: SetupFault) -> ListFault {
         match fault {
-            SetupFault::Repeated => EntryFault::Row(RowKind::Repeated),
-            SetupFault::Unknown => EntryFault::Row(RowKind::Unknown),
-            SetupFault::OutOfRange => EntryFault::Row(RowKind::Number),
-            SetupFault::OutOfMemory => EntryFault::OutOfMemory,
+            SetupFault::Repeated => ListFault::Row(RowKind::Repeated),
+            SetupFault::Unknown => ListFault::Row(RowKind::Unknown),
+            SetupFault::OutOfRange => ListFault::Row(RowKind::Number),
+            SetupFault::OutOfMemory => ListFault::OutOfMemory,
         }
     }
 }

@@ -39,7 +39,7 @@ fn expect_records<R: Abort + AllocGlobal + Wait + Threads + Sync>(
 }
 
 #[test]
-fn records_tell_what_no_script_makes(rt: HostRuntime) -> Result<(), Fail> {
+fn records_say_what_no_script_makes(rt: HostRuntime) -> Result<(), Fail> {
     let forfeited = [
         (begun(1, "491700001", "4930")?, None),
         (of_call(1, notified(Event::Answer)), None),

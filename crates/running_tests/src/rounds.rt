@@ -86,9 +86,9 @@ impl Driver for Rounds<'_> {
 
     ghost ended = { λ driver. driver.ended };
 
-    ghost Plan = { Unit {0} };
+    ghost Agenda = { Unit {0} };
 
-    ghost plan = { λ _. tt };
+    ghost agenda = { λ _. tt };
 
     fn given(&self) -> &[(u64, Body)] {
         self.given.as_slice()

@@ -153,7 +153,7 @@ fn setup_of(alloc: Global, rows: &str) -> Result<String, AllocError> {
 }
 
 #[test]
-fn tells_the_first_fault_of_a_table(rt: HostRuntime) -> Result<(), Fail> {
+fn names_the_first_fault_of_a_table(rt: HostRuntime) -> Result<(), Fail> {
     for (rows, wanted) in SETUPS {
         let text = setup_of(rt.alloc(), rows)?;
         expect_setup(&rt, rt.alloc(), text.as_str(), wanted);

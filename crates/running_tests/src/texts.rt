@@ -1,8 +1,8 @@
-//! Inputs that are divided, and the tables of their parts that are read.
+//! Inputs that are divided, and the tables of their sections that are read.
 
 use crate::setups::list;
 use cap_values::{Leg, Number};
-use run_texts::{Happening, Parts, ScriptRow, divide, read_script, read_setup};
+use run_texts::{Happening, ScriptRow, Sections, divide, read_script, read_setup};
 use ssf_core::BcsmEvent;
 use std::io::{self, ErrorKind, Read};
 use std::test::Fail;
@@ -23,7 +23,7 @@ const DIVIDED: [(&[u8], &[u8], &[u8], &[u8]); 7] = [
     (b"%%,\n%%\n %%\n%%\n", b"%%,\n", b" %%\n", b""),
 ];
 
-/// Inputs that haven't three parts.
+/// Inputs that haven't three sections.
 const UNDIVIDED: [&[u8]; 11] = [
     b"",
     b"a\nb\n",
@@ -41,7 +41,7 @@ const UNDIVIDED: [&[u8]; 11] = [
 #[test]
 fn divides_an_input(rt: HostRuntime) {
     for (input, tariff, setup, script) in DIVIDED {
-        let want = Parts {
+        let want = Sections {
             tariff,
             setup,
             script,
@@ -60,7 +60,7 @@ fn row(at: u64, what: Happening) -> ScriptRow {
 #[test]
 fn reads_a_whole_run(rt: HostRuntime) -> Result<(), Fail> {
     let Some(
-        Parts {
+        Sections {
             tariff,
             setup,
             script,
@@ -157,7 +157,7 @@ impl Read for Failing<'_> {
 }
 
 #[test]
-fn tells_a_reader_that_fails(rt: HostRuntime) -> Result<(), Fail> {
+fn names_a_reader_that_fails(rt: HostRuntime) -> Result<(), Fail> {
     let setup = b"kind,key,value\naccount,7,1\n";
     for length in 0..setup.len() {
         let bytes = &setup[..length];

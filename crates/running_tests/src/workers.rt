@@ -49,7 +49,7 @@ fn entered(worker: &Worker<'_, SharedAccount>) -> Option<(usize, u64)> {
 }
 
 /// A post's number and body, the operations of its answer, whether it is a stray, and the last
-/// fault that an ask got; and what was entered by then, where that is told.
+/// fault that an ask got; and what was entered by then, where that is said.
 type Row<'a> = (
     u64,
     Body,
@@ -192,7 +192,7 @@ fn gates_are_asked_for_calls_alone(rt: HostRuntime) -> Result<(), Fail> {
     let stray = of_call(1, SsfMsg::Ended);
     let closed = Some(WorkerFault::GateClosed);
     // What the gate lets pass before messages and inside accounts, the posts, the fault, and how
-    // many messages the gate was asked for and told of.
+    // many messages the gate was asked for and heard of.
     let rows: [(
         (u32, u32),
         Body,

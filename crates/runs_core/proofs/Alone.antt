@@ -6,7 +6,7 @@ use Rattle.std.proofs.lemmas.Bool.{eq-eqb}
 use Rattle.std.proofs.lemmas.List.{get_or-map, length-map}
 use Rattle.std.proofs.lemmas.List.Elements.{All-cons, All-contains, All-head, All-nil, All-same}
 use Rattle.account_core.specs.Asked.{Asked, Credits, Reserves, Returns, Settles}
-use Rattle.account_core.specs.Events.{EntryData}
+use Rattle.account_core.specs.Entries.{EntryData}
 use Rattle.cap_values.specs.declared.message.SsfMsg.TheVariants.{InitialDp, EventReport, ChargingReport, Ended}
 use Rattle.run_values.specs.declared.post.Body.{Body}
 use Rattle.run_values.specs.declared.post.Body.TheVariants.{Ssf, Recharge}
@@ -22,7 +22,7 @@ use Rattle.runs_core.proofs.InBooks.{lists_worked}
 use Rattle.runs_core.proofs.Listed.{all_joined, all_part, all_passing, all_pieces, all_unmapped}
 use Rattle.runs_core.proofs.HandOuts.{agrees}
 use Rattle.runs_core.specs.Closing.{StoodAt, lists_of}
-use Rattle.runs_core.specs.Entered.{RunCallsAreOfOneWorker, RunClosingIsNeverRefused}
+use Rattle.runs_core.specs.Entered.{RunCallsAreOfOneWorker, RunOwedIsNeverRefused}
 use Rattle.runs_core.specs.Shares.{Item, item_of, numbered, share, worker_of}
 
 -- ---- the share of a worker
@@ -72,13 +72,13 @@ module _ (workers worker : ℕ) where
   one_its (Returns other) call held settled is = subst Its (agrees other call is) (All-head Its other [] held)
 
   mine_its : (account : ℕ) (posts : List Post) (mine : List EntryData) → IsServed account posts mine → All (λ post. worker_of workers post.body ≡ worker) posts
-      → All (λ event. (call : ℕ) → asks_of_call call event.asked ≡ true → call % workers ≡ worker) mine
+      → All (λ entry. (call : ℕ) → asks_of_call call entry.asked ≡ true → call % workers ≡ worker) mine
   mine_its account posts mine served goes =
       let begun : All Its (begun_of posts) = all_joined Its (λ (post : Post). begun_by post.body) posts (λ k d within. begun_its (slice_index_or posts k d).body (goes k d within)) in
       let reported : All ItsReport (reports_of posts) =
       all_joined ItsReport (λ (post : Post). reported_in post.number post.body) posts (λ k d within. reported_its (slice_index_or posts k d).number (slice_index_or posts k d).body (goes k d within)) in
-      let held = all_pieces Its (λ (event : EntryData). held_in event.asked) mine (λ k d within. All-contains Its (begun_of posts) (slice_index_or (held_calls_of mine) k d) begun (served.calls k d within)) in
-      let settled = all_pieces ItsReport (λ (event : EntryData). settled_in event.asked) mine (all_part ItsReport (settles_of mine) (reports_of posts) served.settles reported) in
+      let held = all_pieces Its (λ (entry : EntryData). held_in entry.asked) mine (λ k d within. All-contains Its (begun_of posts) (slice_index_or (held_calls_of mine) k d) begun (served.calls k d within)) in
+      let settled = all_pieces ItsReport (λ (entry : EntryData). settled_in entry.asked) mine (all_part ItsReport (settles_of mine) (reports_of posts) served.settles reported) in
       λ k d within call is. one_its (slice_index_or mine k d).asked call (held k d within) (settled k d within) is
 
 -- ---- in the books
@@ -93,8 +93,8 @@ served_list (account ∷ accounts) posts (mine ∷ lists) (suc place) are within
 pub calls_of_one : (Stood : Closed → ℕ → Knowing) → EntriesComeFromPosts → RunCallsAreOfOneWorker Stood
 calls_of_one Stood come setup workers given answers books run = λ place d within call k e here is.
     let book : Closed = slice_index_or books place d in
-    let event : EntryData = slice_index_or book.history k e in
-    let seat : ℕ = event.seat in
+    let entry : EntryData = slice_index_or book.history k e in
+    let seat : ℕ = entry.seat in
     let its = run.answered seat (run.owned place d within k e here) in
     let are = come setup seat its.posts _ (lists_of seat books) (lists_worked Stood setup workers given answers books seat its) in
     let served = served_list (keys_of setup.accounts) its.posts (lists_of seat books) place are (omega (arith, within, length-map books (λ (b : Closed). own seat b.history))) in
@@ -105,8 +105,8 @@ calls_of_one Stood come setup workers given answers books run = λ place d withi
     let all = mine_its workers seat served.0 its.posts (own seat book.history) mine (posts_its workers seat given its.posts its.share) in
     sym (all_passing (λ (other : EntryData). other.seat == seat) By book.history all k e here (eq-eqb seat seat refl) call is)
 
-pub closing_never : EntriesComeFromPosts → CallsOfOneSeatAreAlone → RunClosingIsNeverRefused
-closing_never come alone setup workers given answers books call run =
+pub owed_never : EntriesComeFromPosts → CallsOfOneSeatAreAlone → RunOwedIsNeverRefused
+owed_never come alone setup workers given answers books call run =
     never_refused (StoodAt StoodIn books (call % workers)) call (λ place mine refusal was.
     let By : Closed → Type 0 = λ b. IsBySeat b (call % workers) call in
     let by_it : By was.book = subst By (sym was.book_is) (calls_of_one StoodIn come setup workers given answers books run place was.book was.within call) in

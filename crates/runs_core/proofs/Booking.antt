@@ -4,7 +4,7 @@ use Rattle.std.specs.Prelude.{All, replicate, slice_index_or}
 use Rattle.std.proofs.lemmas.List.{get_or-map, length-map}
 use Rattle.std.proofs.lemmas.List.Elements.{All-cons, All-head, All-nil, All-tail}
 use Rattle.account_core.specs.Answers.{IsLegal}
-use Rattle.account_core.specs.Events.{EntryData}
+use Rattle.account_core.specs.Entries.{EntryData}
 use Rattle.shared_account.specs.Closed.{Closed}
 use Rattle.shared_account.specs.Own.{own}
 use Rattle.shared_account.specs.Refusals.{Knowing, Refusal}
@@ -49,15 +49,15 @@ module _ {K S T : Type 0} (read : Reads K T) (Was : T → Knowing) (Stood : Clos
 
   -- there are no entries but those of the workers
   pub books_owned : (workers : ℕ) (accounts : List S) (rows : List (List T)) (books : List Closed) → AreBooksOfSeats read Was Stood (map terms accounts) rows books → AreEven workers rows
-      → All (λ book. All (λ event. event.seat < workers) book.history) books
-  books_owned workers [] rows [] are even = All-nil (λ book. All (λ event. event.seat < workers) book.history)
+      → All (λ book. All (λ entry. entry.seat < workers) book.history) books
+  books_owned workers [] rows [] are even = All-nil (λ book. All (λ entry. entry.seat < workers) book.history)
   books_owned workers [] rows (book ∷ books) are even = absurd are
   books_owned workers (account ∷ accounts) rows [] are even = absurd are
   books_owned workers (account ∷ accounts) [] (book ∷ books) are even = absurd are
   books_owned workers (account ∷ accounts) (row ∷ rows) (book ∷ books) are even =
       let many : length (map read.mine row) ≡ workers = length-map row read.mine ∙ even.0 in
-      let its : All (λ event. event.seat < workers) book.history = λ k d within. let less = are.0.merged.no_others k d within in omega (arith, less, many) in
-      All-cons (λ book. All (λ event. event.seat < workers) book.history) book books its (books_owned workers accounts rows books are.2 even.1)
+      let its : All (λ entry. entry.seat < workers) book.history = λ k d within. let less = are.0.merged.no_others k d within in omega (arith, less, many) in
+      All-cons (λ book. All (λ entry. entry.seat < workers) book.history) book books its (books_owned workers accounts rows books are.2 even.1)
 
   -- a worker's own entries are those of its seats
   listed : (workers worker : ℕ) → worker < workers → (d : T) (accounts : List S) (rows : List (List T)) (books : List Closed) → AreBooksOfSeats read Was Stood (map terms accounts) rows books → AreEven workers rows

@@ -3,7 +3,7 @@ use Rattle.std.proofs.Common.{◌≡◌, ◌<◌, ◌∙◌, ℕ, zero, suc, Lis
 use Rattle.std.specs.Map.{keys_of}
 use Rattle.std.specs.Prelude.{slice_index_or}
 use Rattle.std.proofs.lemmas.List.{get_or-map}
-use Rattle.account_core.specs.Events.{EntryData}
+use Rattle.account_core.specs.Entries.{EntryData}
 use Rattle.runs_core.specs.Closing.{lists_of}
 use Rattle.runs_core.specs.Entered.{IsBookAt, RechargesAreInTheBooks, ReservesAreInTheBooks, RunEntriesAreServed, RunListsAreWorked}
 use Rattle.shared_account.specs.Closed.{Closed}
@@ -42,7 +42,7 @@ module _ (Stood : Closed → ℕ → Knowing) where
 
   pub reserves_in_books : ReservesAreOnTerms → ReservesAreInTheBooks Stood
   reserves_in_books terms setup workers given answers books worker account place book is at =
-      subst (λ (mine : List EntryData). All (λ event. IsOnTerms setup place is.posts event.asked) mine) (list_in setup books worker account place book at)
+      subst (λ (mine : List EntryData). All (λ entry. IsOnTerms setup place is.posts entry.asked) mine) (list_in setup books worker account place book at)
       (terms setup worker place is.posts _ (lists_of worker books) (lists_worked setup workers given answers books worker is))
 
   pub entries_served : EntriesComeFromPosts → RunEntriesAreServed Stood

@@ -3,7 +3,7 @@ use Rattle.std.proofs.Common.{◌≡◌, ◌<◌, ◌∙◌, ℕ, Bool, List, []
 use Rattle.std.specs.Global.{Vec}
 use Rattle.std.specs.Prelude.{All, Err, IfOk, Ok, Result, slice_index_or}
 use Rattle.account_core.specs.Answers.{IsLegal}
-use Rattle.account_core.specs.Events.{EntryData}
+use Rattle.account_core.specs.Entries.{EntryData}
 use Rattle.shared_account.specs.Closed.{Closed}
 use Rattle.shared_account.specs.Refusals.{Knowing}
 use Rattle.shared_account.specs.Seats.{Reads}
@@ -35,7 +35,7 @@ shown_by read Was Stood keys setup worker posts answers team books left shown =
 -- where there are books
 pub run_so : {D K T : Type 0} (given : D → List (ℕ × Body)) (ended : D → Bool) (hears : D → List Answer → D → Type 0) (read : Reads K T) (Was : T → Knowing) (Stood : Closed → ℕ → Knowing) (keys : List K) (setup : Setup) (workers many : ℕ) (old new : D) (teams : List (List T)) (terms : List Terms) (books : List Closed)
     → workers ≡ many → HasLeft given ended hears read Was keys setup workers old new teams → terms ≡ terms_of setup.limit workers setup.accounts
-    → map (terms_shown many) books ≡ terms → All (λ book. IsLegal book.opening book.until book.history) books → All (λ book. All (λ event. event.seat < many) book.history) books
+    → map (terms_shown many) books ≡ terms → All (λ book. IsLegal book.opening book.until book.history) books → All (λ book. All (λ entry. entry.seat < many) book.history) books
     → ((worker : ℕ) → worker < many → IsInBooks read Was Stood books worker (slice_index_or teams worker []))
     → HasRun given ended hears Stood setup workers old new books
 run_so given ended hears read Was Stood keys setup workers many old new teams terms books all_there has opened shown legal owned in_them = record {
@@ -62,7 +62,7 @@ run_so given ended hears read Was Stood keys setup workers many old new teams te
 pub run_if : {D K T : Type 0} (given : D → List (ℕ × Body)) (ended : D → Bool) (hears : D → List Answer → D → Type 0) (read : Reads K T) (Was : T → Knowing) (Stood : Closed → ℕ → Knowing) (keys : List K) (setup : Setup) (workers many : ℕ) (old new : D) (teams : List (List T)) (terms : List Terms) (result : Result (Vec Closed) RunFault)
     → workers ≡ many → HasLeft given ended hears read Was keys setup workers old new teams → terms ≡ terms_of setup.limit workers setup.accounts
     → IfOk result (λ books. map (terms_shown many) books.items ≡ terms) → IfOk result (λ books. All (λ book. IsLegal book.opening book.until book.history) books.items)
-    → IfOk result (λ books. All (λ book. All (λ event. event.seat < many) book.history) books.items)
+    → IfOk result (λ books. All (λ book. All (λ entry. entry.seat < many) book.history) books.items)
     → IfOk result (λ books. (worker : ℕ) → worker < many → IsInBooks read Was Stood books.items worker (slice_index_or teams worker []))
     → IfOk result (λ books. HasRun given ended hears Stood setup workers old new books.items)
 run_if given ended hears read Was Stood keys setup workers many old new teams terms (Err fault) all_there has opened shown legal owned in_them = tt

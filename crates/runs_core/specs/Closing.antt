@@ -1,6 +1,6 @@
 -- The accounts of a run are closed: what their books show of the workers.
 use Rattle.std.specs.Prelude.{◌≡◌, ◌+◌, ◌<◌, ℕ, true, List, [], ◌∷◌, length, map, All, slice_index_or}
-use Rattle.account_core.specs.Events.{EntryData}
+use Rattle.account_core.specs.Entries.{EntryData}
 use Rattle.shared_account.specs.Closed.{Closed, IsBookOf}
 use Rattle.shared_account.specs.Own.{own}
 use Rattle.shared_account.specs.Refusals.{IsRefusedAt, Knowing, Refusal}

@@ -10,7 +10,7 @@ use Rattle.shared_account.specs.Seen.{IsBySeat, StoodIn}
 use Rattle.workers_core.specs.Chains.{IsWorked, refusals_in}
 use Rattle.workers_core.specs.Handled.{answer_view}
 use Rattle.workers_core.specs.Laws.{IsOnTerms, accepted_of}
-use Rattle.workers_core.specs.Refusals.{NeverRefusesClosing}
+use Rattle.workers_core.specs.Refusals.{NeverRefusesOwed}
 use Rattle.workers_core.specs.Served.{IsServed, credits_of}
 use Rattle.run_values.specs.Setups.{Setup, place_of}
 use Rattle.run_values.specs.declared.post.Answer.{Answer}
@@ -47,7 +47,7 @@ abbrev pub ReservesAreInTheBooks : (Closed → ℕ → Knowing) → Type 0
 ReservesAreInTheBooks Stood =
     (setup : Setup) (workers : ℕ) (given : List (ℕ × Body)) (answers : List Answer) (books : List Closed) (worker account place : ℕ) (book : Closed)
     → (is : IsAnsweredBy Stood setup workers given answers books worker) → IsBookAt setup books account place book
-    → All (λ event. IsOnTerms setup place is.posts event.asked) (own worker book.history)
+    → All (λ entry. IsOnTerms setup place is.posts entry.asked) (own worker book.history)
 
 -- in the books of a run each entry of a call is by one worker, that of the call's remainder
 abbrev pub RunCallsAreOfOneWorker : (Closed → ℕ → Knowing) → Type 0
@@ -55,8 +55,8 @@ RunCallsAreOfOneWorker Stood =
     (setup : Setup) (workers : ℕ) (given : List (ℕ × Body)) (answers : List Answer) (books : List Closed) → IsRun Stood setup workers given answers books
     → All (λ book. (call : ℕ) → IsBySeat book (call % workers) call) books
 
--- in a run over accounts by turns, what closes a call by its worker's own entries is never refused
-abbrev pub RunClosingIsNeverRefused : Type 0
-RunClosingIsNeverRefused =
+-- in a run over accounts by turns, what a call is owed by its worker's own entries is never refused
+abbrev pub RunOwedIsNeverRefused : Type 0
+RunOwedIsNeverRefused =
     (setup : Setup) (workers : ℕ) (given : List (ℕ × Body)) (answers : List Answer) (books : List Closed) (call : ℕ) → IsRun StoodIn setup workers given answers books
-    → NeverRefusesClosing (refuses_in StoodIn books (call % workers)) call
+    → NeverRefusesOwed (refuses_in StoodIn books (call % workers)) call

@@ -1,6 +1,6 @@
 -- A worker goes on: the posts that it handles, one after another, and its answers.
 use Rattle.std.specs.Prelude.{◌≡◌, ℕ, List, map}
-use Rattle.account_core.specs.Events.{EntryData}
+use Rattle.account_core.specs.Entries.{EntryData}
 use Rattle.shared_account.specs.Refusals.{Knowing, Refusal}
 use Rattle.shared_account.specs.Seats.{Reads}
 use Rattle.workers_core.specs.Chains.{AreAnswered, at_first, seat_numbers}

@@ -2,7 +2,7 @@
 use Rattle.std.specs.Prelude.{◌≡◌, ◌+◌, ◌≤◌, ℕ, false, Some, List, ◌++◌, reverse}
 use Rattle.account_core.specs.Answers.{IsLegal}
 use Rattle.account_core.specs.Available.{credits, taken_by_all}
-use Rattle.account_core.specs.Events.{EntryData}
+use Rattle.account_core.specs.Entries.{EntryData}
 use Rattle.account_core.specs.Known.{known}
 use Rattle.account_core.specs.Laws.{AreReported, IsClosed, last_report, paid_at_return}
 use Rattle.shared_account.specs.Closed.{Closed}

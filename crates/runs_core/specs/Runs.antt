@@ -17,7 +17,7 @@ pub record IsRun (Stood : Closed → ℕ → Knowing) (setup : Setup) (workers :
   -- each history is legal from that credit
   pub legal : All (λ book. IsLegal book.opening book.until book.history) books
   -- and each entry is of one of the workers
-  pub owned : All (λ book. All (λ event. event.seat < workers) book.history) books
+  pub owned : All (λ book. All (λ entry. entry.seat < workers) book.history) books
   -- there is one answer for each item, in order
   pub each_heard : AnswersEach 0 given answers
   -- and each worker has answered its share: its entries and its answers are what handling that comes to

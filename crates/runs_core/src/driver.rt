@@ -7,9 +7,9 @@ use tariff_core::HORIZON;
 /// Gives the posts of a run, round by round.
 ///
 /// A driver stores all that it has given, in order, each with its moment in units of 100 ms, and
-/// whether it has ended. It states a plan, which no round changes; of one that has none it is `tt`.
-/// It may state what it becomes by the answers that it hears in a round; what it says of that,
-/// `serve` says of all the rounds of a run.
+/// whether it has ended. It states an agenda, which no round changes; of one that has none it is
+/// `tt`. It may state what it becomes by the answers that it hears in a round; what it says of
+/// that, `serve` says of all the rounds of a run.
 pub trait Driver {
     ghost use Rattle.std.specs.Prelude.{◌≡◌, ◌≤◌, ◌++◌, ℕ, List, Bool, not, false, All, IfOk};
     ghost use Rattle.run_values.specs.declared.post.Answer.{Answer};
@@ -19,9 +19,9 @@ pub trait Driver {
 
     ghost ended: { Self → Bool };
 
-    ghost Plan: { Type 0 } = { Unit {0} };
+    ghost Agenda: { Type 0 } = { Unit {0} };
 
-    ghost plan: { Self → Self.Plan };
+    ghost agenda: { Self → Self.Agenda };
 
     ghost hears: { Self → List Answer → Self → Type 0 } = { λ _ _ _. Unit {0} };
 
@@ -42,6 +42,6 @@ pub trait Driver {
             (added : List (ℕ × Body)) × (given self.new ≡ given self.old ++ added)) }
         ensures ended { IfOk result (λ more. ended self.new ≡ not more) }
         ensures end { IfOk result (λ more. more ≡ false → given self.new ≡ given self.old) }
-        ensures plan { Self.plan self.new ≡ Self.plan self.old }
+        ensures agenda { Self.agenda self.new ≡ Self.agenda self.old }
         ensures hears { IfOk result (λ _. hears self.old answers.now self.new) };
 }

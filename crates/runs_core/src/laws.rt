@@ -1,7 +1,7 @@
 //! The laws of the books of a run, each the contract of a function that does nothing.
 
 ghost use Rattle.std.specs.Prelude.{◌≡◌};
-ghost use Rattle.runs_core.specs.Entered.{RechargesAreInTheBooks, ReservesAreInTheBooks, RunCallsAreOfOneWorker, RunClosingIsNeverRefused, RunEntriesAreServed, RunListsAreWorked};
+ghost use Rattle.runs_core.specs.Entered.{RechargesAreInTheBooks, ReservesAreInTheBooks, RunCallsAreOfOneWorker, RunOwedIsNeverRefused, RunEntriesAreServed, RunListsAreWorked};
 ghost use Rattle.runs_core.specs.Headline.{BooksAreRight};
 
 use account_core::{closed_calls_pay_the_tariff, no_balance_is_negative};
@@ -65,8 +65,8 @@ pub fn run_calls_are_of_one_worker<S: Shared>()
 
 /// In a run over accounts by turns no Return of a call that its worker's own entries show open is
 /// refused, and no first Settle since its last grant.
-pub fn run_closing_is_never_refused()
-    ensures { RunClosingIsNeverRefused }
+pub fn run_owed_is_never_refused()
+    ensures { RunOwedIsNeverRefused }
 {
     entries_come_from_posts();
     calls_of_one_seat_are_alone();

@@ -16,8 +16,8 @@ mod worker_link;
 pub use driver::Driver;
 pub use laws::{
     books_are_right, recharges_are_in_the_books, reserves_are_in_the_books,
-    run_calls_are_of_one_worker, run_closing_is_never_refused, run_entries_are_served,
-    run_lists_are_worked,
+    run_calls_are_of_one_worker, run_entries_are_served, run_lists_are_worked,
+    run_owed_is_never_refused,
 };
 pub use run_fault::RunFault;
 pub use serving::{serve, serve_over};

@@ -34,7 +34,7 @@ pub(crate) fn play<D: Driver, S: Shared, R: Wait, G: Gate>(
         (setup_of crew.old.worker) (accounts_of crew.old.worker) [] [] crew.old }
     requires works { crew.old.failed ≡ None }
     ensures ended { OnOk result (D.ended driver.new ≡ true) }
-    ensures plan { D.plan driver.new ≡ D.plan driver.old }
+    ensures agenda { D.agenda driver.new ≡ D.agenda driver.old }
     ensures played { OnOk result (HasPlayed D.given D.ended D.hears
         (number_by S.terms) S.key S.reads S.was
         (setup_of crew.old.worker) (accounts_of crew.old.worker)
@@ -66,7 +66,7 @@ fn play_round<D: Driver, S: Shared, R: Wait, G: Gate>(
     requires ready { IsReady (number_by S.terms) S.key S.reads crew.old.worker }
     requires works { crew.old.failed ≡ None }
     ensures ended { IfOk result (λ more. D.ended driver.new ≡ not more) }
-    ensures plan { D.plan driver.new ≡ D.plan driver.old }
+    ensures agenda { D.agenda driver.new ≡ D.agenda driver.old }
     ensures more { result ≡ Ok true → (added : List (ℕ × Body))
         × (D.given driver.new ≡ D.given driver.old ++ added)
         × IsServedRound (number_by S.terms) S.key S.reads S.was

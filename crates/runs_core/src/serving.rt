@@ -42,7 +42,7 @@ const MAX_WORKERS: u32 = 16;
 /// * `run`: in each round the driver hears what handling the items of the round before gave, and
 ///   the books are what handling all that it has given comes to. `HasRun` says what that is, a
 ///   sentence each.
-/// * `ended`, `plan`: with books the driver has ended, and always its plan is what it was.
+/// * `ended`, `agenda`: with books the driver has ended, and always its agenda is what it was.
 /// * `workers`, `nothing`: `Workers` exactly where there can't be so many workers; then nothing is
 ///   started.
 /// * `gate`: `GateClosed` only with a gate that may answer false.
@@ -61,7 +61,7 @@ pub fn serve<D: Driver, R: Wait + Threads + Sync, G: Gate + Sync>(
     ensures run { IfOk result (λ books. HasRun D.given D.ended D.hears StoodIn
         setup.now workers driver.old driver.new books.items) }
     ensures ended { OnOk result (D.ended driver.new ≡ true) }
-    ensures plan { D.plan driver.new ≡ D.plan driver.old }
+    ensures agenda { D.agenda driver.new ≡ D.agenda driver.old }
     ensures workers { (result ≡ Err RunFault.Workers) ↔ (are_workers workers ≡ false) }
     ensures nothing { result ≡ Err RunFault.Workers → driver.new ≡ driver.old }
     ensures gate { result ≡ Err RunFault.GateClosed → G.may_shut gate.now }
@@ -82,7 +82,7 @@ pub fn serve_over<D: Driver, S: Shared, R: Wait + Threads + Sync, G: Gate + Sync
     ensures run { IfOk result (λ books. HasRun D.given D.ended D.hears S.stood
         setup.now workers driver.old driver.new books.items) }
     ensures ended { OnOk result (D.ended driver.new ≡ true) }
-    ensures plan { D.plan driver.new ≡ D.plan driver.old }
+    ensures agenda { D.agenda driver.new ≡ D.agenda driver.old }
     ensures workers { (result ≡ Err RunFault.Workers) ↔ (are_workers workers ≡ false) }
     ensures nothing { result ≡ Err RunFault.Workers → driver.new ≡ driver.old }
     ensures gate { result ≡ Err RunFault.GateClosed → G.may_shut gate.now }
@@ -118,7 +118,7 @@ fn run_workers<D: Driver, S: Shared, R: Wait + Threads + Sync, G: Gate + Sync>(
     requires fresh { AreFresh S.reads
         (map S.key accounts.now) 0 (map (λ team. team.items) teams.items) }
     ensures ended { OnOk result (D.ended driver.new ≡ true) }
-    ensures plan { D.plan driver.new ≡ D.plan driver.old }
+    ensures agenda { D.agenda driver.new ≡ D.agenda driver.old }
     ensures left { IfOk result (λ left. HasLeft D.given D.ended D.hears
         S.reads S.was (map S.key accounts.now) setup.now (length teams.items)
         driver.old driver.new (map (λ team. team.items) left.items)) }
@@ -134,7 +134,7 @@ fn run_workers<D: Driver, S: Shared, R: Wait + Threads + Sync, G: Gate + Sync>(
                 × AreFresh S.reads
                 (map S.key accounts.now) 0 (map (λ team. team.items) teams.items) }
             ensures { (result.driver.ghost_name ≡ driver.entry.ghost_name)
-                × (D.plan result.driver.now ≡ D.plan driver.entry.now)
+                × (D.agenda result.driver.now ≡ D.agenda driver.entry.now)
                 × OnOk result.left (D.ended result.driver.now ≡ true)
                 × IfOk result.left (λ left. HasLeft D.given D.ended D.hears
                 S.reads S.was (map S.key accounts.entry.now) setup.entry.now (length teams.items)
@@ -169,7 +169,7 @@ fn run_in<'s, E, D: Driver, S: Shared, R: Wait + Threads + Sync, G: Gate + Sync>
     requires fresh { AreFresh S.reads
         (map S.key accounts.now) 0 (map (λ team. team.items) teams.items) }
     ensures ended { OnOk result (D.ended driver.new ≡ true) }
-    ensures plan { D.plan driver.new ≡ D.plan driver.old }
+    ensures agenda { D.agenda driver.new ≡ D.agenda driver.old }
     ensures left { IfOk result (λ left. HasLeft D.given D.ended D.hears
         S.reads S.was (map S.key accounts.now) setup.now (length teams.items)
         driver.old driver.new (map (λ team. team.items) left.items)) }
@@ -237,7 +237,7 @@ fn start_and_play<'s, E, D: Driver, S: Shared, R: Wait + Threads + Sync, G: Gate
     requires works { crew.old.failed ≡ None }
     requires none { crew.old.links.items ≡ [] }
     ensures ended { OnOk result (D.ended driver.new ≡ true) }
-    ensures plan { D.plan driver.new ≡ D.plan driver.old }
+    ensures agenda { D.agenda driver.new ≡ D.agenda driver.old }
     ensures count { OnOk result (length crew.new.links.items ≡ length (into_iter_items teams)) }
     ensures played { OnOk result (HasPlayed D.given D.ended D.hears
         (number_by S.terms) S.key S.reads S.was
@@ -274,7 +274,7 @@ fn close_accounts<S: Shared>(
     ensures legal { IfOk result
         (λ books. All (λ book. IsLegal book.opening book.until book.history) books.items) }
     ensures owned { IfOk result (λ books. All (λ book.
-        All (λ event. event.seat < length left.items) book.history) books.items) }
+        All (λ entry. entry.seat < length left.items) book.history) books.items) }
     ensures shown { IfOk result (λ books. (worker : ℕ) → worker < length left.items
         → IsInBooks S.reads S.was S.stood books.items worker
         (slice_index_or (map (λ team. team.items) left.items) worker [])) }

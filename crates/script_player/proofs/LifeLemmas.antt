@@ -6,7 +6,7 @@ use Rattle.cap_values.specs.declared.number.Number.{Number}
 use Rattle.ssf_core.specs.Calls.{RunsUntil, Stands, View, fault_in}
 use Rattle.ssf_core.specs.Happenings.{Happening, sent_in}
 use Rattle.ssf_core.specs.Inputs.{meets, operates}
-use Rattle.ssf_core.specs.Table.{on_input}
+use Rattle.ssf_core.specs.Rules.{on_input}
 use Rattle.ssf_core.specs.Traces.{phase_after}
 use Rattle.ssf_core.specs.declared.config.SsfConfig.{SsfConfig}
 use Rattle.ssf_core.specs.declared.fault.SsfFault.{SsfFault}
@@ -52,7 +52,7 @@ grown : (call : ℕ) (given : List (ℕ × Body)) (before after : List Happening
     → items_of call (given ++ posts_of call sent) ≡ posts_of call (sent_in after)
 grown call given before after sent same sends = items_of-own call given sent ∙ rw (same, sends) (sym (posts_of-append call (sent_in before) sent))
 
--- the fault by which the table refuses an input
+-- the fault by which the rules refuse an input
 abbrev pub table_fault : SsfConfig → ℕ → Input → List Happening → Option SsfFault
 table_fault config now (what.Operate op) timed = fault_in (on_input timed (phase_after config timed) now (operates op))
 table_fault config now (what.Meet event) timed = fault_in (on_input timed (phase_after config timed) now (meets event))

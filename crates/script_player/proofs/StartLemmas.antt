@@ -7,7 +7,7 @@ use Rattle.ssf_core.specs.Calls.{AreExpiries, IsExpiry, Stands, TakesAt, View, w
 use Rattle.ssf_core.specs.Happenings.{Expired, Happening, Took, What, sent_at, sent_in}
 use Rattle.ssf_core.specs.Inputs.{invokes, triggers}
 use Rattle.ssf_core.specs.Phases.{Initial, SsfPhase, Requested, Unused}
-use Rattle.ssf_core.specs.Table.{Effect, goes, on_input}
+use Rattle.ssf_core.specs.Rules.{Effect, goes, on_input}
 use Rattle.ssf_core.specs.Traces.{HasEffect, IsTrace, MayFollow, due_in, phase_after}
 use Rattle.ssf_core.specs.declared.config.SsfConfig.{SsfConfig}
 use Rattle.ssf_core.specs.declared.fault.SsfFault.{SsfFault}
@@ -42,7 +42,7 @@ abbrev TakesWhat : View → View → ℕ → What → List Happening → List Ou
 TakesWhat before after now (Took input) trace sent why = TakesAt before after now input trace sent why
 TakesWhat before after now (Expired timer) trace sent why = ⊥
 
--- what the table does at an input
+-- what the rules do at an input
 abbrev Answers : List Happening → SsfPhase → ℕ → What → Effect → Type 0
 Answers trace phase now (Took input) effect = on_input trace phase now input ≡ Ok effect
 Answers trace phase now (Expired timer) effect = ⊥

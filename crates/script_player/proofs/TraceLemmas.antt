@@ -1,4 +1,4 @@
--- A gsmSSF goes on along its trace, and what it sends lies by its last moment.
+-- A gsmSSF goes on along its trace, and what it sends lies by its latest moment.
 use Rattle.std.proofs.Common.{◌≡◌, ◌<◌, ◌≤◌, ℕ, Option, Some, List, [], ◌∷◌, ◌++◌, inl, inr, refl, arith, sym, append-nil}
 use Rattle.std.proofs.lemmas.List.Elements.{All-append, All-cons, All-nil, All-same, All-tail, All-weaker}
 use Rattle.std.proofs.lemmas.Bool.{cases_lt}
@@ -26,7 +26,7 @@ sent_at-by moment [] = All-nil (λ (out : Out). out.at ≤ moment)
 sent_at-by moment (item ∷ items) =
     All-cons (λ (out : Out). out.at ≤ moment) (record { at = moment; item = item }) (sent_at moment items) (omega arith) (sent_at-by moment items)
 
--- all that was sent along a trace lies by its last moment
+-- all that was sent along a trace lies by its latest moment
 sent_in-by : (config : SsfConfig) (trace : List Happening) → IsTrace config trace → AreBy (last_happening_moment trace) (sent_in trace)
 sent_in-by config [] is = All-nil (λ (out : Out). out.at ≤ 0)
 sent_in-by config (e ∷ trace) is =

@@ -10,7 +10,7 @@ use Rattle.ssf_core.specs.declared.item.Out.{Out}
 use Rattle.script_player.specs.declared.network.Input.{Input}
 use Rattle.script_player.specs.declared.network.Input.TheVariants as input
 
--- a trace goes on by an input: the timers run, and then the operation or the event is taken or refused as the table says, and the fault is that of the table; where time passes the timers run, and there is none
+-- a trace goes on by an input: the timers run, and then the operation or the event is taken or refused as the rules say, and the fault is that of the rules; where time passes the timers run, and there is none
 abbrev pub GoesOnBy : View → View → ℕ → Input → List Happening → List Out → Option SsfFault → Type 0
 GoesOnBy before after now (input.Operate op) trace sent fault = TakesAt before after now (operates op) trace sent fault
 GoesOnBy before after now (input.Meet event) trace sent fault = TakesAt before after now (meets event) trace sent fault

@@ -8,7 +8,7 @@ use Rattle.run_texts.specs.declared.script.ScriptRow.{ScriptRow}
 use Rattle.ssf_core.specs.Calls.{RunsUntil, with_input}
 use Rattle.ssf_core.specs.Happenings.{Happening, sent_in}
 use Rattle.ssf_core.specs.Inputs.{meets, operates}
-use Rattle.ssf_core.specs.Table.{on_input}
+use Rattle.ssf_core.specs.Rules.{on_input}
 use Rattle.ssf_core.specs.Traces.{phase_after}
 use Rattle.ssf_core.specs.declared.config.SsfConfig.{SsfConfig}
 use Rattle.ssf_core.specs.declared.item.Out.{Out}
@@ -60,7 +60,7 @@ wait_deed now call = (now, Giving call input.Wait)
 
 -- ---- the life of a call
 
--- the last moment that a gsmSSF took, and its trace
+-- the latest moment that a gsmSSF took, and its trace
 pub record Life : Type 0 where
   pub last : ℕ
   pub trace : List Happening
@@ -71,7 +71,7 @@ taken_or_refused config now (input.Operate op) timed = with_input now (operates 
 taken_or_refused config now (input.Meet event) timed = with_input now (meets event) timed (on_input timed (phase_after config timed) now (meets event))
 taken_or_refused config now input.Wait timed = timed
 
--- a life goes on by an input: the timers run until its moment, and it is taken or refused as the table says; behind the last moment nothing happens
+-- a life goes on by an input: the timers run until its moment, and it is taken or refused as the rules say; behind the latest moment nothing happens
 pub record LivesOn (config : SsfConfig) (now : ℕ) (input : Input) (before after : Life) : Type 0 where
   pub backwards : now < before.last → after ≡ before
   pub moment : before.last ≤ now → after.last ≡ now

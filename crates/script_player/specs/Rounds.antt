@@ -37,7 +37,7 @@ pub record IsRound (before after : Play) (answers : List Answer) : Type 0 where
   pub running : after.ended ≡ false
   pub unplaced : after.unplaced ≡ before.unplaced ++ unplaced_in delivered played plays.played plays.plays
 
--- the run ends: no row is left, and of the deliveries the first, and each timer that runs, lies past the last moment that a gsmSSF takes
+-- the run ends: no row is left, and of the deliveries the first, and each timer that runs, lies past the greatest moment that a gsmSSF takes
 pub record IsEnd (before after : Play) (answers : List Answer) : Type 0 where
   pub no_row : before.left ≡ []
   pub delivery_past : ForSome (next_delivery (waiting before answers)) (λ at. HORIZON < at)

@@ -136,9 +136,9 @@ impl Driver for ScriptPlayer {
 
     ghost ended = { λ player. player.ended };
 
-    ghost Plan = { SsfConfig × ℕ × List ScriptRow };
+    ghost Agenda = { SsfConfig × ℕ × List ScriptRow };
 
-    ghost plan = { λ player.
+    ghost agenda = { λ player.
         (player.network.config, player.delay, player.taken ++ player.left) };
 
     ghost hears = { λ before answers after. before.ended ≡ false → Hears before answers after };

@@ -4,7 +4,7 @@ use Rattle.std.specs.Prelude.{◌==◌, if◌then◌else◌, reverse}
 use Rattle.std.proofs.lemmas.List.{reverse-append}
 use Rattle.account_core.specs.Answers.{IsLegal, IsLegalPast}
 use Rattle.std.proofs.lemmas.List.Elements.{filter-append}
-use Rattle.account_core.specs.Events.{EntryData}
+use Rattle.account_core.specs.Entries.{EntryData}
 use Rattle.shared_account.specs.Own.{own}
 use Rattle.shared_account.specs.Prefixes.{IsPrefix}
 
@@ -14,8 +14,8 @@ begins_itself history = record { rest = []; is = sym (append-nil history) }
 pub begins_any : (history : List EntryData) → IsPrefix [] history
 begins_any history = record { rest = history; is = refl }
 
-pub begins_longer : (history : List EntryData) (event : EntryData) → IsPrefix history (history ++ event ∷ [])
-begins_longer history event = record { rest = event ∷ []; is = refl }
+pub begins_longer : (history : List EntryData) (entry : EntryData) → IsPrefix history (history ++ entry ∷ [])
+begins_longer history entry = record { rest = entry ∷ []; is = refl }
 
 pub begins_further : (first second third : List EntryData) → IsPrefix first second → IsPrefix second third → IsPrefix first third
 begins_further first second third begins goes_on = record {
@@ -28,10 +28,10 @@ begins_within earlier later begins = omega (arith, ap length begins.is, length-a
 
 both_begin : (first second more further : List EntryData) → first ++ more ≡ second ++ further → length first ≤ length second → IsPrefix first second
 both_begin [] second more further same within = begins_any second
-both_begin (event ∷ first) [] more further same within = absurd (omega (arith, within))
-both_begin (event ∷ first) (other ∷ second) more further same within =
+both_begin (entry ∷ first) [] more further same within = absurd (omega (arith, within))
+both_begin (entry ∷ first) (other ∷ second) more further same within =
     let alike : first ++ more ≡ second ++ further = cc same in
-    let head : other ≡ event = cc same in
+    let head : other ≡ entry = cc same in
     let begins = both_begin first second more further alike (omega (arith, within)) in
     record { rest = begins.rest; is = λ i. head i ∷ begins.is i }
 
@@ -41,7 +41,7 @@ shorter_begins first second third begins too within = both_begin first second be
 
 legal_past : (opening : ℕ) (until : Option ℕ) (later history : List EntryData) → IsLegalPast opening until (later ++ history) → IsLegalPast opening until history
 legal_past opening until [] history legal = legal
-legal_past opening until (event ∷ later) history legal = legal_past opening until later history legal.0
+legal_past opening until (entry ∷ later) history legal = legal_past opening until later history legal.0
 
 -- what begins a legal history is legal
 pub legal_begins : (opening : ℕ) (until : Option ℕ) (earlier later : List EntryData) → IsPrefix earlier later → IsLegal opening until later → IsLegal opening until earlier
@@ -54,12 +54,12 @@ legal_begins opening until earlier later begins legal =
 pub own_begins : (seat : ℕ) (earlier later : List EntryData) → IsPrefix earlier later → IsPrefix (own seat earlier) (own seat later)
 own_begins seat earlier later begins = record {
   rest = own seat begins.rest;
-  is = ap (own seat) begins.is ∙ filter-append (λ event. event.seat == seat) earlier begins.rest;
+  is = ap (own seat) begins.is ∙ filter-append (λ entry. entry.seat == seat) earlier begins.rest;
 }
 
 pub nothing : (history : List EntryData) → length history ≡ 0 → history ≡ []
 nothing [] none = refl
-nothing (event ∷ history) none = absurd (omega (arith, none))
+nothing (entry ∷ history) none = absurd (omega (arith, none))
 
 -- a history between two with the same own entries has those too
 pub own_between : (seat : ℕ) (first second third : List EntryData) → IsPrefix first second → IsPrefix second third → own seat first ≡ own seat third
@@ -72,19 +72,19 @@ own_between seat first second third begins goes_on same =
     let none : length here.rest ≡ 0 = omega (arith, more, further, ap length same) in
     here.is ∙ (ap (λ (h : List EntryData). own seat first ++ h) (nothing here.rest none) ∙ append-nil (own seat first))
 
-own_if : (here : Bool) (history : List EntryData) (event : EntryData) → here ≡ false → history ++ (if here then event ∷ [] else []) ≡ history
-own_if true history event not_here = absurd (cc not_here)
-own_if false history event not_here = append-nil history
+own_if : (here : Bool) (history : List EntryData) (entry : EntryData) → here ≡ false → history ++ (if here then entry ∷ [] else []) ≡ history
+own_if true history entry not_here = absurd (cc not_here)
+own_if false history entry not_here = append-nil history
 
 -- another seat's entry changes nothing of one's own
-pub own_other : (seat : ℕ) (history : List EntryData) (event : EntryData) → event.seat ≢ seat → own seat (history ++ event ∷ []) ≡ own seat history
-own_other seat history event other =
-    filter-append (λ e. e.seat == seat) history (event ∷ []) ∙ own_if (event.seat == seat) (own seat history) event (ne_eqb event.seat seat other)
+pub own_other : (seat : ℕ) (history : List EntryData) (entry : EntryData) → entry.seat ≢ seat → own seat (history ++ entry ∷ []) ≡ own seat history
+own_other seat history entry other =
+    filter-append (λ e. e.seat == seat) history (entry ∷ []) ∙ own_if (entry.seat == seat) (own seat history) entry (ne_eqb entry.seat seat other)
 
-own_kept : (here : Bool) (history : List EntryData) (event : EntryData) → here ≡ true → history ++ (if here then event ∷ [] else []) ≡ history ++ event ∷ []
-own_kept true history event is_here = refl
-own_kept false history event is_here = absurd (cc is_here)
+own_kept : (here : Bool) (history : List EntryData) (entry : EntryData) → here ≡ true → history ++ (if here then entry ∷ [] else []) ≡ history ++ entry ∷ []
+own_kept true history entry is_here = refl
+own_kept false history entry is_here = absurd (cc is_here)
 
-pub own_entry : (seat : ℕ) (history : List EntryData) (event : EntryData) → event.seat ≡ seat → own seat (history ++ event ∷ []) ≡ own seat history ++ event ∷ []
-own_entry seat history event its =
-    filter-append (λ e. e.seat == seat) history (event ∷ []) ∙ own_kept (event.seat == seat) (own seat history) event (eq-eqb event.seat seat its)
+pub own_entry : (seat : ℕ) (history : List EntryData) (entry : EntryData) → entry.seat ≡ seat → own seat (history ++ entry ∷ []) ≡ own seat history ++ entry ∷ []
+own_entry seat history entry its =
+    filter-append (λ e. e.seat == seat) history (entry ∷ []) ∙ own_kept (entry.seat == seat) (own seat history) entry (eq-eqb entry.seat seat its)

@@ -4,8 +4,8 @@ use Rattle.std.specs.Prelude.{IfOk, MatchResult, OnErr, reverse}
 use Rattle.std.proofs.lemmas.List.{reverse-append}
 use Rattle.account_core.specs.Answers.{IsLegal, IsLegalPast}
 use Rattle.account_core.specs.Asked.{Asked}
-use Rattle.account_core.specs.Events.{EntryData}
-use Rattle.account_core.specs.Ledger.{event_by}
+use Rattle.account_core.specs.Entries.{EntryData}
+use Rattle.account_core.specs.Ledger.{entry_by}
 use Rattle.account_core.specs.declared.entry.Reply.{Reply}
 use Rattle.account_core.specs.declared.fault.AccountFault.{AccountFault}
 use Rattle.shared_account.specs.Kinds.{IsReplyTo}
@@ -32,39 +32,39 @@ module _ (before here : View) (later : IsLater before here) where
   unentered : HasGone before here
   unentered = record { number = later.number; opening = later.opening; until = later.until; limit = later.limit; ended = later.ended; begins = later.begins }
 
-  entered : (event : EntryData) → HasGone before (seeing here (with_entry here.seen event))
-  entered event = record {
+  entered : (entry : EntryData) → HasGone before (seeing here (with_entry here.seen entry))
+  entered entry = record {
     number = later.number;
     opening = later.opening;
     until = later.until;
     limit = later.limit;
     ended = later.ended;
-    begins = begins_further before.seen.history here.seen.history (here.seen.history ++ event ∷ []) later.begins (begins_longer here.seen.history event);
+    begins = begins_further before.seen.history here.seen.history (here.seen.history ++ entry ∷ []) later.begins (begins_longer here.seen.history entry);
   }
 
-  pub gone : (after : View) (event : Reply → EntryData) (response : Result Reply AccountFault) → IfOk response (λ reply. after ≡ seeing here (with_entry here.seen (event reply)))
+  pub gone : (after : View) (entry : Reply → EntryData) (response : Result Reply AccountFault) → IfOk response (λ reply. after ≡ seeing here (with_entry here.seen (entry reply)))
       → OnErr response (after ≡ here) → HasGone before after
-  gone after event (Ok reply) seen kept = subst (HasGone before) (sym seen) (entered (event reply))
-  gone after event (Err why) seen kept = subst (HasGone before) (sym kept) unentered
+  gone after entry (Ok reply) seen kept = subst (HasGone before) (sym seen) (entered (entry reply))
+  gone after entry (Err why) seen kept = subst (HasGone before) (sym kept) unentered
 
   -- with a reply, the history ends with the entry
-  pub ends : (after : View) (event : Reply → EntryData) (response : Result Reply AccountFault) → IfOk response (λ reply. after ≡ seeing here (with_entry here.seen (event reply)))
-      → IfOk response (λ reply. EndsWithEntry before.seen.history (event reply) after.seen.history)
-  ends after event (Ok reply) seen = record {
+  pub ends : (after : View) (entry : Reply → EntryData) (response : Result Reply AccountFault) → IfOk response (λ reply. after ≡ seeing here (with_entry here.seen (entry reply)))
+      → IfOk response (λ reply. EndsWithEntry before.seen.history (entry reply) after.seen.history)
+  ends after entry (Ok reply) seen = record {
     between = later.begins.rest;
-    is = ap (λ (v : View). v.seen.history) seen ∙ (ap (λ (h : List EntryData). h ++ event reply ∷ []) later.begins.is ∙ append_assoc before.seen.history later.begins.rest (event reply ∷ []));
+    is = ap (λ (v : View). v.seen.history) seen ∙ (ap (λ (h : List EntryData). h ++ entry reply ∷ []) later.begins.is ∙ append_assoc before.seen.history later.begins.rest (entry reply ∷ []));
   }
-  ends after event (Err why) seen = tt
+  ends after entry (Err why) seen = tt
 
   -- and the seat has one entry more, of its own
   pub owns : (after : View) (asked : Asked) (seat : ℕ) (response : Result Reply AccountFault) → before.number ≡ seat
-      → IfOk response (λ reply. after ≡ seeing here (with_entry here.seen (event_by seat asked reply))) → OnErr response (after ≡ here)
-      → MatchResult response (λ reply. own seat after.seen.history ≡ own seat before.seen.history ++ event_by seat asked reply ∷ [])
+      → IfOk response (λ reply. after ≡ seeing here (with_entry here.seen (entry_by seat asked reply))) → OnErr response (after ≡ here)
+      → MatchResult response (λ reply. own seat after.seen.history ≡ own seat before.seen.history ++ entry_by seat asked reply ∷ [])
       (λ _. own seat after.seen.history ≡ own seat before.seen.history)
   owns after asked seat (Ok reply) number seen kept =
       let here_own : own seat here.seen.history ≡ own seat before.seen.history = subst (λ (n : ℕ). own n here.seen.history ≡ own n before.seen.history) number later.own in
       ap (λ (v : View). own seat v.seen.history) seen
-      ∙ (own_entry seat here.seen.history (event_by seat asked reply) refl ∙ ap (λ (h : List EntryData). h ++ event_by seat asked reply ∷ []) here_own)
+      ∙ (own_entry seat here.seen.history (entry_by seat asked reply) refl ∙ ap (λ (h : List EntryData). h ++ entry_by seat asked reply ∷ []) here_own)
   owns after asked seat (Err why) number seen kept =
       ap (λ (v : View). own seat v.seen.history) kept ∙ subst (λ (n : ℕ). own n here.seen.history ≡ own n before.seen.history) number later.own
 
@@ -91,16 +91,16 @@ met_sits second heard after first seat rests hears met hands =
 
 -- ---- a reply at the end of a legal history is of its operation's kind
 
-fits_last : (opening : ℕ) (until : Option ℕ) (before : List EntryData) (event : EntryData) → IsLegal opening until (before ++ event ∷ []) → IsReplyTo event.asked event.reply
-fits_last opening until before event legal =
+fits_last : (opening : ℕ) (until : Option ℕ) (before : List EntryData) (entry : EntryData) → IsLegal opening until (before ++ entry ∷ []) → IsReplyTo entry.asked entry.reply
+fits_last opening until before entry legal =
     let L : List EntryData → Type 0 = IsLegalPast opening until in
-    let last = (subst L (reverse-append before (event ∷ [])) legal).1 in
-    subst (IsReplyTo event.asked) (sym last.answered) (answer_fits opening until (reverse before) event.asked)
+    let last = (subst L (reverse-append before (entry ∷ [])) legal).1 in
+    subst (IsReplyTo entry.asked) (sym last.answered) (answer_fits opening until (reverse before) entry.asked)
 
 pub ends_kindly : (opening : ℕ) (until : Option ℕ) (before after : List EntryData) (seat : ℕ) (asked : Asked) (response : Result Reply AccountFault) → IsLegal opening until after
-    → IfOk response (λ reply. EndsWithEntry before (event_by seat asked reply) after) → IfOk response (IsReplyTo asked)
+    → IfOk response (λ reply. EndsWithEntry before (entry_by seat asked reply) after) → IfOk response (IsReplyTo asked)
 ends_kindly opening until before after seat asked (Ok reply) legal ends =
-    let event : EntryData = event_by seat asked reply in
-    let whole : after ≡ (before ++ ends.between) ++ event ∷ [] = ends.is ∙ sym (append_assoc before ends.between (event ∷ [])) in
-    fits_last opening until (before ++ ends.between) event (subst (IsLegal opening until) whole legal)
+    let entry : EntryData = entry_by seat asked reply in
+    let whole : after ≡ (before ++ ends.between) ++ entry ∷ [] = ends.is ∙ sym (append_assoc before ends.between (entry ∷ [])) in
+    fits_last opening until (before ++ ends.between) entry (subst (IsLegal opening until) whole legal)
 ends_kindly opening until before after seat asked (Err why) legal ends = tt

@@ -5,7 +5,7 @@ use Rattle.std.proofs.lemmas.Bool.{and_from, eq-eqb, eqb-true}
 use Rattle.std.proofs.lemmas.List.{get_or-map, length-map}
 use native.Mathlib.Decide.{dec_le}
 use mathlib.Core.Logic.{dite}
-use Rattle.account_core.specs.Events.{EntryData, entry_data}
+use Rattle.account_core.specs.Entries.{EntryData, entry_data}
 use Rattle.account_core.specs.declared.entry.Entry.{Entry}
 use Rattle.account_core.specs.Ledger.{Ledger}
 use Rattle.shared_account.specs.Ended.{HasEnded, HaveEnded}
@@ -49,23 +49,23 @@ ended_at account first (last ∷ lasts) (suc k) d have within =
 
 -- ---- numbers without entries
 
-some_own : (here : Bool) (event : EntryData) (more : List EntryData) → here ≡ true → (if here then event ∷ more else more) ≡ [] → ⊥
-some_own true event more is none = cc none
-some_own false event more is none = cc is
+some_own : (here : Bool) (entry : EntryData) (more : List EntryData) → here ≡ true → (if here then entry ∷ more else more) ≡ [] → ⊥
+some_own true entry more is none = cc none
+some_own false entry more is none = cc is
 
-none_later : (here : Bool) (event : EntryData) (more : List EntryData) → (if here then event ∷ more else more) ≡ [] → more ≡ []
-none_later true event more none = absurd (cc none)
-none_later false event more none = none
+none_later : (here : Bool) (entry : EntryData) (more : List EntryData) → (if here then entry ∷ more else more) ≡ [] → more ≡ []
+none_later true entry more none = absurd (cc none)
+none_later false entry more none = none
 
 -- where no number from this on has an entry, each entry is of a lower one
-pub all_below : (history : List EntryData) (seats : ℕ) → ((number : ℕ) → seats ≤ number → own number history ≡ []) → All (λ event. event.seat < seats) history
+pub all_below : (history : List EntryData) (seats : ℕ) → ((number : ℕ) → seats ≤ number → own number history ≡ []) → All (λ entry. entry.seat < seats) history
 all_below [] seats none k d within = absurd (omega (arith, within))
-all_below (event ∷ history) seats none zero d within =
-    dite (dec_le seats event.seat)
-    (λ (above : seats ≤ event.seat). absurd (some_own (event.seat == event.seat) event (own event.seat history) (eq-eqb event.seat event.seat refl) (none event.seat above)))
-    (λ (below : seats ≤ event.seat → ⊥). omega (arith, below))
-all_below (event ∷ history) seats none (suc k) d within =
-    all_below history seats (λ n above. none_later (event.seat == n) event (own n history) (none n above)) k d (omega (arith, within))
+all_below (entry ∷ history) seats none zero d within =
+    dite (dec_le seats entry.seat)
+    (λ (above : seats ≤ entry.seat). absurd (some_own (entry.seat == entry.seat) entry (own entry.seat history) (eq-eqb entry.seat entry.seat refl) (none entry.seat above)))
+    (λ (below : seats ≤ entry.seat → ⊥). omega (arith, below))
+all_below (entry ∷ history) seats none (suc k) d within =
+    all_below history seats (λ n above. none_later (entry.seat == n) entry (own n history) (none n above)) k d (omega (arith, within))
 
 -- ---- the last seat of all
 
@@ -93,7 +93,7 @@ numbered_last number seats last are = (numbered_first number 0 seats last are, o
 -- ---- what is closed merges the seats' own entries
 
 pub merged_closed : (account : Ledger) (seats : List TurnSeatView) → are_numbered 0 (map (λ (s : TurnSeatView). s.number) seats) ≡ true
-    → HaveEnded account 0 (map (λ (s : TurnSeatView). s.view) seats) → All (λ event. event.seat < length (map (λ (s : TurnSeatView). s.view) seats)) account.history
+    → HaveEnded account 0 (map (λ (s : TurnSeatView). s.view) seats) → All (λ entry. entry.seat < length (map (λ (s : TurnSeatView). s.view) seats)) account.history
     → (d : TurnSeatView) → IsMerged account.history (map own_of seats)
 merged_closed account seats numbered have others d =
     let views = length-map seats (λ (s : TurnSeatView). s.view) in
@@ -125,9 +125,9 @@ map_if : (here : Bool) (entry : Entry) (more : List Entry) → map entry_data (i
 map_if true entry more = refl
 map_if false entry more = refl
 
-kept_if : (here : Bool) (event : EntryData) (first second : List EntryData) → first ≡ second → (if here then event ∷ first else first) ≡ (if here then event ∷ second else second)
-kept_if true event first second same = ap (λ (h : List EntryData). event ∷ h) same
-kept_if false event first second same = same
+kept_if : (here : Bool) (entry : EntryData) (first second : List EntryData) → first ≡ second → (if here then entry ∷ first else first) ≡ (if here then entry ∷ second else second)
+kept_if true entry first second same = ap (λ (h : List EntryData). entry ∷ h) same
+kept_if false entry first second same = same
 
 pub own_data : (seat : ℕ) (entries : List Entry) → map entry_data (filter (λ (entry : Entry). entry.seat == seat) entries) ≡ own seat (map entry_data entries)
 own_data seat [] = refl

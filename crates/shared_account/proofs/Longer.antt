@@ -5,7 +5,7 @@ use Rattle.std.proofs.lemmas.Bool.Decides.{nat_tests}
 use Rattle.std.proofs.lemmas.List.{length-reverse, reverse-append}
 use Rattle.account_core.specs.Answers.{IsLegal, IsLegalPast, inadmissible}
 use Rattle.account_core.specs.Asked.{Asked, Credits, Reserves, Returns, Settles, call_of}
-use Rattle.account_core.specs.Events.{EntryData}
+use Rattle.account_core.specs.Entries.{EntryData}
 use Rattle.account_core.specs.Known.{CallFacts, is_open, known}
 use Rattle.account_core.specs.Ledger.{Ledger, answer_of, refusal_of}
 use Rattle.account_core.specs.Places.{needed_by, or_else, over_limit, owed, owed_to, places_owed, refusal}
@@ -64,20 +64,20 @@ takes_a_place call (Reserves number plan wanted least at) = omega (arith, reserv
 takes_a_place call (Settles number mail info) = settle_takes (is_open call) call.awaits
 takes_a_place call (Returns number) = return_takes (is_open call) call.awaits
 
-module _ (account : Ledger) (event : EntryData) (admitted : refusal_of account event.asked ≡ None) where
-  pub legal_with : IsLegal account.opening account.until account.history → event.reply ≡ answer_of account event.asked → IsLegal account.opening account.until (with_entry account event).history
+module _ (account : Ledger) (entry : EntryData) (admitted : refusal_of account entry.asked ≡ None) where
+  pub legal_with : IsLegal account.opening account.until account.history → entry.reply ≡ answer_of account entry.asked → IsLegal account.opening account.until (with_entry account entry).history
   legal_with legal answered =
-      subst (IsLegalPast account.opening account.until) (sym (reverse-append account.history (event ∷ [])))
-      (legal, record { admissible = admissible_of account.limit (reverse account.history) event.asked admitted; answered = answered })
+      subst (IsLegalPast account.opening account.until) (sym (reverse-append account.history (entry ∷ [])))
+      (legal, record { admissible = admissible_of account.limit (reverse account.history) entry.asked admitted; answered = answered })
 
   pub short_with : EachIsOwedItsShare → length account.history + 1 ≤ account.limit
   short_with share =
       let past = reverse account.history in
-      let call = call_of event.asked in
+      let call = call_of entry.asked in
       omega (
         arith,
-        room_of account.limit past event.asked admitted,
-        takes_a_place (known call past) event.asked,
+        room_of account.limit past entry.asked admitted,
+        takes_a_place (known call past) entry.asked,
         share past call,
         owed_to_call (known call past),
         length-reverse account.history,

@@ -8,7 +8,7 @@ use lib.Seq.{set-get_or}
 use Rattle.atomic_table.specs.Table.{Allows, Joins, Splits, keeps, step}
 use Rattle.atomic_table.proofs.Lists.{set_again, set_else}
 use Rattle.account_core.specs.Answers.{IsLegal}
-use Rattle.account_core.specs.Events.{EntryData}
+use Rattle.account_core.specs.Entries.{EntryData}
 use Rattle.shared_account.specs.Own.{own}
 use Rattle.shared_account.specs.Plays.{HasMet, Sitter, compared}
 use Rattle.shared_account.specs.Prefixes.{IsPrefix}

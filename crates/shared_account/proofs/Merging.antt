@@ -4,7 +4,7 @@ use Rattle.std.specs.Prelude.{◌==◌, ◌&&◌, if◌then◌else◌, All, slic
 use Rattle.std.proofs.lemmas.Bool.{eq-eqb, eqb-true}
 use Rattle.std.proofs.lemmas.List.{drop_more, get_or-map, get_or_at, length-append, length-map, length-take-le, map-append, take-append-drop, take-map}
 use Rattle.std.proofs.lemmas.List.Elements.{All-map, filter-append}
-use Rattle.account_core.specs.Events.{EntryData, entry_data}
+use Rattle.account_core.specs.Entries.{EntryData, entry_data}
 use Rattle.account_core.specs.declared.entry.Entry.{Entry}
 use Rattle.shared_account.specs.Own.{IsMerged, own}
 use Rattle.shared_account.specs.Seats.{SeatView, are_numbered}
@@ -32,14 +32,14 @@ pub merged : (history : List Entry) (seats : List SeatView) → are_numbered 0 (
     → IsMerged (map entry_data history) (map (λ seat. seat.mine) seats)
 merged history seats numbered each others =
     let count : length (map (λ (seat : SeatView). seat.mine) seats) ≡ length seats = length-map seats (λ (seat : SeatView). seat.mine) in
-    let O : ℕ → Type 0 = λ n. All (λ event. event.seat < n) (map entry_data history) in
+    let O : ℕ → Type 0 = λ n. All (λ entry. entry.seat < n) (map entry_data history) in
     record {
       each = λ seat within.
           let here : seat < length seats = omega (arith, count, within) in
           let number : (slice_index_or seats seat nobody).number ≡ seat = omega (arith, numbered_at (λ (place : SeatView). place.number) 0 seats seat nobody numbered here) in
           ap (λ n. own n (map entry_data history)) (sym number) ∙ (each seat nobody here
           ∙ sym (get_or-map (λ (place : SeatView). place.mine) seats seat nobody [] here));
-      no_others = subst O (sym count) (All-map (λ event. event.seat < length seats) entry_data history others);
+      no_others = subst O (sym count) (All-map (λ entry. entry.seat < length seats) entry_data history others);
     }
 
 module _ (history : List Entry) (seats : List SeatView) (is : IsMerged (map entry_data history) (map (λ seat. seat.mine) seats)) where
@@ -53,25 +53,25 @@ module _ (history : List Entry) (seats : List SeatView) (is : IsMerged (map entr
   merged_others k d within =
       let there : k < length (map entry_data history) = omega (arith, length-map history entry_data, within) in
       let less = is.no_others k (entry_data d) there in
-      omega (arith, less, ap (λ (event : EntryData). event.seat) (get_or-map entry_data history k d (entry_data d) within), length-map seats (λ (seat : SeatView). seat.mine))
+      omega (arith, less, ap (λ (entry : EntryData). entry.seat) (get_or-map entry_data history k d (entry_data d) within), length-map seats (λ (seat : SeatView). seat.mine))
 
 first_of : {X : Type 0} (here : Bool) (x : X) (xs : List X) → here ≡ true → (if here then x ∷ xs else xs) ≡ x ∷ xs
 first_of true x xs is = refl
 first_of false x xs is = absurd (cc is)
 
 -- where a seat's list is its entries in a history, it goes on with the next of them
-module _ (seat : ℕ) (before after : List EntryData) (event : EntryData) (mine : List EntryData) (at : ℕ) (its : event.seat ≡ seat) (begins : own seat before ≡ take at mine) (within : at ≤ length mine)
-    (all : own seat (before ++ event ∷ after) ≡ mine) where
-  goes_on : mine ≡ take at mine ++ event ∷ own seat after
+module _ (seat : ℕ) (before after : List EntryData) (entry : EntryData) (mine : List EntryData) (at : ℕ) (its : entry.seat ≡ seat) (begins : own seat before ≡ take at mine) (within : at ≤ length mine)
+    (all : own seat (before ++ entry ∷ after) ≡ mine) where
+  goes_on : mine ≡ take at mine ++ entry ∷ own seat after
   goes_on =
-      sym all ∙ (filter-append (λ e. e.seat == seat) before (event ∷ after)
-      ∙ (ap (λ h. h ++ own seat (event ∷ after)) begins ∙ ap (λ h. take at mine ++ h) (first_of (event.seat == seat) event (own seat after) (eq-eqb event.seat seat its))))
+      sym all ∙ (filter-append (λ e. e.seat == seat) before (entry ∷ after)
+      ∙ (ap (λ h. h ++ own seat (entry ∷ after)) begins ∙ ap (λ h. take at mine ++ h) (first_of (entry.seat == seat) entry (own seat after) (eq-eqb entry.seat seat its))))
 
   more_own : at < length mine
-  more_own = omega (arith, ap length goes_on, length-append (take at mine) (event ∷ own seat after), length-take-le at mine within)
+  more_own = omega (arith, ap length goes_on, length-append (take at mine) (entry ∷ own seat after), length-take-le at mine within)
 
-  goes_next : (d : EntryData) → slice_index_or mine at d ≡ event
-  goes_next d = ap (λ h. slice_index_or h at d) goes_on ∙ get_or_at (take at mine) event (own seat after) d at (length-take-le at mine within)
+  goes_next : (d : EntryData) → slice_index_or mine at d ≡ entry
+  goes_next d = ap (λ h. slice_index_or h at d) goes_on ∙ get_or_at (take at mine) entry (own seat after) d at (length-take-le at mine within)
 
 -- a history by one of its entries
 parted : (history : List Entry) (k : ℕ) (d : Entry) → k < length history

@@ -4,9 +4,9 @@ use Rattle.std.specs.Prelude.{◌==◌, if◌then◌else◌, filter, reverse}
 use Rattle.std.proofs.lemmas.List.{reverse-append}
 use Rattle.std.proofs.lemmas.List.Elements.{filter-append}
 use Rattle.account_core.specs.Asked.{Asked, Credits, Reserves, Returns, Settles, call_of}
-use Rattle.account_core.specs.Events.{EntryData}
+use Rattle.account_core.specs.Entries.{EntryData}
 use Rattle.account_core.specs.Known.{deed, deed_of, is_open, known, known_after}
-use Rattle.account_core.specs.Places.{IsClosing}
+use Rattle.account_core.specs.Places.{IsOwed}
 use Rattle.shared_account.specs.Own.{asks_of_call, of_call}
 use Rattle.shared_account.proofs.Knowing.{known_apart, known_resting}
 
@@ -24,33 +24,33 @@ filter_reverse p (x ∷ xs) =
 
 -- ---- the entries of a call
 
-rests_apart : (h : List EntryData) (event : EntryData) (call : ℕ) (asked : Asked) → event.asked ≡ asked → asks_of_call call asked ≡ false → known call (event ∷ h) ≡ known call h
-rests_apart h event call (Credits amount moment) same apart =
-    known_resting h event call (ap (λ a. deed_of a event.reply) same)
-rests_apart h event call (Reserves other plan wanted least at) same apart = known_apart h event call (ap (λ a. call_of a == call) same ∙ apart)
-rests_apart h event call (Settles other number info) same apart = known_apart h event call (ap (λ a. call_of a == call) same ∙ apart)
-rests_apart h event call (Returns other) same apart = known_apart h event call (ap (λ a. call_of a == call) same ∙ apart)
+rests_apart : (h : List EntryData) (entry : EntryData) (call : ℕ) (asked : Asked) → entry.asked ≡ asked → asks_of_call call asked ≡ false → known call (entry ∷ h) ≡ known call h
+rests_apart h entry call (Credits amount moment) same apart =
+    known_resting h entry call (ap (λ a. deed_of a entry.reply) same)
+rests_apart h entry call (Reserves other plan wanted least at) same apart = known_apart h entry call (ap (λ a. call_of a == call) same ∙ apart)
+rests_apart h entry call (Settles other number info) same apart = known_apart h entry call (ap (λ a. call_of a == call) same ∙ apart)
+rests_apart h entry call (Returns other) same apart = known_apart h entry call (ap (λ a. call_of a == call) same ∙ apart)
 
-known_if : (here : Bool) (h : List EntryData) (event : EntryData) (call : ℕ) → asks_of_call call event.asked ≡ here → known call h ≡ known call (of_call call h)
-    → known call (event ∷ h) ≡ known call (if here then event ∷ of_call call h else of_call call h)
-known_if true h event call is same = ap (λ k. known_after k (deed call event)) same
-known_if false h event call is same = rests_apart h event call event.asked refl is ∙ same
+known_if : (here : Bool) (h : List EntryData) (entry : EntryData) (call : ℕ) → asks_of_call call entry.asked ≡ here → known call h ≡ known call (of_call call h)
+    → known call (entry ∷ h) ≡ known call (if here then entry ∷ of_call call h else of_call call h)
+known_if true h entry call is same = ap (λ k. known_after k (deed call entry)) same
+known_if false h entry call is same = rests_apart h entry call entry.asked refl is ∙ same
 
 pub known_of_call : (call : ℕ) (h : List EntryData) → known call h ≡ known call (of_call call h)
 known_of_call call [] = refl
-known_of_call call (event ∷ h) = known_if (asks_of_call call event.asked) h event call refl (known_of_call call h)
+known_of_call call (entry ∷ h) = known_if (asks_of_call call entry.asked) h entry call refl (known_of_call call h)
 
 pub known_alike : (call : ℕ) (history mine : List EntryData) → of_call call history ≡ of_call call mine → known call (reverse history) ≡ known call (reverse mine)
 known_alike call history mine same =
-    known_of_call call (reverse history) ∙ (ap (known call) (filter_reverse (λ event. asks_of_call call event.asked) history ∙ (ap reverse same
-    ∙ sym (filter_reverse (λ event. asks_of_call call event.asked) mine))) ∙ sym (known_of_call call (reverse mine)))
+    known_of_call call (reverse history) ∙ (ap (known call) (filter_reverse (λ entry. asks_of_call call entry.asked) history ∙ (ap reverse same
+    ∙ sym (filter_reverse (λ entry. asks_of_call call entry.asked) mine))) ∙ sym (known_of_call call (reverse mine)))
 
--- what closes a call by one history closes it by another with the same entries of the call
-pub closing_alike : (history mine : List EntryData) (asked : Asked) → IsClosing (reverse history) asked
-    → of_call (call_of asked) history ≡ of_call (call_of asked) mine → IsClosing (reverse mine) asked
-closing_alike history mine (Credits amount moment) closing same = closing
-closing_alike history mine (Reserves call plan wanted least at) closing same = closing
-closing_alike history mine (Settles call number info) closing same =
+-- what a call is owed by one history it is owed by another with the same entries of the call
+pub owed_alike : (history mine : List EntryData) (asked : Asked) → IsOwed (reverse history) asked
+    → of_call (call_of asked) history ≡ of_call (call_of asked) mine → IsOwed (reverse mine) asked
+owed_alike history mine (Credits amount moment) is_owed same = is_owed
+owed_alike history mine (Reserves call plan wanted least at) is_owed same = is_owed
+owed_alike history mine (Settles call number info) is_owed same =
     let alike = known_alike call history mine same in
-    (ap is_open (sym alike) ∙ closing.0, ap (λ k. k.awaits) (sym alike) ∙ closing.1)
-closing_alike history mine (Returns call) closing same = ap is_open (sym (known_alike call history mine same)) ∙ closing
+    (ap is_open (sym alike) ∙ is_owed.0, ap (λ k. k.awaits) (sym alike) ∙ is_owed.1)
+owed_alike history mine (Returns call) is_owed same = ap is_open (sym (known_alike call history mine same)) ∙ is_owed

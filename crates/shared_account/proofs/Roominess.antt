@@ -12,7 +12,7 @@ use Rattle.std.proofs.lemmas.List.{length-map, length-reverse, map-append, rever
 use Rattle.account_core.specs.Answers.{answer}
 use Rattle.account_core.specs.Asked.{Asked, Credits, IsCredit, IsOfCall, Reserves, Returns, Settles, call_of}
 use Rattle.account_core.specs.CallStages.{stage_of}
-use Rattle.account_core.specs.Events.{EntryData, entry_data}
+use Rattle.account_core.specs.Entries.{EntryData, entry_data}
 use Rattle.account_core.specs.Known.{CallFacts, Rests, deed_of, is_open, known, known_after}
 use Rattle.account_core.specs.Places.{needed_by, owed, owed_to}
 use Rattle.account_core.specs.SharingLaws.{EntriesOweToTheirCalls}
@@ -77,13 +77,13 @@ pub fresh_put : (stages : List (ℕ × CallStage)) (put : ℕ) → lookup (is_at
     → (call : ℕ) → stage_in (insert_entry nat_cmp stages put Fresh) call ≡ stage_in stages call
 fresh_put stages put none call = stage_put stages put Fresh call ∙ fresh_by _ stages put call refl none
 
-tells_by : (here : Bool) (stages : List (ℕ × CallStage)) (h : List EntryData) (event : EntryData) (after : CallStage) (call : ℕ) → (its_call event == call) ≡ here
-    → ShowsStages stages h → after ≡ stage_of (known (its_call event) (event ∷ h))
-    → (if here then after else stage_in stages call) ≡ stage_of (known call (event ∷ h))
-tells_by true stages h event after call is tells after_is =
-    let P : ℕ → Type 0 = λ c. after ≡ stage_of (known c (event ∷ h)) in
-    subst P (eqb-true (its_call event) call is) after_is
-tells_by false stages h event after call is tells after_is = tells call ∙ ap stage_of (sym (known_apart h event call is))
+tells_by : (here : Bool) (stages : List (ℕ × CallStage)) (h : List EntryData) (entry : EntryData) (after : CallStage) (call : ℕ) → (its_call entry == call) ≡ here
+    → ShowsStages stages h → after ≡ stage_of (known (its_call entry) (entry ∷ h))
+    → (if here then after else stage_in stages call) ≡ stage_of (known call (entry ∷ h))
+tells_by true stages h entry after call is tells after_is =
+    let P : ℕ → Type 0 = λ c. after ≡ stage_of (known c (entry ∷ h)) in
+    subst P (eqb-true (its_call entry) call is) after_is
+tells_by false stages h entry after call is tells after_is = tells call ∙ ap stage_of (sym (known_apart h entry call is))
 
 -- a map that has the same stages
 pub roomy_same : (h : List EntryData) (old new : List (ℕ × CallStage)) (places capacity : ℕ) → ((call : ℕ) → stage_in new call ≡ stage_in old call)
@@ -94,47 +94,47 @@ roomy_same h old new places capacity same roomy =
 -- ---- the whole
 
 -- what a seat held for a call, with its entry that an account answered, and what it holds then
-pub record IsEntry (h : List EntryData) (event : EntryData) (before after : CallStage) (owed_before owed_now needs : ℕ) : Type 0 where
-  pub fits : IsReplyTo event.asked event.reply
-  pub after_is : after ≡ stage_of (known_after (known (its_call event) h) (its_deed event))
-  pub before_owed : owed_before ≡ owed_to (known (its_call event) h)
-  pub now_owed : stage_of (known (its_call event) (event ∷ h)) ≡ after → owed_now ≡ owed_to (known (its_call event) (event ∷ h))
-  pub needs_are : needs ≡ needed_by (known (its_call event) h) event.asked
+pub record IsEntry (h : List EntryData) (entry : EntryData) (before after : CallStage) (owed_before owed_now needs : ℕ) : Type 0 where
+  pub fits : IsReplyTo entry.asked entry.reply
+  pub after_is : after ≡ stage_of (known_after (known (its_call entry) h) (its_deed entry))
+  pub before_owed : owed_before ≡ owed_to (known (its_call entry) h)
+  pub now_owed : stage_of (known (its_call entry) (entry ∷ h)) ≡ after → owed_now ≡ owed_to (known (its_call entry) (entry ∷ h))
+  pub needs_are : needs ≡ needed_by (known (its_call entry) h) entry.asked
 
-module _ (moves : EntriesOweToTheirCalls) (h : List EntryData) (event : EntryData) (before after : CallStage) (owed_before owed_now needs : ℕ)
-    (entry : IsEntry h event before after owed_before owed_now needs) where
-  after_known : after ≡ stage_of (known (its_call event) (event ∷ h))
-  after_known = entry.after_is ∙ ap stage_of (sym (known_here h event))
+module _ (moves : EntriesOweToTheirCalls) (h : List EntryData) (entry : EntryData) (before after : CallStage) (owed_before owed_now needs : ℕ)
+    (made : IsEntry h entry before after owed_before owed_now needs) where
+  after_known : after ≡ stage_of (known (its_call entry) (entry ∷ h))
+  after_known = made.after_is ∙ ap stage_of (sym (known_here h entry))
 
-  pub owed_moves : owed (event ∷ h) + owed_before ≡ owed h + owed_now
-  owed_moves = omega (arith, moves h event, entry.before_owed, entry.now_owed (sym after_known))
+  pub owed_moves : owed (entry ∷ h) + owed_before ≡ owed h + owed_now
+  owed_moves = omega (arith, moves h entry, made.before_owed, made.now_owed (sym after_known))
 
-  pub owed_after : 1 + owed (event ∷ h) ≤ owed h + needs
+  pub owed_after : 1 + owed (entry ∷ h) ≤ owed h + needs
   owed_after =
-      let takes = owes (known (its_call event) h) event.asked event.reply entry.fits in
-      let now : owed_now ≡ owed_to (known_after (known (its_call event) h) (its_deed event)) = entry.now_owed (sym after_known) ∙ ap owed_to (known_here h event) in
-      omega (arith, owed_moves, takes, now, entry.before_owed, entry.needs_are)
+      let takes = owes (known (its_call entry) h) entry.asked entry.reply made.fits in
+      let now : owed_now ≡ owed_to (known_after (known (its_call entry) h) (its_deed entry)) = made.now_owed (sym after_known) ∙ ap owed_to (known_here h entry) in
+      omega (arith, owed_moves, takes, now, made.before_owed, made.needs_are)
 
-  pub roomy_after : (call : ℕ) (old new : List (ℕ × CallStage)) (places places' capacity capacity' : ℕ) → its_call event ≡ call → IsRoomy h old places capacity
+  pub roomy_after : (call : ℕ) (old new : List (ℕ × CallStage)) (places places' capacity capacity' : ℕ) → its_call entry ≡ call → IsRoomy h old places capacity
       → new ≡ insert_entry nat_cmp old call after → places' ≡ places + owed_now - owed_before → length h + (places + needs) ≤ capacity'
-      → IsRoomy (event ∷ h) new places' capacity'
+      → IsRoomy (entry ∷ h) new places' capacity'
   roomy_after call old new places places' capacity capacity' its roomy new_is places'_are room =
-      let put : new ≡ insert_entry nat_cmp old (its_call event) after = rw its new_is in
-      let now_owed : places' ≡ owed (event ∷ h) = omega (arith, owed_moves, places'_are, roomy.places_are) in
+      let put : new ≡ insert_entry nat_cmp old (its_call entry) after = rw its new_is in
+      let now_owed : places' ≡ owed (entry ∷ h) = omega (arith, owed_moves, places'_are, roomy.places_are) in
       record {
         room = omega (arith, room, owed_after, roomy.places_are, now_owed);
-        tells = λ other. ap (λ stages. stage_in stages other) put ∙ (stage_put old (its_call event) after other ∙ tells_by _ old h event after other refl roomy.tells after_known);
+        tells = λ other. ap (λ stages. stage_in stages other) put ∙ (stage_put old (its_call entry) after other ∙ tells_by _ old h entry after other refl roomy.tells after_known);
         places_are = now_owed;
       }
 
-pub roomy_resting : EntriesOweToTheirCalls → (h : List EntryData) (event : EntryData) (kept : List (ℕ × CallStage)) (places capacity capacity' : ℕ) → IsRoomy h kept places capacity
-    → its_deed event ≡ Rests → length h + (places + 1) ≤ capacity' → IsRoomy (event ∷ h) kept places capacity'
-roomy_resting moves h event kept places capacity capacity' roomy rests room =
-    let same : owed_to (known (its_call event) (event ∷ h)) ≡ owed_to (known (its_call event) h) = ap owed_to (known_resting h event (its_call event) rests) in
+pub roomy_resting : EntriesOweToTheirCalls → (h : List EntryData) (entry : EntryData) (kept : List (ℕ × CallStage)) (places capacity capacity' : ℕ) → IsRoomy h kept places capacity
+    → its_deed entry ≡ Rests → length h + (places + 1) ≤ capacity' → IsRoomy (entry ∷ h) kept places capacity'
+roomy_resting moves h entry kept places capacity capacity' roomy rests room =
+    let same : owed_to (known (its_call entry) (entry ∷ h)) ≡ owed_to (known (its_call entry) h) = ap owed_to (known_resting h entry (its_call entry) rests) in
     record {
       room = omega (arith, room);
-      tells = λ call. roomy.tells call ∙ ap stage_of (sym (known_resting h event call rests));
-      places_are = omega (arith, moves h event, same, roomy.places_are);
+      tells = λ call. roomy.tells call ∙ ap stage_of (sym (known_resting h entry call rests));
+      places_are = omega (arith, moves h entry, same, roomy.places_are);
     }
 
 nothing_owed : owed [] ≡ 0

@@ -7,7 +7,7 @@ use native.Mathlib.Decide.{ℕ_discrete}
 use lib.ListN.{get_elem?}
 use Rattle.atomic_table.specs.Table.{Final, Joins, Seen, Splits, opening}
 use Rattle.atomic_table.proofs.Lists.{at_set, set_else}
-use Rattle.account_core.specs.Events.{EntryData}
+use Rattle.account_core.specs.Entries.{EntryData}
 use Rattle.account_core.specs.Ledger.{Ledger}
 use Rattle.shared_account.specs.Ended.{HasEnded, IsClosedAs}
 use Rattle.shared_account.specs.Own.{own}

@@ -9,7 +9,7 @@ use lib.Seq.{set-get_or}
 use Rattle.atomic_table.specs.Table.{Allows, gives, keeps, put_back, step, takes}
 use Rattle.atomic_table.proofs.Lists.{one_turn, set_here}
 use Rattle.account_core.specs.Answers.{IsLegal}
-use Rattle.account_core.specs.Events.{EntryData}
+use Rattle.account_core.specs.Entries.{EntryData}
 use Rattle.account_core.specs.Ledger.{Ledger, answer_of, refusal_of}
 use Rattle.account_core.specs.SharingLaws.{EachIsOwedItsShare}
 use Rattle.shared_account.specs.Ended.{HaveEnded}
@@ -174,14 +174,14 @@ module _ (start : Start) where
 
   -- ---- an entry is counted
 
-  pub appends : (slots id : ℕ) (m : Sitter) (event : EntryData) → IsServing m.0.stage → event.seat ≡ m.0.number → refusal_of m.0.seen event.asked ≡ None
-      → event.reply ≡ answer_of m.0.seen event.asked → EachIsOwedItsShare
-      → Allows (Kept start) slots id m 2 (λ n. (n + 1) % 2 ^ 64) (appended event (step slots 2 1 0 none) m)
-  appends slots id m event serving its admitted answered share s kept count there fits =
+  pub appends : (slots id : ℕ) (m : Sitter) (entry : EntryData) → IsServing m.0.stage → entry.seat ≡ m.0.number → refusal_of m.0.seen entry.asked ≡ None
+      → entry.reply ≡ answer_of m.0.seen entry.asked → EachIsOwedItsShare
+      → Allows (Kept start) slots id m 2 (λ n. (n + 1) % 2 ^ 64) (appended entry (step slots 2 1 0 none) m)
+  appends slots id m entry serving its admitted answered share s kept count there fits =
       let now = kept.now in
       let t : ℕ = its_ticket m.0.stage in
       let is : m.0.stage ≡ Serves t = serving_is m.0.stage serving in
-      let account : Ledger = with_entry m.0.seen event in
+      let account : Ledger = with_entry m.0.seen entry in
       let after : BoardState = record now { account = account } in
       let w : View = seeing m.0 account in
       let knew = kept.each id m.0 there in
@@ -189,13 +189,13 @@ module _ (start : Start) where
       let seated = knew.seated seat in
       let turn = knew.turn t is in
       let was : now.account ≡ m.0.seen = sym turn.seen in
-      let longer : IsPrefix now.account.history account.history = subst (λ (a : Ledger). IsPrefix a.history account.history) turn.seen (begins_longer m.0.seen.history event) in
-      let sum : length account.history ≡ length m.0.seen.history + 1 = length-append m.0.seen.history (event ∷ []) in
+      let longer : IsPrefix now.account.history account.history = subst (λ (a : Ledger). IsPrefix a.history account.history) turn.seen (begins_longer m.0.seen.history entry) in
+      let sum : length account.history ≡ length m.0.seen.history + 1 = length-append m.0.seen.history (entry ∷ []) in
       let old_length : length now.account.history ≡ length m.0.seen.history = ap (λ (a : Ledger). length a.history) was in
       let same_limit : now.account.limit ≡ m.0.seen.limit = ap (λ (a : Ledger). a.limit) was in
-      let short : length account.history ≤ m.0.seen.limit = omega (arith, short_with m.0.seen event admitted share, sum) in
-      let others_own : (n : ℕ) → event.seat ≢ n → own n now.account.history ≡ own n account.history = λ n ne.
-      ap (λ (a : Ledger). own n a.history) was ∙ sym (own_other n m.0.seen.history event ne) in
+      let short : length account.history ≤ m.0.seen.limit = omega (arith, short_with m.0.seen entry admitted share, sum) in
+      let others_own : (n : ℕ) → entry.seat ≢ n → own n now.account.history ≡ own n account.history = λ n ne.
+      ap (λ (a : Ledger). own n a.history) was ∙ sym (own_other n m.0.seen.history entry ne) in
       let ended_still : (at : ℕ) (u : View) → Knows now at u → HaveEnded account 0 u.ended = λ at u know.
       subst (λ (a : Ledger). HaveEnded (record a { history = account.history }) 0 u.ended) was
       (ended_longer now.account account.history 0 u.ended longer (λ n first last. others_own n (λ e. omega (arith, e, its, seated.gone, know.gone, last))) know.ended) in (
@@ -210,7 +210,7 @@ module _ (start : Start) where
             until = ap (λ (a : Ledger). a.until) turn.seen ∙ kept.past.until;
             limit = ap (λ (a : Ledger). a.limit) turn.seen ∙ kept.past.limit;
             bounded = omega (arith, same_limit, kept.past.bounded);
-            legal = legal_with m.0.seen event admitted (subst (λ (a : Ledger). IsLegal a.opening a.until a.history) was kept.past.legal) answered;
+            legal = legal_with m.0.seen entry admitted (subst (λ (a : Ledger). IsLegal a.opening a.until a.history) was kept.past.legal) answered;
             short = short;
             few = kept.past.few;
             sixteen = kept.past.sixteen;
@@ -255,12 +255,12 @@ module _ (start : Start) where
       )
 
   -- the same of an entry under another name
-  pub appends_as : (slots id : ℕ) (m : Sitter) (event named : EntryData) → named ≡ event → IsServing m.0.stage → event.seat ≡ m.0.number → refusal_of m.0.seen event.asked ≡ None
-      → event.reply ≡ answer_of m.0.seen event.asked → EachIsOwedItsShare
+  pub appends_as : (slots id : ℕ) (m : Sitter) (entry named : EntryData) → named ≡ entry → IsServing m.0.stage → entry.seat ≡ m.0.number → refusal_of m.0.seen entry.asked ≡ None
+      → entry.reply ≡ answer_of m.0.seen entry.asked → EachIsOwedItsShare
       → Allows (Kept start) slots id m 2 (λ n. (n + 1) % 2 ^ 64) (appended named (step slots 2 1 0 none) m)
-  appends_as slots id m event named same serving its admitted answered share =
+  appends_as slots id m entry named same serving its admitted answered share =
       subst (λ (e : EntryData). Allows (Kept start) slots id m 2 (λ n. (n + 1) % 2 ^ 64) (appended e (step slots 2 1 0 none) m)) (sym same)
-      (appends slots id m event serving its admitted answered share)
+      (appends slots id m entry serving its admitted answered share)
 
   -- ---- the turn is passed on
 

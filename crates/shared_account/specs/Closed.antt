@@ -1,7 +1,7 @@
 -- The book of an account that was closed.
 use Rattle.std.specs.Prelude.{◌≡◌, ◌≤◌, ℕ, Option, List, length}
 use Rattle.account_core.specs.Answers.{IsLegal}
-use Rattle.account_core.specs.Events.{EntryData}
+use Rattle.account_core.specs.Entries.{EntryData}
 use Rattle.account_core.specs.Ledger.{Ledger}
 use Rattle.shared_account.specs.Own.{IsMerged}
 use Rattle.shared_account.specs.Terms.{Terms}

@@ -27,4 +27,4 @@ pub record IsClosedAs (start : Start) (lasts : List Ledger) (account : Ledger) :
   pub legal : IsLegal account.opening account.until account.history
   pub short : length account.history ≤ account.limit
   pub each : HaveEnded account 0 lasts
-  pub no_others : All (λ event. event.seat < length lasts) account.history
+  pub no_others : All (λ entry. entry.seat < length lasts) account.history

@@ -2,7 +2,7 @@
 use Rattle.std.specs.Prelude.{◌≡◌, ◌≢◌, ◌⊎◌, ◌%◌, ◌^◌, ℕ, Option, Some, List, [], ◌∷◌, ◌++◌}
 use Rattle.atomic_table.specs.Table.{Me, Step, rest}
 use Rattle.account_core.specs.Answers.{IsLegal}
-use Rattle.account_core.specs.Events.{EntryData}
+use Rattle.account_core.specs.Entries.{EntryData}
 use Rattle.account_core.specs.Ledger.{Ledger}
 use Rattle.shared_account.specs.Own.{own}
 use Rattle.shared_account.specs.Prefixes.{IsPrefix}
@@ -20,7 +20,7 @@ At = Step (Option Ledger)
 
 -- an account with one more entry
 abbrev pub with_entry : Ledger → EntryData → Ledger
-with_entry account event = record account { history = account.history ++ event ∷ [] }
+with_entry account entry = record account { history = account.history ++ entry ∷ [] }
 
 -- the same seat, later: it has seen a legal history that begins with what it had seen, and has no more entries of its own
 pub record IsLater (before after : View) : Type 0 where
@@ -51,7 +51,7 @@ looked step before found after =
 
 -- an entry is counted
 abbrev pub appended : EntryData → At → Sitter → ℕ → Sitter → Type 0
-appended event step before found after = (after.0 ≡ seeing before.0 (with_entry before.0.seen event)) × (after.1 ≡ before.1)
+appended entry step before found after = (after.0 ≡ seeing before.0 (with_entry before.0.seen entry)) × (after.1 ≡ before.1)
 
 -- the turn is passed on, what was taken lies in the slot again, and what was seen is legal
 abbrev pub handed : At → Sitter → ℕ → Sitter → Type 0

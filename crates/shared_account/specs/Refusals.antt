@@ -2,9 +2,9 @@
 use Rattle.std.specs.Prelude.{◌≡◌, ℕ, List, reverse}
 use Rattle.account_core.specs.Answers.{IsLegal}
 use Rattle.account_core.specs.Asked.{Asked}
-use Rattle.account_core.specs.Events.{EntryData}
+use Rattle.account_core.specs.Entries.{EntryData}
 use Rattle.account_core.specs.Ledger.{IsRefusal, Ledger}
-use Rattle.account_core.specs.Places.{IsClosing}
+use Rattle.account_core.specs.Places.{IsOwed}
 use Rattle.account_core.specs.declared.fault.AccountFault.{AccountFault}
 use Rattle.shared_account.specs.Own.{of_call}
 
@@ -24,7 +24,7 @@ pub record IsRefusedAt (Was : Knowing) (mine : List EntryData) (asked : Asked) (
   pub was : Was mine (record { account = account; asked = asked; why = why })
   pub legal : IsLegal account.opening account.until account.history
   pub refused : IsRefusal account asked why
-  pub room : IsClosing (reverse account.history) asked → IsClosing (reverse mine) asked → ⊥
+  pub room : IsOwed (reverse account.history) asked → IsOwed (reverse mine) asked → ⊥
 
 -- a call is a seat's alone: the account, whenever it refused the seat, had no entries of the call but the seat's own
 abbrev pub IsAlone : Knowing → ℕ → Type 0

@@ -1,7 +1,7 @@
 -- Seats as their callers see them.
 use Rattle.std.specs.Prelude.{◌+◌, ◌==◌, ◌&&◌, ℕ, Bool, true, List, [], ◌∷◌, ◌++◌, length}
 use Rattle.std.proofs.Common.{zero, suc}
-use Rattle.account_core.specs.Events.{EntryData}
+use Rattle.account_core.specs.Entries.{EntryData}
 
 -- the account that a seat is of, its number there, and its own entries, oldest first
 pub record SeatView : Type 0 where

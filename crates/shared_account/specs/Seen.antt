@@ -1,6 +1,6 @@
 -- What the seats of a turn account have seen, and where a book shows it.
 use Rattle.std.specs.Prelude.{◌≡◌, ℕ, List, true, All}
-use Rattle.account_core.specs.Events.{EntryData}
+use Rattle.account_core.specs.Entries.{EntryData}
 use Rattle.account_core.specs.Ledger.{Ledger}
 use Rattle.shared_account.specs.Closed.{Closed}
 use Rattle.shared_account.specs.Own.{asks_of_call, own}
@@ -32,7 +32,7 @@ pub record StoodIn (book : Closed) (seat : ℕ) (mine : List EntryData) (refusal
 
 -- each entry of a call in a book is by this seat
 abbrev pub IsBySeat : Closed → ℕ → ℕ → Type 0
-IsBySeat book seat call = All (λ event. asks_of_call call event.asked ≡ true → event.seat ≡ seat) book.history
+IsBySeat book seat call = All (λ entry. asks_of_call call entry.asked ≡ true → entry.seat ≡ seat) book.history
 
 -- a call whose entries in a book are all by one seat was that seat's alone
 abbrev pub CallsOfOneSeatAreAlone : Type 0

@@ -8,7 +8,7 @@ ghost use Rattle.shared_account.specs.declared.board.Stage.TheVariants.{Idles};
 ghost use Rattle.shared_account.specs.TurnViews.{fresh_turn_seats};
 ghost use Rattle.shared_account.specs.Sitting.{IsAt};
 ghost use Rattle.account_core.specs.Asked.{Credits};
-ghost use Rattle.account_core.specs.Events.{EntryData};
+ghost use Rattle.account_core.specs.Entries.{EntryData};
 ghost use Rattle.account_core.specs.declared.entry.Reply.TheVariants as reply;
 
 use crate::turn::next_chair;

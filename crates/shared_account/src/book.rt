@@ -6,7 +6,7 @@ ghost use Rattle.shared_account.specs.Own.{IsMerged, own};
 ghost use Rattle.shared_account.specs.Seats.{are_all, are_numbered};
 ghost use Rattle.account_core.specs.Answers.{IsLegal};
 ghost use Rattle.account_core.specs.Available.{available};
-ghost use Rattle.account_core.specs.Events.{entry_data, asked_of};
+ghost use Rattle.account_core.specs.Entries.{entry_data, asked_of};
 ghost use Rattle.account_core.specs.Sums.{AreSums};
 ghost use Rattle.tariff_core.specs.RatesOf.{rates_of};
 ghost use Rattle.shared_account.specs.declared.fault.CloseFault.TheVariants as close;

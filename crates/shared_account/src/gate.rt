@@ -17,7 +17,7 @@ pub trait Gate {
     fn inside(&self, account: u32) -> bool
         ensures { result ≡ false → may_shut self.now };
 
-    /// Told by a worker after it has answered a message of a call.
+    /// Called by a worker after it has answered a message of a call.
     fn after(&self, worker: u32, call: u64);
 }
 

@@ -8,9 +8,9 @@ ghost use Rattle.shared_account.specs.Kinds.{IsReplyTo, IsReturn};
 ghost use Rattle.shared_account.specs.Own.{of_call};
 ghost use Rattle.shared_account.specs.Room.{stage_in};
 ghost use Rattle.account_core.specs.Asked.{call_of, Credits, IsCredit, IsOfCall};
-ghost use Rattle.account_core.specs.Events.{asked_of, entry_data};
-ghost use Rattle.account_core.specs.Ledger.{IsRefusal, answer_of, event_by, refusal_of};
-ghost use Rattle.account_core.specs.Places.{IsClosing};
+ghost use Rattle.account_core.specs.Entries.{asked_of, entry_data};
+ghost use Rattle.account_core.specs.Ledger.{IsRefusal, answer_of, entry_by, refusal_of};
+ghost use Rattle.account_core.specs.Places.{IsOwed};
 ghost use Rattle.account_core.specs.Admitting.{IsAdmitted};
 
 use account_core::{
@@ -37,7 +37,7 @@ pub struct Seat {
 impl Model for Seat {
     ghost use Rattle.std.specs.Prelude.{map, reverse};
     ghost use Rattle.std.specs.Vec.{vec_capacity};
-    ghost use Rattle.account_core.specs.Events.{entry_data};
+    ghost use Rattle.account_core.specs.Entries.{entry_data};
     ghost use Rattle.shared_account.specs.Room.{IsRoomy};
     ghost use Rattle.shared_account.specs.Seats.{SeatView};
 
@@ -98,10 +98,10 @@ impl Seat {
     pub fn apply_to(&mut self, account: &mut Account, op: Op) -> Result<Reply, AccountFault>
         ensures answered { IfOk result (λ reply. reply ≡ answer_of account.old (asked_of op)) }
         ensures entered { IfOk result (λ reply. account.new ≡ record account.old {
-          history = account.old.history ++ event_by self.old.number (asked_of op) reply ∷ [];
+          history = account.old.history ++ entry_by self.old.number (asked_of op) reply ∷ [];
         }) }
         ensures mine { IfOk result (λ reply. self.new ≡ record self.old {
-          mine = self.old.mine ++ event_by self.old.number (asked_of op) reply ∷ [];
+          mine = self.old.mine ++ entry_by self.old.number (asked_of op) reply ∷ [];
         }) }
         ensures admitted { OnOk result (refusal_of account.old (asked_of op) ≡ None) }
         ensures account_kept { OnErr result (account.new ≡ account.old) }
@@ -109,11 +109,11 @@ impl Seat {
         ensures refused { IfErr result (λ fault. IsRefusal account.old (asked_of op) fault) }
         ensures ungated { result ≢ Err AccountFault.GateClosed }
         ensures kind { IfOk result (λ reply. IsReplyTo (asked_of op) reply) }
-        ensures returning { IsReturn (asked_of op) → IsClosing (reverse self.old.mine) (asked_of op)
+        ensures returning { IsReturn (asked_of op) → IsOwed (reverse self.old.mine) (asked_of op)
             → IfErr result (λ fault. fault ≡ AccountFault.NotOpen) }
-        ensures closing { IsClosing (reverse account.old.history) (asked_of op)
-            → IsClosing (reverse self.old.mine) (asked_of op) → IsOk result }
-        ensures own { IsClosing (reverse account.old.history) (asked_of op)
+        ensures owed { IsOwed (reverse account.old.history) (asked_of op)
+            → IsOwed (reverse self.old.mine) (asked_of op) → IsOk result }
+        ensures own { IsOwed (reverse account.old.history) (asked_of op)
             → of_call (call_of (asked_of op)) account.old.history
             ≡ of_call (call_of (asked_of op)) self.old.mine
             → IsOk result }
@@ -137,11 +137,11 @@ impl Seat {
         ensures answered { IfOk result (λ reply. reply
             ≡ answer_of account.old (Credits amount until)) }
         ensures entered { IfOk result (λ reply. account.new ≡ record account.old {
-          history = account.old.history ++ event_by self.old.number (Credits amount until) reply
+          history = account.old.history ++ entry_by self.old.number (Credits amount until) reply
               ∷ [];
         }) }
         ensures mine { IfOk result (λ reply. self.new ≡ record self.old {
-          mine = self.old.mine ++ event_by self.old.number (Credits amount until) reply ∷ [];
+          mine = self.old.mine ++ entry_by self.old.number (Credits amount until) reply ∷ [];
         }) }
         ensures admitted { OnOk result (refusal_of account.old (Credits amount until) ≡ None) }
         ensures account_kept { OnErr result (account.new ≡ account.old) }
@@ -166,18 +166,18 @@ impl Seat {
         requires { IsOfCall call (asked_of op) }
         ensures answered { IfOk result (λ reply. reply ≡ answer_of account.old (asked_of op)) }
         ensures entered { IfOk result (λ reply. account.new ≡ record account.old {
-          history = account.old.history ++ event_by self.old.number (asked_of op) reply ∷ [];
+          history = account.old.history ++ entry_by self.old.number (asked_of op) reply ∷ [];
         }) }
         ensures mine { IfOk result (λ reply. self.new ≡ record self.old {
-          mine = self.old.mine ++ event_by self.old.number (asked_of op) reply ∷ [];
+          mine = self.old.mine ++ entry_by self.old.number (asked_of op) reply ∷ [];
         }) }
         ensures admitted { OnOk result (refusal_of account.old (asked_of op) ≡ None) }
         ensures account_kept { OnErr result (account.new ≡ account.old) }
         ensures kept { OnErr result (self.new ≡ self.old) }
         ensures refused { IfErr result (λ fault. IsRefusal account.old (asked_of op) fault) }
         ensures ungated { result ≢ Err AccountFault.GateClosed }
-        ensures closing { IsClosing (reverse account.old.history) (asked_of op)
-            → IsClosing (reverse self.old.mine) (asked_of op) → IsOk result }
+        ensures owed { IsOwed (reverse account.old.history) (asked_of op)
+            → IsOwed (reverse self.old.mine) (asked_of op) → IsOk result }
     {
         match account.admit(op) {
             Ok(admitted) => Ok(self.enter_call(account, call, admitted)?),
@@ -198,11 +198,11 @@ impl Seat {
         ensures answered { IfOk result (λ reply. reply
             ≡ answer_of account.old (asked_of admitted.op)) }
         ensures entered { IfOk result (λ reply. account.new ≡ record account.old {
-          history = account.old.history ++ event_by self.old.number (asked_of admitted.op) reply
+          history = account.old.history ++ entry_by self.old.number (asked_of admitted.op) reply
               ∷ [];
         }) }
         ensures mine { IfOk result (λ reply. self.new ≡ record self.old {
-          mine = self.old.mine ++ event_by self.old.number (asked_of admitted.op) reply ∷ [];
+          mine = self.old.mine ++ entry_by self.old.number (asked_of admitted.op) reply ∷ [];
         }) }
         ensures account_kept { OnErr result (account.new ≡ account.old) }
         ensures kept { OnErr result (self.new ≡ self.old) }
@@ -229,16 +229,16 @@ impl Seat {
         ensures answered { IfOk result (λ reply. reply
             ≡ answer_of account.old (asked_of admitted.op)) }
         ensures entered { IfOk result (λ reply. account.new ≡ record account.old {
-          history = account.old.history ++ event_by self.old.number (asked_of admitted.op) reply
+          history = account.old.history ++ entry_by self.old.number (asked_of admitted.op) reply
               ∷ [];
         }) }
         ensures mine { IfOk result (λ reply. self.new ≡ record self.old {
-          mine = self.old.mine ++ event_by self.old.number (asked_of admitted.op) reply ∷ [];
+          mine = self.old.mine ++ entry_by self.old.number (asked_of admitted.op) reply ∷ [];
         }) }
         ensures account_kept { OnErr result (account.new ≡ account.old) }
         ensures kept { OnErr result (self.new ≡ self.old) }
-        ensures closing { IsClosing (reverse account.old.history) (asked_of admitted.op)
-            → IsClosing (reverse self.old.mine) (asked_of admitted.op) → IsOk result }
+        ensures owed { IsOwed (reverse account.old.history) (asked_of admitted.op)
+            → IsOwed (reverse self.old.mine) (asked_of admitted.op) → IsOk result }
     {
         places_go_with_entries();
         let seat = self.number;

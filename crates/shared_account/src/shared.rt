@@ -32,9 +32,9 @@ pub trait Shared: Sync + Drop {
     ghost use Rattle.std.specs.Prelude.{◌≡◌, ◌≤◌, ◌↔◌, ◌⊎◌, ◌++◌, ◌∷◌, ℕ, List, [], true, false, Result, map, reverse, All, MatchResult, IfOk, IfErr};
     ghost use Rattle.std.specs.Coded.{Coded};
     ghost use Rattle.account_core.specs.Asked.{Asked, call_of};
-    ghost use Rattle.account_core.specs.Events.{EntryData, asked_of};
-    ghost use Rattle.account_core.specs.Ledger.{event_by};
-    ghost use Rattle.account_core.specs.Places.{IsClosing};
+    ghost use Rattle.account_core.specs.Entries.{EntryData, asked_of};
+    ghost use Rattle.account_core.specs.Ledger.{entry_by};
+    ghost use Rattle.account_core.specs.Places.{IsOwed};
     ghost use Rattle.account_core.specs.declared.entry.Reply.{Reply};
     ghost use Rattle.account_core.specs.declared.fault.AccountFault.{AccountFault};
     ghost use Rattle.account_core.specs.declared.fault.AccountFault.TheVariants as out;
@@ -98,7 +98,7 @@ pub trait Shared: Sync + Drop {
     /// then the faults of `Account::apply`, for an account that the seat then knows. What the seat
     /// knew it still knows.
     ///
-    /// Where a call is the seat's alone, the gate alone refuses what closes the call by the seat's
+    /// Where a call is the seat's alone, the gate alone refuses what the call is owed by the seat's
     /// own entries: its Return, and its first Settle since its last grant. A Return of a call that
     /// these show granted and not returned is refused by nothing but `NotOpen` and `GateClosed`.
     fn call<R: Wait, G: Gate>(
@@ -113,7 +113,7 @@ pub trait Shared: Sync + Drop {
         ensures same_number { reads.number seat.new ≡ reads.number seat.old }
         ensures mine { MatchResult result
             (λ reply. reads.mine seat.new
-            ≡ reads.mine seat.old ++ event_by (reads.number seat.old) (asked_of op) reply ∷ [])
+            ≡ reads.mine seat.old ++ entry_by (reads.number seat.old) (asked_of op) reply ∷ [])
             (λ _. reads.mine seat.new ≡ reads.mine seat.old) }
         ensures kind { IfOk result (λ reply. IsReplyTo (asked_of op) reply) }
         ensures called { calls seat.old (asked_of op) result seat.new }
@@ -121,12 +121,12 @@ pub trait Shared: Sync + Drop {
             ⊎ IsRefusedAt (was seat.new) (reads.mine seat.old) (asked_of op) fault) }
         ensures was { (mine : List EntryData) (refusal : Refusal)
             → was seat.old mine refusal → was seat.new mine refusal }
-        ensures closing { IsAlone (was seat.new) (call_of (asked_of op))
-            → IsClosing (reverse (reads.mine seat.old)) (asked_of op)
+        ensures owed { IsAlone (was seat.new) (call_of (asked_of op))
+            → IsOwed (reverse (reads.mine seat.old)) (asked_of op)
             → IfErr result (λ fault. fault ≡ out.GateClosed) }
         ensures gate { result ≡ Err out.GateClosed → G.may_shut gate.now }
         ensures returning { IsReturn (asked_of op)
-            → IsClosing (reverse (reads.mine seat.old)) (asked_of op)
+            → IsOwed (reverse (reads.mine seat.old)) (asked_of op)
             → IfErr result (λ fault. (fault ≡ out.NotOpen) ⊎ (fault ≡ out.GateClosed)) };
 
     /// Ends the sharing: the account's book, where all of its seats are handed in, in the order of

@@ -5,9 +5,9 @@ ghost use Rattle.shared_account.specs.Closed.{IsBookOf};
 ghost use Rattle.shared_account.specs.Kinds.{IsReplyTo, IsReturn};
 ghost use Rattle.shared_account.specs.Refusals.{IsRefusedAt, Refusal};
 ghost use Rattle.shared_account.specs.Seats.{are_all, fresh_seats};
-ghost use Rattle.account_core.specs.Events.{EntryData, asked_of};
-ghost use Rattle.account_core.specs.Ledger.{event_by};
-ghost use Rattle.account_core.specs.Places.{IsClosing};
+ghost use Rattle.account_core.specs.Entries.{EntryData, asked_of};
+ghost use Rattle.account_core.specs.Ledger.{entry_by};
+ghost use Rattle.account_core.specs.Places.{IsOwed};
 ghost use Rattle.shared_account.specs.declared.fault.CloseFault.TheVariants as close;
 
 use crate::board::Start;
@@ -105,14 +105,14 @@ impl SharedAccount {
     ) -> Result<Reply, AccountFault>
         requires { seat.old.account ≡ self.now.number }
         ensures mine { IfOk result (λ reply. seat.new ≡ record seat.old {
-          mine = seat.old.mine ++ event_by seat.old.number (asked_of op) reply ∷ [];
+          mine = seat.old.mine ++ entry_by seat.old.number (asked_of op) reply ∷ [];
         }) }
         ensures kind { IfOk result (λ reply. IsReplyTo (asked_of op) reply) }
         ensures kept { OnErr result (seat.new ≡ seat.old) }
         ensures refused { IfErr result (λ fault. (fault ≡ AccountFault.GateClosed)
             ⊎ IsRefusedAt (λ _ _. Unit {0}) seat.old.mine (asked_of op) fault) }
         ensures gate { result ≡ Err AccountFault.GateClosed → G.may_shut gate.now }
-        ensures returning { IsReturn (asked_of op) → IsClosing (reverse seat.old.mine) (asked_of op)
+        ensures returning { IsReturn (asked_of op) → IsOwed (reverse seat.old.mine) (asked_of op)
             → IfErr result (λ fault.
             (fault ≡ AccountFault.NotOpen) ⊎ (fault ≡ AccountFault.GateClosed)) }
     {

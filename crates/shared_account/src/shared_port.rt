@@ -1,9 +1,9 @@
 //! The port of a shared account.
 
 ghost use Rattle.std.specs.Prelude.{◌≡◌, ◌⊎◌, ◌++◌, ◌∷◌, [], reverse, IfErr, IfOk, MatchResult};
-ghost use Rattle.account_core.specs.Events.{asked_of};
-ghost use Rattle.account_core.specs.Ledger.{event_by};
-ghost use Rattle.account_core.specs.Places.{IsClosing};
+ghost use Rattle.account_core.specs.Entries.{asked_of};
+ghost use Rattle.account_core.specs.Ledger.{entry_by};
+ghost use Rattle.account_core.specs.Places.{IsOwed};
 ghost use Rattle.shared_account.specs.Kinds.{IsReplyTo, IsReturn};
 ghost use Rattle.shared_account.specs.Refusals.{IsRefusedAt};
 ghost use Rattle.std.specs.Coded.{Coded-set};
@@ -51,7 +51,7 @@ impl<S: Shared, R: Wait, G: Gate> Port for SharedPort<'_, S, R, G> {
     fn ask(&mut self, op: Op) -> Result<Reply, AccountFault>
         ensures mine { MatchResult result
             (λ reply. S.reads.mine self.new.seat.now ≡ S.reads.mine self.old.seat.now
-            ++ event_by (S.reads.number self.old.seat.now) (asked_of op) reply ∷ [])
+            ++ entry_by (S.reads.number self.old.seat.now) (asked_of op) reply ∷ [])
             (λ _. S.reads.mine self.new.seat.now ≡ S.reads.mine self.old.seat.now) }
         ensures kind { IfOk result (λ reply. IsReplyTo (asked_of op) reply) }
         ensures called { S.calls self.old.seat.now (asked_of op) result self.new.seat.now }
@@ -60,7 +60,7 @@ impl<S: Shared, R: Wait, G: Gate> Port for SharedPort<'_, S, R, G> {
             (S.reads.mine self.old.seat.now) (asked_of op) fault) }
         ensures gate { result ≡ Err AccountFault.GateClosed → G.may_shut self.old.gate.now }
         ensures returning { IsReturn (asked_of op)
-            → IsClosing (reverse (S.reads.mine self.old.seat.now)) (asked_of op)
+            → IsOwed (reverse (S.reads.mine self.old.seat.now)) (asked_of op)
             → IfErr result (λ fault.
             (fault ≡ AccountFault.NotOpen) ⊎ (fault ≡ AccountFault.GateClosed)) }
     {

@@ -7,9 +7,9 @@ ghost use Rattle.shared_account.specs.Sitting.{IsAt};
 ghost use Rattle.shared_account.specs.Views.{IsServing, its_ticket, at_stage, hearing, next_seat, one_seat_more, seeing, taking_in};
 ghost use Rattle.shared_account.specs.declared.board.Stage.TheVariants.{Idles, Waits};
 ghost use Rattle.shared_account.specs.Prefixes.{IsPrefix};
-ghost use Rattle.account_core.specs.Events.{asked_of, entry_data};
-ghost use Rattle.account_core.specs.Ledger.{IsRefusal, answer_of, event_by, refusal_of};
-ghost use Rattle.account_core.specs.Places.{IsClosing};
+ghost use Rattle.account_core.specs.Entries.{asked_of, entry_data};
+ghost use Rattle.account_core.specs.Ledger.{IsRefusal, answer_of, entry_by, refusal_of};
+ghost use Rattle.account_core.specs.Places.{IsOwed};
 
 #[cfg(test)]
 mod tests;
@@ -68,13 +68,13 @@ pub(crate) fn ask_in_turn(
     ensures answered { IfOk result (λ reply. reply ≡ answer_of chair.old.me.0.seen (asked_of op)) }
     ensures entered { IfOk result (λ reply. chair.new.me.1 ≡ (
       0,
-      Some (with_entry chair.old.me.0.seen (event_by seat (asked_of op) reply)),
+      Some (with_entry chair.old.me.0.seen (entry_by seat (asked_of op) reply)),
     ) ∷ []) }
     ensures admitted { OnOk result (refusal_of chair.old.me.0.seen (asked_of op) ≡ None) }
     ensures kept { OnErr result (chair.new.me ≡ chair.old.me) }
     ensures refused { IfErr result (λ fault. IsRefusal chair.old.me.0.seen (asked_of op) fault) }
     ensures ungated { result ≢ Err AccountFault.GateClosed }
-    ensures closing { IsClosing (reverse chair.old.me.0.seen.history) (asked_of op)
+    ensures owed { IsOwed (reverse chair.old.me.0.seen.history) (asked_of op)
         → IsOk result }
 {
     match chair.slot_mut(&board.shared, SLOT) {

@@ -11,9 +11,9 @@ ghost use Rattle.shared_account.specs.TurnViews.{IsSameSeat, fresh_turn_seats, o
 ghost use Rattle.shared_account.specs.Sitting.{IsAt};
 ghost use Rattle.shared_account.specs.Views.{IsServing, seeing};
 ghost use Rattle.account_core.specs.Answers.{IsLegal};
-ghost use Rattle.account_core.specs.Events.{EntryData, asked_of};
-ghost use Rattle.account_core.specs.Ledger.{IsRefusal, event_by};
-ghost use Rattle.account_core.specs.Places.{IsClosing};
+ghost use Rattle.account_core.specs.Entries.{EntryData, asked_of};
+ghost use Rattle.account_core.specs.Ledger.{IsRefusal, entry_by};
+ghost use Rattle.account_core.specs.Places.{IsOwed};
 ghost use Rattle.shared_account.specs.declared.fault.CloseFault.TheVariants as close;
 
 use crate::board::{Board, Chair, Start, lay_board, make_seats};
@@ -125,20 +125,20 @@ impl TurnAccount {
         ensures legal { IsLegal seat.new.view.opening seat.new.view.until seat.new.view.history }
         ensures begins { IsPrefix seat.old.view.history seat.new.view.history }
         ensures ends { IfOk result (λ reply. EndsWithEntry seat.old.view.history
-            (event_by seat.old.number (asked_of op) reply) seat.new.view.history) }
+            (entry_by seat.old.number (asked_of op) reply) seat.new.view.history) }
         ensures own { MatchResult result
             (λ reply. own_of seat.new
-            ≡ own_of seat.old ++ event_by seat.old.number (asked_of op) reply ∷ [])
+            ≡ own_of seat.old ++ entry_by seat.old.number (asked_of op) reply ∷ [])
             (λ _. own_of seat.new ≡ own_of seat.old) }
         ensures refused { IfErr result (λ fault. (fault ≡ AccountFault.GateClosed)
             ⊎ IsRefusal seat.new.view (asked_of op) fault) }
         ensures gate { result ≡ Err AccountFault.GateClosed → G.may_shut gate.now }
-        ensures closing { IsClosing (reverse seat.new.view.history) (asked_of op)
+        ensures owed { IsOwed (reverse seat.new.view.history) (asked_of op)
             → IfErr result (λ fault. fault ≡ AccountFault.GateClosed) }
     {
         let _door = self.door.lock(rt);
         take_turn(rt, &self.board, &mut seat.chair);
-        let result = enter(
+        let result = ask_and_count(
             &self.board,
             &mut seat.chair,
             self.number,
@@ -195,7 +195,7 @@ impl TurnAccount {
 }
 
 /// Asks the account of a chair that has the turn, where the gate lets it, and counts the entry.
-fn enter<G: Gate>(
+fn ask_and_count<G: Gate>(
     board: &Board,
     chair: &mut Chair,
     account: u32,
@@ -210,12 +210,12 @@ fn enter<G: Gate>(
     ensures table { chair.new.table_id ≡ chair.old.table_id }
     ensures hands { chair.new.me.1 ≡ (0, Some chair.new.me.0.seen) ∷ [] }
     ensures entered { IfOk result (λ reply. chair.new.me.0 ≡ seeing chair.old.me.0
-        (with_entry chair.old.me.0.seen (event_by seat (asked_of op) reply))) }
+        (with_entry chair.old.me.0.seen (entry_by seat (asked_of op) reply))) }
     ensures kept { OnErr result (chair.new.me.0 ≡ chair.old.me.0) }
     ensures refused { IfErr result (λ fault. (fault ≡ AccountFault.GateClosed)
         ⊎ IsRefusal chair.old.me.0.seen (asked_of op) fault) }
     ensures gate { result ≡ Err AccountFault.GateClosed → G.may_shut gate.now }
-    ensures closing { IsClosing (reverse chair.old.me.0.seen.history) (asked_of op)
+    ensures owed { IsOwed (reverse chair.old.me.0.seen.history) (asked_of op)
         → IfErr result (λ fault. fault ≡ AccountFault.GateClosed) }
 {
     if !gate.inside(account) {

@@ -58,8 +58,8 @@ takes_run config last now s0 s t input sent result outs quiet run takes =
 pub bounded : (last : ℕ) (s : Stage) → last ≤ 2000000000000 → IsTimelyStage last s → IsBounded s
 bounded last stage.Unused le timely = tt
 bounded last stage.Requested le timely = tt
-bounded last (stage.Initial setup d) le timely = tt
-bounded last (stage.Setup setup) le timely = tt
+bounded last (stage.Initial early d) le timely = tt
+bounded last (stage.Early early) le timely = tt
 bounded last (stage.Active active) le timely = (let before = timely.answered in omega arith, timely.granted)
 bounded last (stage.Down d) le timely = tt
 bounded last stage.Ended le timely = tt

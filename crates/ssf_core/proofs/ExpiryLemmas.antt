@@ -1,11 +1,11 @@
--- An expiry is the table's, and the trace goes on by it.
+-- An expiry is by the rules, and the trace goes on by it.
 use Rattle.std.proofs.Common.{◌≡◌, ◌+◌, ◌≤◌, ◌++◌, ℕ, Some, List, [], ◌∷◌, refl, sym, ap, ◌∙◌, append_assoc, arith}
 use Rattle.ssf_core.specs.Happenings.{Happening, Expired, sent_at, sent_in}
 use Rattle.ssf_core.specs.Running.{HasExpired}
 use Rattle.ssf_core.specs.Stages.{IsChargingTimely, IsSwitchTimely, IsTimelyStage, due_by, next_expiry_of, stage_due, switch_due_of, tccd_due_of, tcp_due_of}
 use Rattle.ssf_core.specs.Stands.{StageMatches, StageStands, ssf_phase_of, running_period}
 use Rattle.ssf_core.specs.Steps.{Expires}
-use Rattle.ssf_core.specs.Table.{on_expiry}
+use Rattle.ssf_core.specs.Rules.{on_expiry}
 use Rattle.ssf_core.specs.Traces.{MayFollow, due, due_in, period_due, phase_after}
 use Rattle.ssf_core.specs.declared.config.SsfConfig.{SsfConfig}
 use Rattle.ssf_core.specs.declared.item.Item.{Item}
@@ -44,14 +44,14 @@ tccd_timely_due now end (charging.Over m) d timely due = let same : m ≡ d = cc
 pub timely_due : (now : ℕ) (s : Stage) (timer : Timer) (d : ℕ) → IsTimelyStage now s → stage_due s timer ≡ Some d → now ≤ d
 timely_due now stage.Unused timer d timely due = absurd (cc)
 timely_due now stage.Requested timer d timely due = absurd (cc)
-timely_due now (stage.Initial setup m) Tsw d timely due = switch_timely_due now setup.switch d timely.1 due
-timely_due now (stage.Initial setup m) Tcp d timely due = absurd (cc)
-timely_due now (stage.Initial setup m) Tccd d timely due = absurd (cc)
-timely_due now (stage.Initial setup m) Tssf d timely due = let same : m ≡ d = cc in let le = timely.0 in omega arith
-timely_due now (stage.Setup setup) Tsw d timely due = switch_timely_due now setup.switch d timely due
-timely_due now (stage.Setup setup) Tcp d timely due = absurd (cc)
-timely_due now (stage.Setup setup) Tccd d timely due = absurd (cc)
-timely_due now (stage.Setup setup) Tssf d timely due = absurd (cc)
+timely_due now (stage.Initial early m) Tsw d timely due = switch_timely_due now early.switch d timely.1 due
+timely_due now (stage.Initial early m) Tcp d timely due = absurd (cc)
+timely_due now (stage.Initial early m) Tccd d timely due = absurd (cc)
+timely_due now (stage.Initial early m) Tssf d timely due = let same : m ≡ d = cc in let le = timely.0 in omega arith
+timely_due now (stage.Early early) Tsw d timely due = switch_timely_due now early.switch d timely due
+timely_due now (stage.Early early) Tcp d timely due = absurd (cc)
+timely_due now (stage.Early early) Tccd d timely due = absurd (cc)
+timely_due now (stage.Early early) Tssf d timely due = absurd (cc)
 timely_due now (stage.Active active) Tsw d timely due = switch_timely_due now active.switch d timely.switch due
 timely_due now (stage.Active active) Tcp d timely due = tcp_timely_due now (active.answered + active.granted) active.charging d timely.charging due
 timely_due now (stage.Active active) Tccd d timely due = tccd_timely_due now (active.answered + active.granted) active.charging d timely.charging due
@@ -77,14 +77,14 @@ due_in-stage config t stage.Requested Tsw m = refl
 due_in-stage config t stage.Requested Tcp m = refl
 due_in-stage config t stage.Requested Tccd m = refl
 due_in-stage config t stage.Requested Tssf m = refl
-due_in-stage config t (stage.Initial setup moment) Tsw m = m.0.same_awaited
-due_in-stage config t (stage.Initial setup moment) Tcp m = refl
-due_in-stage config t (stage.Initial setup moment) Tccd m = refl
-due_in-stage config t (stage.Initial setup moment) Tssf m = ap (λ (d : ℕ). Some d) m.1
-due_in-stage config t (stage.Setup setup) Tsw m = m.same_awaited
-due_in-stage config t (stage.Setup setup) Tcp m = refl
-due_in-stage config t (stage.Setup setup) Tccd m = refl
-due_in-stage config t (stage.Setup setup) Tssf m = refl
+due_in-stage config t (stage.Initial early moment) Tsw m = m.0.same_awaited
+due_in-stage config t (stage.Initial early moment) Tcp m = refl
+due_in-stage config t (stage.Initial early moment) Tccd m = refl
+due_in-stage config t (stage.Initial early moment) Tssf m = ap (λ (d : ℕ). Some d) m.1
+due_in-stage config t (stage.Early early) Tsw m = m.same_awaited
+due_in-stage config t (stage.Early early) Tcp m = refl
+due_in-stage config t (stage.Early early) Tccd m = refl
+due_in-stage config t (stage.Early early) Tssf m = refl
 due_in-stage config t (stage.Active active) Tsw m = m.same_awaited
 due_in-stage config t (stage.Active active) Tcp m = rw (m.same_wish, m.same_answer, m.same_sum) (period_due-running_period active.charging active.answered active.granted)
 due_in-stage config t (stage.Active active) Tccd m = m.same_wait
@@ -102,7 +102,7 @@ due_in-stage config t stage.Ended Tssf m = refl
 pub due-stage : (config : SsfConfig) (last : ℕ) (s : Stage) (t : List Happening) (timer : Timer) → StageStands config last s t → due config t timer ≡ stage_due s timer
 due-stage config last s t timer st = ap (λ p. due_in config t p timer) st.phase ∙ due_in-stage config t s timer st.data'
 
--- the expiry that is next, as the table has it
+-- the expiry that is next, as the rules have it
 abbrev pub next_happening : SsfConfig → List Happening → Expiry → Happening
 next_happening config t e = record {
   at = e.due;

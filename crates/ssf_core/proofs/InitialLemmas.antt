@@ -16,9 +16,9 @@ use Rattle.cap_values.specs.declared.operation.ScfOp.{ScfOp}
 use Rattle.cap_values.specs.declared.operation.ScfOp.TheVariants.{RequestReport, ApplyCharging, Continue, ReleaseCall}
 use Rattle.ssf_core.specs.Happenings.{Happening, What, Took, Expired, sent_at, sent_in}
 use Rattle.ssf_core.specs.Laws.{InitialDpIsFirst, IsNoInitialDp}
-use Rattle.ssf_core.specs.Phases.{SsfPhase, Unused, Requested, Initial, Setup, Active, Down, Ended}
+use Rattle.ssf_core.specs.Phases.{SsfPhase, Unused, Requested, Initial, Early, Active, Down, Ended}
 use Rattle.ssf_core.specs.Quantities.{answered, granted, mode_at, pending, period_end}
-use Rattle.ssf_core.specs.Table.{Effect, sent_before, any_watched, by_mode, ends, first_period, further_period, goes, is_fitting, last_report_sent, notified, on_abandon, on_answer, on_apply_charging, on_continue, on_disconnect, on_event, on_expiry, on_failure, on_input, on_invoke, on_operation, on_period_end, on_release_call, on_request_report, on_trigger, on_tssf, report}
+use Rattle.ssf_core.specs.Rules.{Effect, sent_before, any_watched, by_mode, ends, first_period, further_period, goes, is_fitting, last_report_sent, notified, on_abandon, on_answer, on_apply_charging, on_continue, on_disconnect, on_event, on_expiry, on_failure, on_input, on_invoke, on_operation, on_period_end, on_release_call, on_request_report, on_trigger, on_tssf, report}
 use Rattle.ssf_core.specs.Traces.{HasEffect, IsTrace, due_in, next_phase, phase_after}
 use Rattle.ssf_core.specs.declared.item.BcsmEvent.{BcsmEvent}
 use Rattle.ssf_core.specs.declared.item.BcsmEvent.TheVariants as met
@@ -37,7 +37,7 @@ use Rattle.ssf_core.specs.declared.timers.Timer.TheVariants.{Tsw, Tcp, Tccd, Tss
 IsNone : Out → Type 0
 IsNone out = IsNoInitialDp out.item
 
--- ---- what the table sends after the trigger
+-- ---- what the rules send after the trigger
 
 -- none of these items is an InitialDP
 abbrev NoneOf : List Item → Type 0
@@ -72,12 +72,12 @@ takes_request : (phase : SsfPhase) → Takes (on_request_report phase)
 takes_request Unused = tt
 takes_request Requested = tt
 takes_request Initial = (tt, tt)
-takes_request Setup = (tt, tt)
+takes_request Early = (tt, tt)
 takes_request Active = (tt, tt)
 takes_request Down = (tt, tt)
 takes_request Ended = tt
 
-takes_first : (wish : Option Bool) → Takes (first_period wish Initial) × Takes (first_period wish Setup)
+takes_first : (wish : Option Bool) → Takes (first_period wish Initial) × Takes (first_period wish Early)
 takes_first None = ((tt, tt), (tt, tt))
 takes_first (Some release) = (tt, tt)
 
@@ -90,12 +90,12 @@ takes_charging : (t : List Happening) (now : ℕ) (charge : Charge) (phase : Ssf
 takes_charging t now charge Unused = tt
 takes_charging t now charge Requested = tt
 takes_charging t now charge Initial = (takes_first (pending t)).0
-takes_charging t now charge Setup = (takes_first (pending t)).1
+takes_charging t now charge Early = (takes_first (pending t)).1
 takes_charging t now charge Active = takes_further (period_end t) (is_fitting (unwrap_or (answered t) 0) (granted t) charge.period now)
 takes_charging t now charge Down = tt
 takes_charging t now charge Ended = tt
 
-takes_going_on : (watched : Bool) → Takes (Ok (if watched then goes (Proceed ∷ []) Setup else ends (Proceed ∷ [])))
+takes_going_on : (watched : Bool) → Takes (Ok (if watched then goes (Proceed ∷ []) Early else ends (Proceed ∷ [])))
 takes_going_on true = ((tt, tt), tt)
 takes_going_on false = ((tt, (tt, tt)), tt)
 
@@ -103,7 +103,7 @@ takes_continue : (t : List Happening) (phase : SsfPhase) → Takes (on_continue 
 takes_continue t Unused = tt
 takes_continue t Requested = tt
 takes_continue t Initial = takes_going_on (any_watched (mode_at t) || is_some (pending t))
-takes_continue t Setup = tt
+takes_continue t Early = tt
 takes_continue t Active = tt
 takes_continue t Down = ((tt, (tt, tt)), tt)
 takes_continue t Ended = tt
@@ -112,7 +112,7 @@ takes_release : (t : List Happening) (now : ℕ) (cause : Cause) (phase : SsfPha
 takes_release t now cause Unused = tt
 takes_release t now cause Requested = tt
 takes_release t now cause Initial = ((tt, (tt, tt)), tt)
-takes_release t now cause Setup = ((tt, (tt, tt)), tt)
+takes_release t now cause Early = ((tt, (tt, tt)), tt)
 takes_release t now cause Active = (none_after t now (pending t) (Clear cause ∷ Msg message.Ended ∷ []) (tt, (tt, tt)), tt)
 takes_release t now cause Down = ((tt, (tt, tt)), tt)
 takes_release t now cause Ended = tt
@@ -127,7 +127,7 @@ takes_failure : (e : Event) (mode : Mode) (phase : SsfPhase) → Takes (on_failu
 takes_failure e mode Unused = tt
 takes_failure e mode Requested = tt
 takes_failure e mode Initial = tt
-takes_failure e mode Setup = none_by_mode e None mode
+takes_failure e mode Early = none_by_mode e None mode
 takes_failure e mode Active = tt
 takes_failure e mode Down = tt
 takes_failure e mode Ended = tt
@@ -141,7 +141,7 @@ takes_answer : (mode : Mode) (phase : SsfPhase) → Takes (on_answer mode phase)
 takes_answer mode Unused = tt
 takes_answer mode Requested = tt
 takes_answer mode Initial = tt
-takes_answer mode Setup = ((none_notified event.Answer mode).0, tt)
+takes_answer mode Early = ((none_notified event.Answer mode).0, tt)
 takes_answer mode Active = tt
 takes_answer mode Down = tt
 takes_answer mode Ended = tt
@@ -150,7 +150,7 @@ takes_abandon : (mode : Mode) (phase : SsfPhase) → Takes (on_abandon mode phas
 takes_abandon mode Unused = tt
 takes_abandon mode Requested = tt
 takes_abandon mode Initial = ((none_notified event.Abandon mode).1, tt)
-takes_abandon mode Setup = ((none_notified event.Abandon mode).1, tt)
+takes_abandon mode Early = ((none_notified event.Abandon mode).1, tt)
 takes_abandon mode Active = tt
 takes_abandon mode Down = tt
 takes_abandon mode Ended = tt
@@ -167,7 +167,7 @@ takes_disconnect : (t : List Happening) (now : ℕ) (leg : Leg) (phase : SsfPhas
 takes_disconnect t now leg Unused = tt
 takes_disconnect t now leg Requested = tt
 takes_disconnect t now leg Initial = tt
-takes_disconnect t now leg Setup = tt
+takes_disconnect t now leg Early = tt
 takes_disconnect t now leg Active = takes_hung_up t now leg (mode_at t (point.Disconnect leg))
 takes_disconnect t now leg Down = tt
 takes_disconnect t now leg Ended = tt
@@ -200,7 +200,7 @@ opened : (phase : SsfPhase) (outs : List Out) → Opens phase outs → All IsNon
 opened Unused outs is = subst (λ (l : List Out). All IsNone (drop 1 l)) (sym is) (All-nil IsNone)
 opened Requested outs is = subst (λ (l : List Out). All IsNone (drop 1 l)) (sym is) (All-nil IsNone)
 opened Initial outs is = is
-opened Setup outs is = is
+opened Early outs is = is
 opened Active outs is = is
 opened Down outs is = is
 opened Ended outs is = is
@@ -209,7 +209,7 @@ opens : (phase : SsfPhase) (outs : List Out) → IsTriggered phase → All IsNon
 opens Unused outs triggered all = absurd triggered
 opens Requested outs triggered all = absurd triggered
 opens Initial outs triggered all = all
-opens Setup outs triggered all = all
+opens Early outs triggered all = all
 opens Active outs triggered all = all
 opens Down outs triggered all = all
 opens Ended outs triggered all = all
@@ -248,7 +248,7 @@ follows_invoke : (phase : SsfPhase) (outs : List Out) (now : ℕ) → Follows ph
 follows_invoke Unused outs now = nothing_more outs
 follows_invoke Requested outs now = tt
 follows_invoke Initial outs now = tt
-follows_invoke Setup outs now = tt
+follows_invoke Early outs now = tt
 follows_invoke Active outs now = tt
 follows_invoke Down outs now = tt
 follows_invoke Ended outs now = tt
@@ -257,7 +257,7 @@ follows_trigger : (call : ℕ) (calling called : Number) (phase : SsfPhase) (out
 follows_trigger call calling called Unused outs now = tt
 follows_trigger call calling called Requested outs now = triggered_first outs (record { at = now; item = Msg (message.InitialDp call calling called) })
 follows_trigger call calling called Initial outs now = tt
-follows_trigger call calling called Setup outs now = tt
+follows_trigger call calling called Early outs now = tt
 follows_trigger call calling called Active outs now = tt
 follows_trigger call calling called Down outs now = tt
 follows_trigger call calling called Ended outs now = tt
@@ -279,7 +279,7 @@ runs_triggered config t Requested Tcp now runs = absurd (cc)
 runs_triggered config t Requested Tccd now runs = absurd (cc)
 runs_triggered config t Requested Tssf now runs = absurd (cc)
 runs_triggered config t Initial timer now runs = tt
-runs_triggered config t Setup timer now runs = tt
+runs_triggered config t Early timer now runs = tt
 runs_triggered config t Active timer now runs = tt
 runs_triggered config t Down timer now runs = tt
 runs_triggered config t Ended timer now runs = tt

@@ -1,4 +1,4 @@
--- An input is taken or refused as the table says.
+-- An input is taken or refused as the rules say.
 use Rattle.std.proofs.Common.{◌≡◌, ◌++◌, ℕ, Some, Result, Ok, Err, List, [], ◌∷◌, refl, sym, ap, subst, ◌∙◌, append_assoc, arith}
 use Rattle.std.specs.Result.{result_err, result_unwrap_or}
 use Rattle.ssf_core.specs.Calls.{fault_in, with_input}
@@ -6,7 +6,7 @@ use Rattle.ssf_core.specs.Happenings.{Happening, What, sent_at, sent_in}
 use Rattle.ssf_core.specs.Stages.{IsQuiet}
 use Rattle.ssf_core.specs.Stands.{StageStands}
 use Rattle.ssf_core.specs.Steps.{FollowsEffect, IsTakenInput, TakesInput}
-use Rattle.ssf_core.specs.Table.{Effect, sent_before, on_input}
+use Rattle.ssf_core.specs.Rules.{Effect, sent_before, on_input}
 use Rattle.ssf_core.specs.Traces.{next_in, phase_after}
 use Rattle.ssf_core.specs.declared.config.SsfConfig.{SsfConfig}
 use Rattle.ssf_core.specs.declared.fault.SsfFault.{SsfFault}

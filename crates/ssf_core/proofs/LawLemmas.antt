@@ -15,10 +15,10 @@ use Rattle.cap_values.specs.declared.number.Number.{Number}
 use Rattle.cap_values.specs.declared.operation.ScfOp.TheVariants.{RequestReport, ApplyCharging, Continue, ReleaseCall}
 use Rattle.ssf_core.specs.Happenings.{Happening, What, Took, Expired}
 use Rattle.ssf_core.specs.Laws.{AllFit, EachReportFits, ItemFits, FitsTrace, periods, periods_after, reports, reports_after}
-use Rattle.ssf_core.specs.Phases.{SsfPhase, Unused, Requested, Initial, Setup, Active, Down, Ended}
+use Rattle.ssf_core.specs.Phases.{SsfPhase, Unused, Requested, Initial, Early, Active, Down, Ended}
 use Rattle.ssf_core.specs.Quantities.{answered, answered_after, granted, mode_at, pending, pending_after, period_end, period_end_after, switched}
 use Rattle.ssf_core.specs.Split.{split}
-use Rattle.ssf_core.specs.Table.{Effect, sent_before, any_watched, by_mode, ends, first_period, further_period, goes, is_fitting, last_report_sent, notified, on_abandon, on_answer, on_apply_charging, on_continue, on_disconnect, on_expiry, on_failure, on_input, on_invoke, on_period_end, on_release_call, on_request_report, on_trigger, on_tssf, report}
+use Rattle.ssf_core.specs.Rules.{Effect, sent_before, any_watched, by_mode, ends, first_period, further_period, goes, is_fitting, last_report_sent, notified, on_abandon, on_answer, on_apply_charging, on_continue, on_disconnect, on_expiry, on_failure, on_input, on_invoke, on_period_end, on_release_call, on_request_report, on_trigger, on_tssf, report}
 use Rattle.ssf_core.specs.Traces.{ComesBefore, HasEffect, IsTrace, due, due_in, next_phase, period_due, phase_after, tcp_due}
 use Rattle.ssf_core.specs.declared.item.BcsmEvent.TheVariants as met
 use Rattle.ssf_core.specs.declared.config.DefaultHandling.{DefaultHandling}
@@ -42,7 +42,7 @@ abbrev pub Known : SsfPhase → Option ℕ → Option Bool → ℕ → ℕ → T
 Known Unused answer wish n r = (answer ≡ None) × (n ≡ owing wish r)
 Known Requested answer wish n r = (answer ≡ None) × (n ≡ owing wish r)
 Known Initial answer wish n r = (answer ≡ None) × (n ≡ owing wish r)
-Known Setup answer wish n r = (answer ≡ None) × (n ≡ owing wish r)
+Known Early answer wish n r = (answer ≡ None) × (n ≡ owing wish r)
 Known Active answer wish n r = ((moment : ℕ) × (answer ≡ Some moment)) × (n ≡ owing wish r)
 Known Down answer wish n r = ⊤
 Known Ended answer wish n r = ⊤
@@ -146,7 +146,7 @@ takes_invoke : (t : List Happening) (now : ℕ) (phase : SsfPhase) → KnownOf p
 takes_invoke t now Unused k quiet = (k, tt)
 takes_invoke t now Requested k quiet = tt
 takes_invoke t now Initial k quiet = tt
-takes_invoke t now Setup k quiet = tt
+takes_invoke t now Early k quiet = tt
 takes_invoke t now Active k quiet = tt
 takes_invoke t now Down k quiet = tt
 takes_invoke t now Ended k quiet = tt
@@ -155,7 +155,7 @@ takes_trigger : (t : List Happening) (now : ℕ) (call : ℕ) (calling called : 
 takes_trigger t now call calling called Unused k quiet = tt
 takes_trigger t now call calling called Requested k quiet = (k, (tt, tt))
 takes_trigger t now call calling called Initial k quiet = tt
-takes_trigger t now call calling called Setup k quiet = tt
+takes_trigger t now call calling called Early k quiet = tt
 takes_trigger t now call calling called Active k quiet = tt
 takes_trigger t now call calling called Down k quiet = tt
 takes_trigger t now call calling called Ended k quiet = tt
@@ -164,13 +164,13 @@ takes_request : (t : List Happening) (now : ℕ) (arms : Arms) (phase : SsfPhase
 takes_request t now arms Unused k quiet = tt
 takes_request t now arms Requested k quiet = tt
 takes_request t now arms Initial k quiet = (k, tt)
-takes_request t now arms Setup k quiet = (k, tt)
+takes_request t now arms Early k quiet = (k, tt)
 takes_request t now arms Active k quiet = (k, tt)
 takes_request t now arms Down k quiet = (tt, tt)
 takes_request t now arms Ended k quiet = tt
 
 takes_first : (t : List Happening) (now : ℕ) (charge : Charge) (wish : Option Bool) → pending t ≡ wish → answered t ≡ None → periods t ≡ owing (pending t) (reports t)
-    → Takes t now (Operate (ApplyCharging charge)) (first_period wish Initial) × Takes t now (Operate (ApplyCharging charge)) (first_period wish Setup)
+    → Takes t now (Operate (ApplyCharging charge)) (first_period wish Initial) × Takes t now (Operate (ApplyCharging charge)) (first_period wish Early)
 takes_first t now charge None is answer counted =
     let more = ap (λ n. 1 + n) (counted ∙ ap (λ (p : Option Bool). owing p (reports t)) is) in (((answer, more), tt), ((answer, more), tt))
 takes_first t now charge (Some release) is answer counted = (tt, tt)
@@ -186,13 +186,13 @@ takes_charging : (t : List Happening) (now : ℕ) (charge : Charge) (phase : Ssf
 takes_charging t now charge Unused k quiet = tt
 takes_charging t now charge Requested k quiet = tt
 takes_charging t now charge Initial k quiet = (takes_first t now charge (pending t) refl k.0 k.1).0
-takes_charging t now charge Setup k quiet = (takes_first t now charge (pending t) refl k.0 k.1).1
+takes_charging t now charge Early k quiet = (takes_first t now charge (pending t) refl k.0 k.1).1
 takes_charging t now charge Active k quiet = takes_further t now charge (period_end t) (is_fitting (unwrap_or (answered t) 0) (granted t) charge.period now) refl k
 takes_charging t now charge Down k quiet = tt
 takes_charging t now charge Ended k quiet = tt
 
-takes_going_on : (t : List Happening) (now : ℕ) (watched : Bool) → KnownOf Setup t
-    → Takes t now (Operate Continue) (Ok (if watched then goes (Proceed ∷ []) Setup else ends (Proceed ∷ [])))
+takes_going_on : (t : List Happening) (now : ℕ) (watched : Bool) → KnownOf Early t
+    → Takes t now (Operate Continue) (Ok (if watched then goes (Proceed ∷ []) Early else ends (Proceed ∷ [])))
 takes_going_on t now true k = (k, (tt, tt))
 takes_going_on t now false k = (tt, (tt, (tt, tt)))
 
@@ -200,7 +200,7 @@ takes_continue : (t : List Happening) (now : ℕ) (phase : SsfPhase) → KnownOf
 takes_continue t now Unused k quiet = tt
 takes_continue t now Requested k quiet = tt
 takes_continue t now Initial k quiet = takes_going_on t now (any_watched (mode_at t) || is_some (pending t)) k
-takes_continue t now Setup k quiet = tt
+takes_continue t now Early k quiet = tt
 takes_continue t now Active k quiet = tt
 takes_continue t now Down k quiet = (tt, (tt, (tt, tt)))
 takes_continue t now Ended k quiet = tt
@@ -209,7 +209,7 @@ takes_release : (t : List Happening) (now : ℕ) (cause : Cause) (phase : SsfPha
 takes_release t now cause Unused k quiet = tt
 takes_release t now cause Requested k quiet = tt
 takes_release t now cause Initial k quiet = (tt, (tt, (tt, tt)))
-takes_release t now cause Setup k quiet = (tt, (tt, (tt, tt)))
+takes_release t now cause Early k quiet = (tt, (tt, (tt, tt)))
 takes_release t now cause Active k quiet = (tt, last_fits t now k.0.0 (pending t) (Clear cause ∷ Msg message.Ended ∷ []) refl k.0.1 k.1 quiet (tt, (tt, tt)))
 takes_release t now cause Down k quiet = (tt, (tt, (tt, tt)))
 takes_release t now cause Ended k quiet = tt
@@ -218,12 +218,12 @@ takes_failure : (t : List Happening) (now : ℕ) (input : Input) (e : Event) (mo
 takes_failure t now input e mode Unused k quiet = tt
 takes_failure t now input e mode Requested k quiet = tt
 takes_failure t now input e mode Initial k quiet = tt
-takes_failure t now input e mode Setup k quiet = takes_by_mode t now input e None mode
+takes_failure t now input e mode Early k quiet = takes_by_mode t now input e None mode
 takes_failure t now input e mode Active k quiet = tt
 takes_failure t now input e mode Down k quiet = tt
 takes_failure t now input e mode Ended k quiet = tt
 
-takes_answered : (t : List Happening) (now : ℕ) (mode : Mode) → KnownOf Setup t → Takes t now (Meet met.Answer) (Ok (goes (notified event.Answer mode) Active))
+takes_answered : (t : List Happening) (now : ℕ) (mode : Mode) → KnownOf Early t → Takes t now (Meet met.Answer) (Ok (goes (notified event.Answer mode) Active))
 takes_answered t now Interrupted k = (((now, refl), k.1), tt)
 takes_answered t now NotifyAndContinue k = (((now, refl), k.1), (tt, tt))
 takes_answered t now Transparent k = (((now, refl), k.1), tt)
@@ -232,7 +232,7 @@ takes_answer : (t : List Happening) (now : ℕ) (mode : Mode) (phase : SsfPhase)
 takes_answer t now mode Unused k quiet = tt
 takes_answer t now mode Requested k quiet = tt
 takes_answer t now mode Initial k quiet = tt
-takes_answer t now mode Setup k quiet = takes_answered t now mode k
+takes_answer t now mode Early k quiet = takes_answered t now mode k
 takes_answer t now mode Active k quiet = tt
 takes_answer t now mode Down k quiet = tt
 takes_answer t now mode Ended k quiet = tt
@@ -246,7 +246,7 @@ takes_abandon : (t : List Happening) (now : ℕ) (mode : Mode) (phase : SsfPhase
 takes_abandon t now mode Unused k quiet = tt
 takes_abandon t now mode Requested k quiet = tt
 takes_abandon t now mode Initial k quiet = takes_given_up t now mode
-takes_abandon t now mode Setup k quiet = takes_given_up t now mode
+takes_abandon t now mode Early k quiet = takes_given_up t now mode
 takes_abandon t now mode Active k quiet = tt
 takes_abandon t now mode Down k quiet = tt
 takes_abandon t now mode Ended k quiet = tt
@@ -261,7 +261,7 @@ takes_disconnect : (t : List Happening) (now : ℕ) (leg : Leg) (phase : SsfPhas
 takes_disconnect t now leg Unused k quiet = tt
 takes_disconnect t now leg Requested k quiet = tt
 takes_disconnect t now leg Initial k quiet = tt
-takes_disconnect t now leg Setup k quiet = tt
+takes_disconnect t now leg Early k quiet = tt
 takes_disconnect t now leg Active k quiet = takes_hung_up t now leg (mode_at t (point.Disconnect leg)) k quiet
 takes_disconnect t now leg Down k quiet = tt
 takes_disconnect t now leg Ended k quiet = tt
@@ -298,7 +298,7 @@ pub keeps_tcp : (t : List Happening) (now : ℕ) (phase : SsfPhase) → KnownOf 
 keeps_tcp t now Unused k runs = absurd (cc)
 keeps_tcp t now Requested k runs = absurd (cc)
 keeps_tcp t now Initial k runs = absurd (cc)
-keeps_tcp t now Setup k runs = absurd (cc)
+keeps_tcp t now Early k runs = absurd (cc)
 keeps_tcp t now Active k runs = keeps_period t now (pending t) (answered t) refl refl runs k
 keeps_tcp t now Down k runs = absurd (cc)
 keeps_tcp t now Ended k runs = absurd (cc)

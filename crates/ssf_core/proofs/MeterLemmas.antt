@@ -13,9 +13,9 @@ use Rattle.ssf_core.specs.Calls.{Advances, AreExpiries, IsExpiry, RunsUntil, Sta
 use Rattle.ssf_core.specs.Happenings.{Happening, What, Took, Expired, sent_at, sent_in}
 use Rattle.ssf_core.specs.Laws.{AllFit, FitsTrace}
 use Rattle.ssf_core.specs.Meters.{EndsMeter, Later, Meter, Metered, Reports, RunsThrough, MetersItem, meter_at, meter_of, pays_for}
-use Rattle.ssf_core.specs.Phases.{SsfPhase, Unused, Requested, Initial, Setup, Active, Down, Ended}
+use Rattle.ssf_core.specs.Phases.{SsfPhase, Unused, Requested, Initial, Early, Active, Down, Ended}
 use Rattle.ssf_core.specs.Quantities.{granted, granted_after, last_happening_moment, pending, pending_after, started_switch, switch_due, switch_due_after, switched, switched_after}
-use Rattle.ssf_core.specs.Table.{Effect, on_expiry, on_input, on_period_end, on_tssf}
+use Rattle.ssf_core.specs.Rules.{Effect, on_expiry, on_input, on_period_end, on_tssf}
 use Rattle.ssf_core.specs.Traces.{ComesBefore, HasEffect, IsTrace, awaited_switch, due, phase_after, tsw_due}
 use Rattle.ssf_core.specs.declared.config.DefaultHandling.{DefaultHandling}
 use Rattle.ssf_core.specs.declared.config.DefaultHandling.TheVariants as handling
@@ -47,7 +47,7 @@ tsw_set : (t : List Happening) (phase : SsfPhase) (d : ℕ) → tsw_due t phase 
 tsw_set t Unused d runs = absurd (cc)
 tsw_set t Requested d runs = absurd (cc)
 tsw_set t Initial d runs = was_set (switched t) (switch_due t) d runs
-tsw_set t Setup d runs = was_set (switched t) (switch_due t) d runs
+tsw_set t Early d runs = was_set (switched t) (switch_due t) d runs
 tsw_set t Active d runs = was_set (switched t) (switch_due t) d runs
 tsw_set t Down d runs = absurd (cc)
 tsw_set t Ended d runs = absurd (cc)

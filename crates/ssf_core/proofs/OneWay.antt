@@ -4,7 +4,7 @@ use Rattle.ssf_core.specs.Calls.{AreExpiries, IsExpiry}
 use Rattle.ssf_core.specs.Happenings.{Expired, Happening, Took, What}
 use Rattle.ssf_core.specs.OneWay.{TimersRunOneWay}
 use Rattle.ssf_core.specs.Quantities.{last_happening_moment}
-use Rattle.ssf_core.specs.Table.{on_expiry}
+use Rattle.ssf_core.specs.Rules.{on_expiry}
 use Rattle.ssf_core.specs.Traces.{ComesBefore, HasEffect, IsTrace, MayFollow, due, phase_after, rank}
 use Rattle.ssf_core.specs.declared.config.SsfConfig.{SsfConfig}
 use Rattle.ssf_core.specs.declared.item.Item.{Item}

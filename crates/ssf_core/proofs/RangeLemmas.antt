@@ -19,10 +19,10 @@ use Rattle.cap_values.specs.declared.operation.ScfOp.TheVariants.{RequestReport,
 use Rattle.ssf_core.proofs.LawLemmas.{reports_fit}
 use Rattle.ssf_core.specs.Happenings.{Happening, What, Took, Expired, sent_at, sent_in}
 use Rattle.ssf_core.specs.Laws.{AllFit, ItemIsInRange, ItemFits, ReportsAreInRange}
-use Rattle.ssf_core.specs.Phases.{SsfPhase, Unused, Requested, Initial, Setup, Active, Down, Ended}
+use Rattle.ssf_core.specs.Phases.{SsfPhase, Unused, Requested, Initial, Early, Active, Down, Ended}
 use Rattle.ssf_core.specs.Quantities.{answered, granted, granted_after, last_happening_moment, mode_at, pending, pending_after, period_end, switched, switched_after}
 use Rattle.ssf_core.specs.Split.{split}
-use Rattle.ssf_core.specs.Table.{Effect, sent_before, any_watched, by_mode, ends, first_period, further_period, goes, is_fitting, last_report_sent, on_abandon, on_answer, on_apply_charging, on_continue, on_disconnect, on_expiry, on_failure, on_input, on_invoke, on_period_end, on_release_call, on_request_report, on_trigger, on_tssf}
+use Rattle.ssf_core.specs.Rules.{Effect, sent_before, any_watched, by_mode, ends, first_period, further_period, goes, is_fitting, last_report_sent, on_abandon, on_answer, on_apply_charging, on_continue, on_disconnect, on_expiry, on_failure, on_input, on_invoke, on_period_end, on_release_call, on_request_report, on_trigger, on_tssf}
 use Rattle.ssf_core.specs.Traces.{HasEffect, IsTrace, next_phase, phase_after}
 use Rattle.ssf_core.specs.declared.item.BcsmEvent.{BcsmEvent}
 use Rattle.ssf_core.specs.declared.item.BcsmEvent.TheVariants as met
@@ -47,7 +47,7 @@ abbrev IsSum : SsfPhase → Option Bool → ℕ → Type 0
 IsSum Unused wish sum = (wish ≡ None → sum ≡ 0) × (sum ≤ 864000)
 IsSum Requested wish sum = (wish ≡ None → sum ≡ 0) × (sum ≤ 864000)
 IsSum Initial wish sum = (wish ≡ None → sum ≡ 0) × (sum ≤ 864000)
-IsSum Setup wish sum = (wish ≡ None → sum ≡ 0) × (sum ≤ 864000)
+IsSum Early wish sum = (wish ≡ None → sum ≡ 0) × (sum ≤ 864000)
 IsSum Active wish sum = sum ≤ 864000
 IsSum Down wish sum = sum ≤ 864000
 IsSum Ended wish sum = sum ≤ 864000
@@ -59,7 +59,7 @@ small : (phase : SsfPhase) (wish : Option Bool) (sum : ℕ) → IsSum phase wish
 small Unused wish sum is = is.1
 small Requested wish sum is = is.1
 small Initial wish sum is = is.1
-small Setup wish sum is = is.1
+small Early wish sum is = is.1
 small Active wish sum is = is
 small Down wish sum is = is
 small Ended wish sum is = is
@@ -73,7 +73,7 @@ sums_invoke : (t : List Happening) (phase : SsfPhase) → SumIn phase t → Sums
 sums_invoke t Unused k = k
 sums_invoke t Requested k = tt
 sums_invoke t Initial k = tt
-sums_invoke t Setup k = tt
+sums_invoke t Early k = tt
 sums_invoke t Active k = tt
 sums_invoke t Down k = tt
 sums_invoke t Ended k = tt
@@ -82,7 +82,7 @@ sums_trigger : (t : List Happening) (call : ℕ) (calling called : Number) (phas
 sums_trigger t call calling called Unused k = tt
 sums_trigger t call calling called Requested k = k
 sums_trigger t call calling called Initial k = tt
-sums_trigger t call calling called Setup k = tt
+sums_trigger t call calling called Early k = tt
 sums_trigger t call calling called Active k = tt
 sums_trigger t call calling called Down k = tt
 sums_trigger t call calling called Ended k = tt
@@ -91,13 +91,13 @@ sums_request : (t : List Happening) (arms : Arms) (phase : SsfPhase) → SumIn p
 sums_request t arms Unused k = tt
 sums_request t arms Requested k = tt
 sums_request t arms Initial k = k
-sums_request t arms Setup k = k
+sums_request t arms Early k = k
 sums_request t arms Active k = k
 sums_request t arms Down k = k
 sums_request t arms Ended k = tt
 
 sums_first : (t : List Happening) (charge : Charge) (wish : Option Bool) → pending t ≡ wish → (pending t ≡ None → granted t ≡ 0)
-    → Sums t (Operate (ApplyCharging charge)) (first_period wish Initial) × Sums t (Operate (ApplyCharging charge)) (first_period wish Setup)
+    → Sums t (Operate (ApplyCharging charge)) (first_period wish Initial) × Sums t (Operate (ApplyCharging charge)) (first_period wish Early)
 sums_first t charge None is none =
     let small : granted t + charge.period ≤ 864000 = omega (arith, none is, charge.period_within_day) in
     (((λ gone. absurd (cc)), small), ((λ gone. absurd (cc)), small))
@@ -120,13 +120,13 @@ sums_charging : (t : List Happening) (now : ℕ) (charge : Charge) (phase : SsfP
 sums_charging t now charge Unused k = tt
 sums_charging t now charge Requested k = tt
 sums_charging t now charge Initial k = (sums_first t charge (pending t) refl k.0).0
-sums_charging t now charge Setup k = (sums_first t charge (pending t) refl k.0).1
+sums_charging t now charge Early k = (sums_first t charge (pending t) refl k.0).1
 sums_charging t now charge Active k =
     sums_further t charge (period_end t) (is_fitting (unwrap_or (answered t) 0) (granted t) charge.period now) (fitting (unwrap_or (answered t) 0) (granted t) charge.period now)
 sums_charging t now charge Down k = tt
 sums_charging t now charge Ended k = tt
 
-sums_going_on : (t : List Happening) (watched : Bool) → SumIn Initial t → Sums t (Operate Continue) (Ok (if watched then goes (Proceed ∷ []) Setup else ends (Proceed ∷ [])))
+sums_going_on : (t : List Happening) (watched : Bool) → SumIn Initial t → Sums t (Operate Continue) (Ok (if watched then goes (Proceed ∷ []) Early else ends (Proceed ∷ [])))
 sums_going_on t true k = k
 sums_going_on t false k = k.1
 
@@ -134,7 +134,7 @@ sums_continue : (t : List Happening) (phase : SsfPhase) → SumIn phase t → Su
 sums_continue t Unused k = tt
 sums_continue t Requested k = tt
 sums_continue t Initial k = sums_going_on t (any_watched (mode_at t) || is_some (pending t)) k
-sums_continue t Setup k = tt
+sums_continue t Early k = tt
 sums_continue t Active k = tt
 sums_continue t Down k = k
 sums_continue t Ended k = tt
@@ -143,7 +143,7 @@ sums_release : (t : List Happening) (now : ℕ) (cause : Cause) (phase : SsfPhas
 sums_release t now cause Unused k = tt
 sums_release t now cause Requested k = tt
 sums_release t now cause Initial k = k.1
-sums_release t now cause Setup k = k.1
+sums_release t now cause Early k = k.1
 sums_release t now cause Active k = k
 sums_release t now cause Down k = k
 sums_release t now cause Ended k = tt
@@ -163,7 +163,7 @@ sums_failure : (t : List Happening) (met : BcsmEvent) (e : Event) (mode : Mode) 
 sums_failure t met e mode Unused k = tt
 sums_failure t met e mode Requested k = tt
 sums_failure t met e mode Initial k = tt
-sums_failure t met e mode Setup k = sums_by_mode t met e None mode k.1
+sums_failure t met e mode Early k = sums_by_mode t met e None mode k.1
 sums_failure t met e mode Active k = tt
 sums_failure t met e mode Down k = tt
 sums_failure t met e mode Ended k = tt
@@ -172,7 +172,7 @@ sums_answer : (t : List Happening) (mode : Mode) (phase : SsfPhase) → SumIn ph
 sums_answer t mode Unused k = tt
 sums_answer t mode Requested k = tt
 sums_answer t mode Initial k = tt
-sums_answer t mode Setup k = k.1
+sums_answer t mode Early k = k.1
 sums_answer t mode Active k = tt
 sums_answer t mode Down k = tt
 sums_answer t mode Ended k = tt
@@ -181,7 +181,7 @@ sums_abandon : (t : List Happening) (mode : Mode) (phase : SsfPhase) → SumIn p
 sums_abandon t mode Unused k = tt
 sums_abandon t mode Requested k = tt
 sums_abandon t mode Initial k = k.1
-sums_abandon t mode Setup k = k.1
+sums_abandon t mode Early k = k.1
 sums_abandon t mode Active k = tt
 sums_abandon t mode Down k = tt
 sums_abandon t mode Ended k = tt
@@ -190,7 +190,7 @@ sums_disconnect : (t : List Happening) (now : ℕ) (leg : Leg) (phase : SsfPhase
 sums_disconnect t now leg Unused k = tt
 sums_disconnect t now leg Requested k = tt
 sums_disconnect t now leg Initial k = tt
-sums_disconnect t now leg Setup k = tt
+sums_disconnect t now leg Early k = tt
 sums_disconnect t now leg Active k = sums_hung_up t now (met.Disconnect leg) (Some leg) (mode_at t (point.Disconnect leg)) k
 sums_disconnect t now leg Down k = tt
 sums_disconnect t now leg Ended k = tt

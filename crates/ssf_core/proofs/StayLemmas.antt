@@ -4,9 +4,9 @@ use Rattle.cap_values.specs.declared.arming.Point.TheVariants as point
 use Rattle.cap_values.specs.declared.mode.Mode.{Mode}
 use Rattle.ssf_core.specs.Happenings.{Happening, What, Took, Expired}
 use Rattle.ssf_core.specs.Laws.{TheAnswerStays, TheSwitchStays}
-use Rattle.ssf_core.specs.Phases.{SsfPhase, Unused, Requested, Initial, Setup, Active, Down, Ended}
+use Rattle.ssf_core.specs.Phases.{SsfPhase, Unused, Requested, Initial, Early, Active, Down, Ended}
 use Rattle.ssf_core.specs.Quantities.{answered, answered_after, mode_at, switch_due, switched, switched_after}
-use Rattle.ssf_core.specs.Table.{Effect, on_answer}
+use Rattle.ssf_core.specs.Rules.{Effect, on_answer}
 use Rattle.ssf_core.specs.Traces.{HasEffect, awaited_switch, phase_after, tsw_due}
 use Rattle.ssf_core.specs.declared.item.BcsmEvent.TheVariants as met
 use Rattle.ssf_core.specs.declared.config.SsfConfig.{SsfConfig}
@@ -20,7 +20,7 @@ answer_first : (t : List Happening) (now : ℕ) (mode : Mode) (phase : SsfPhase)
 answer_first t now mode Unused effect k takes = absurd (cc)
 answer_first t now mode Requested effect k takes = absurd (cc)
 answer_first t now mode Initial effect k takes = absurd (cc)
-answer_first t now mode Setup effect k takes = k.0
+answer_first t now mode Early effect k takes = k.0
 answer_first t now mode Active effect k takes = absurd (cc)
 answer_first t now mode Down effect k takes = absurd (cc)
 answer_first t now mode Ended effect k takes = absurd (cc)
@@ -55,7 +55,7 @@ pub tsw_first : (t : List Happening) (phase : SsfPhase) (d : ℕ) → tsw_due t 
 tsw_first t Unused d runs = absurd (cc)
 tsw_first t Requested d runs = absurd (cc)
 tsw_first t Initial d runs = switch_first t (switched t) (switch_due t) d runs
-tsw_first t Setup d runs = switch_first t (switched t) (switch_due t) d runs
+tsw_first t Early d runs = switch_first t (switched t) (switch_due t) d runs
 tsw_first t Active d runs = switch_first t (switched t) (switch_due t) d runs
 tsw_first t Down d runs = absurd (cc)
 tsw_first t Ended d runs = absurd (cc)

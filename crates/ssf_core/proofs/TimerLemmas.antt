@@ -153,8 +153,8 @@ charging_later clock now end (charging.Over m) tcp tccd = tccd m refl
 pub timely_later : (clock now : ℕ) (s : Stage) → IsTimelyStage clock s → clock ≤ now → ((timer : Timer) (d : ℕ) → stage_due s timer ≡ Some d → now ≤ d) → IsTimelyStage now s
 timely_later clock now stage.Unused timely le all = tt
 timely_later clock now stage.Requested timely le all = tt
-timely_later clock now (stage.Initial setup m) timely le all = (all Tssf m refl, switch_later clock now setup.switch timely.1 le (all Tsw))
-timely_later clock now (stage.Setup setup) timely le all = switch_later clock now setup.switch timely le (all Tsw)
+timely_later clock now (stage.Initial early m) timely le all = (all Tssf m refl, switch_later clock now early.switch timely.1 le (all Tsw))
+timely_later clock now (stage.Early early) timely le all = switch_later clock now early.switch timely le (all Tsw)
 timely_later clock now (stage.Active active) timely le all = record {
   answered = let old = timely.answered in omega arith;
   granted = timely.granted;
@@ -173,8 +173,8 @@ period_few (charging.Over m) = omega arith
 pub few_left : (s : Stage) → items_left s ≤ 3
 few_left stage.Unused = omega arith
 few_left stage.Requested = omega arith
-few_left (stage.Initial setup m) = omega arith
-few_left (stage.Setup setup) = omega arith
+few_left (stage.Initial early m) = omega arith
+few_left (stage.Early early) = omega arith
 few_left (stage.Active active) = period_few active.charging
 few_left (stage.Down m) = omega arith
 few_left stage.Ended = omega arith

@@ -3,7 +3,7 @@ use Rattle.std.specs.Prelude.{◌≡◌, ◌++◌, ◌<◌, ◌≤◌, ℕ, Opti
 use Rattle.ssf_core.specs.Happenings.{Happening, What, Took, Expired, sent_in}
 use Rattle.ssf_core.specs.Quantities.{last_happening_moment}
 use Rattle.ssf_core.specs.Stands.{StageStands}
-use Rattle.ssf_core.specs.Table.{Effect, on_input}
+use Rattle.ssf_core.specs.Rules.{Effect, on_input}
 use Rattle.ssf_core.specs.Traces.{IsTrace, due, phase_after}
 use Rattle.ssf_core.specs.declared.config.SsfConfig.{SsfConfig}
 use Rattle.ssf_core.specs.declared.fault.SsfFault.{SsfFault}
@@ -12,7 +12,7 @@ use Rattle.ssf_core.specs.declared.item.Out.{Out}
 use Rattle.ssf_core.specs.declared.stage.Stage.{Stage}
 use Rattle.ssf_core.specs.declared.timers.Timer.{Timer}
 
--- a gsmSSF, as contracts see it: how it is set up, the last moment that it took, and where its call is
+-- a gsmSSF, as contracts see it: how it is set up, the latest moment that it took, and where its call is
 pub record View : Type 0 where
   pub config : SsfConfig
   pub last : ℕ
@@ -46,7 +46,7 @@ abbrev pub with_input : ℕ → Input → List Happening → Result Effect SsfFa
 with_input now input trace (Ok effect) = record { at = now; what = Took input; sent = effect.sent } ∷ trace
 with_input now input trace (Err fault) = trace
 
--- the fault of an input that the table refuses
+-- the fault of an input that the rules refuse
 abbrev pub fault_in : Result Effect SsfFault → Option SsfFault
 fault_in (Ok effect) = None
 fault_in (Err fault) = Some fault
@@ -58,7 +58,7 @@ pub record Advances (before after : View) (now : ℕ) (trace : List Happening) (
   pub stands : Stands after timed
   pub sends : sent_in timed ≡ sent_in trace ++ sent
 
--- an input comes: the timers run, and then it is taken or refused as the table says
+-- an input comes: the timers run, and then it is taken or refused as the rules say
 pub record TakesAt (before after : View) (now : ℕ) (input : Input) (trace : List Happening) (sent : List Out) (fault : Option SsfFault) : Type 0 where
   pub timed : List Happening
   pub runs : RunsUntil before.config now trace timed

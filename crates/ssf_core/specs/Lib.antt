@@ -10,10 +10,10 @@ pub mod Moments
 pub mod OneWay
 pub mod Phases
 pub mod Quantities
+pub mod Rules
 pub mod Running
 pub mod Split
 pub mod Stages
 pub mod Stands
 pub mod Steps
-pub mod Table
 pub mod Traces

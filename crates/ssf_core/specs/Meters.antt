@@ -12,7 +12,7 @@ use Rattle.ssf_core.specs.declared.item.Item.{Item}
 use Rattle.ssf_core.specs.declared.item.Item.TheVariants.{Msg}
 use Rattle.ssf_core.specs.declared.item.Out.{Out}
 
--- the sum of the accepted periods, whether one is pending, the moments of the answer and of the switch, whether a switch was ordered, and the last moment
+-- the sum of the accepted periods, whether one is pending, the moments of the answer and of the switch, whether a switch was ordered, and the latest moment
 pub record Meter : Type 0 where
   pub granted : ℕ
   pub pending : Bool

@@ -4,7 +4,7 @@ use Rattle.cap_values.specs.declared.mode.Mode.TheVariants.{Transparent}
 use Rattle.ssf_core.specs.declared.stage.Active.{Active}
 use Rattle.ssf_core.specs.declared.stage.Charging.{Charging}
 use Rattle.ssf_core.specs.declared.stage.Charging.TheVariants as charging
-use Rattle.ssf_core.specs.declared.stage.Setup.{Setup}
+use Rattle.ssf_core.specs.declared.stage.Early.{Early}
 use Rattle.ssf_core.specs.declared.stage.Stage.{Stage}
 use Rattle.ssf_core.specs.declared.stage.Stage.TheVariants as stage
 use Rattle.ssf_core.specs.declared.stage.Switch.{Switch}
@@ -54,18 +54,18 @@ active_due active Tccd = tccd_due_of active.charging
 active_due active Tssf = None
 
 -- when the timers of a call that waits before its answer are due
-abbrev pub initial_due : Setup → ℕ → Timer → Option ℕ
-initial_due setup moment Tsw = switch_due_of setup.switch
-initial_due setup moment Tcp = None
-initial_due setup moment Tccd = None
-initial_due setup moment Tssf = Some moment
+abbrev pub initial_due : Early → ℕ → Timer → Option ℕ
+initial_due early moment Tsw = switch_due_of early.switch
+initial_due early moment Tcp = None
+initial_due early moment Tccd = None
+initial_due early moment Tssf = Some moment
 
 -- which timers run before the answer
-abbrev pub setup_due : Setup → Timer → Option ℕ
-setup_due setup Tsw = switch_due_of setup.switch
-setup_due setup Tcp = None
-setup_due setup Tccd = None
-setup_due setup Tssf = None
+abbrev pub early_due : Early → Timer → Option ℕ
+early_due early Tsw = switch_due_of early.switch
+early_due early Tcp = None
+early_due early Tccd = None
+early_due early Tssf = None
 
 -- which timers run while the end is reported to the service
 abbrev pub down_due : ℕ → Timer → Option ℕ
@@ -78,8 +78,8 @@ down_due moment Tssf = Some moment
 abbrev pub stage_due : Stage → Timer → Option ℕ
 stage_due stage.Unused timer = None
 stage_due stage.Requested timer = None
-stage_due (stage.Initial setup moment) timer = initial_due setup moment timer
-stage_due (stage.Setup setup) timer = setup_due setup timer
+stage_due (stage.Initial early moment) timer = initial_due early moment timer
+stage_due (stage.Early early) timer = early_due early timer
 stage_due (stage.Active active) timer = active_due active timer
 stage_due (stage.Down moment) timer = down_due moment timer
 stage_due stage.Ended timer = None
@@ -107,8 +107,8 @@ pub record IsActiveTimely (now : ℕ) (active : Active) : Type 0 where
 abbrev pub IsTimelyStage : ℕ → Stage → Type 0
 IsTimelyStage now stage.Unused = Unit {0}
 IsTimelyStage now stage.Requested = Unit {0}
-IsTimelyStage now (stage.Initial setup moment) = (now ≤ moment) × IsSwitchTimely now setup.switch
-IsTimelyStage now (stage.Setup setup) = IsSwitchTimely now setup.switch
+IsTimelyStage now (stage.Initial early moment) = (now ≤ moment) × IsSwitchTimely now early.switch
+IsTimelyStage now (stage.Early early) = IsSwitchTimely now early.switch
 IsTimelyStage now (stage.Active active) = IsActiveTimely now active
 IsTimelyStage now (stage.Down moment) = now ≤ moment
 IsTimelyStage now stage.Ended = Unit {0}
@@ -121,8 +121,8 @@ IsQuiet now stage = (timer : Timer) (d : ℕ) → stage_due stage timer ≡ Some
 abbrev pub IsBounded : Stage → Type 0
 IsBounded stage.Unused = Unit {0}
 IsBounded stage.Requested = Unit {0}
-IsBounded (stage.Initial setup moment) = Unit {0}
-IsBounded (stage.Setup setup) = Unit {0}
+IsBounded (stage.Initial early moment) = Unit {0}
+IsBounded (stage.Early early) = Unit {0}
 IsBounded (stage.Active active) = (active.answered ≤ HORIZON) × (active.granted ≤ DAY)
 IsBounded (stage.Down moment) = Unit {0}
 IsBounded stage.Ended = Unit {0}
@@ -155,7 +155,7 @@ due_by now None = None
 due_by now (Some expiry) = if nat_le expiry.due now then Some expiry else None
 
 -- before anything is armed, charged or switched
-abbrev pub blank : Setup
+abbrev pub blank : Early
 blank = record {
   modes = record {
     route_select_failure = Transparent;
@@ -180,8 +180,8 @@ items_after_period (charging.Over moment) = 2
 abbrev pub items_left : Stage → ℕ
 items_left stage.Unused = 0
 items_left stage.Requested = 0
-items_left (stage.Initial setup moment) = 2
-items_left (stage.Setup setup) = 0
+items_left (stage.Initial early moment) = 2
+items_left (stage.Early early) = 0
 items_left (stage.Active active) = items_after_period active.charging
 items_left (stage.Down moment) = 2
 items_left stage.Ended = 0
@@ -202,8 +202,8 @@ periods_left (charging.Over moment) = 1
 abbrev pub expiries_left : Stage → ℕ
 expiries_left stage.Unused = 0
 expiries_left stage.Requested = 0
-expiries_left (stage.Initial setup moment) = 1 + switches_left setup.switch
-expiries_left (stage.Setup setup) = switches_left setup.switch
+expiries_left (stage.Initial early moment) = 1 + switches_left early.switch
+expiries_left (stage.Early early) = switches_left early.switch
 expiries_left (stage.Active active) = periods_left active.charging + switches_left active.switch
 expiries_left (stage.Down moment) = 1
 expiries_left stage.Ended = 0

@@ -6,7 +6,7 @@ use Rattle.cap_values.specs.declared.charge.Charge.{Charge}
 use Rattle.cap_values.specs.declared.mode.Mode.{Mode}
 use Rattle.ssf_core.specs.Happenings.{Happening}
 use Rattle.ssf_core.specs.Modes.{modes_at}
-use Rattle.ssf_core.specs.Phases.{SsfPhase, Unused, Requested, Initial, Setup, Active, Down, Ended}
+use Rattle.ssf_core.specs.Phases.{SsfPhase, Unused, Requested, Initial, Early, Active, Down, Ended}
 use Rattle.ssf_core.specs.Quantities.{answered, granted, last_input, last_happening_moment, mode_at, pending, period_end, switch_due, switched}
 use Rattle.ssf_core.specs.Stages.{blank, passed_switch, switch_due_of, tccd_due_of}
 use Rattle.ssf_core.specs.Traces.{IsTrace, awaited_switch, phase_after}
@@ -14,7 +14,7 @@ use Rattle.ssf_core.specs.declared.config.SsfConfig.{SsfConfig}
 use Rattle.ssf_core.specs.declared.stage.Active.{Active as AnActive}
 use Rattle.ssf_core.specs.declared.stage.Charging.{Charging}
 use Rattle.ssf_core.specs.declared.stage.Charging.TheVariants as charging
-use Rattle.ssf_core.specs.declared.stage.Setup.{Setup as ASetup}
+use Rattle.ssf_core.specs.declared.stage.Early.{Early as AnEarly}
 use Rattle.ssf_core.specs.declared.stage.Stage.{Stage}
 use Rattle.ssf_core.specs.declared.stage.Stage.TheVariants as stage
 
@@ -22,8 +22,8 @@ use Rattle.ssf_core.specs.declared.stage.Stage.TheVariants as stage
 abbrev pub ssf_phase_of : Stage → SsfPhase
 ssf_phase_of stage.Unused = Unused
 ssf_phase_of stage.Requested = Requested
-ssf_phase_of (stage.Initial setup due) = Initial
-ssf_phase_of (stage.Setup setup) = Setup
+ssf_phase_of (stage.Initial early due) = Initial
+ssf_phase_of (stage.Early early) = Early
 ssf_phase_of (stage.Active active) = Active
 ssf_phase_of (stage.Down due) = Down
 ssf_phase_of stage.Ended = Ended
@@ -45,13 +45,13 @@ running_period (charging.Running release) = Some release
 running_period (charging.Over due) = None
 
 -- a call before its answer has these modes, this pending period and this sum, no end of a period, and this switch
-pub record SetupHas (setup : ASetup) (modes : Point → Mode) (wish : Option Bool) (sum : ℕ) (end came awaited : Option ℕ) : Type 0 where
-  pub same_modes : (p : Point) → modes p ≡ modes_at setup.modes p
-  pub same_wish : wish ≡ release_of setup.charge
-  pub same_sum : sum ≡ period_of setup.charge
+pub record EarlyHas (early : AnEarly) (modes : Point → Mode) (wish : Option Bool) (sum : ℕ) (end came awaited : Option ℕ) : Type 0 where
+  pub same_modes : (p : Point) → modes p ≡ modes_at early.modes p
+  pub same_wish : wish ≡ release_of early.charge
+  pub same_sum : sum ≡ period_of early.charge
   pub no_end : end ≡ None
-  pub same_switch : came ≡ passed_switch setup.switch
-  pub same_awaited : awaited ≡ switch_due_of setup.switch
+  pub same_switch : came ≡ passed_switch early.switch
+  pub same_awaited : awaited ≡ switch_due_of early.switch
 
 -- a call after its answer has these modes, this pending period, this sum, this wait for a further period, this answer and this switch
 pub record ActiveHas (active : AnActive) (modes : Point → Mode) (wish : Option Bool) (sum : ℕ) (wait answer came awaited : Option ℕ) : Type 0 where
@@ -63,10 +63,10 @@ pub record ActiveHas (active : AnActive) (modes : Point → Mode) (wish : Option
   pub same_switch : came ≡ passed_switch active.switch
   pub same_awaited : awaited ≡ switch_due_of active.switch
 
--- what a setup keeps is what the trace says
-abbrev pub SetupMatches : ASetup → List Happening → Type 0
-SetupMatches setup trace =
-    SetupHas setup (mode_at trace) (pending trace) (granted trace) (period_end trace) (switched trace) (awaited_switch (switched trace) (switch_due trace))
+-- what a early keeps is what the trace says
+abbrev pub EarlyMatches : AnEarly → List Happening → Type 0
+EarlyMatches early trace =
+    EarlyHas early (mode_at trace) (pending trace) (granted trace) (period_end trace) (switched trace) (awaited_switch (switched trace) (switch_due trace))
 
 -- what an answered call keeps is what the trace says
 abbrev pub ActiveMatches : ℕ → AnActive → List Happening → Type 0
@@ -76,10 +76,10 @@ ActiveMatches tccd active trace =
 
 -- the data of a stage are those that the trace says
 abbrev pub StageMatches : SsfConfig → Stage → List Happening → Type 0
-StageMatches config stage.Unused trace = SetupMatches blank trace
-StageMatches config stage.Requested trace = SetupMatches blank trace
-StageMatches config (stage.Initial setup due) trace = SetupMatches setup trace × (last_input trace + config.tssf ≡ due)
-StageMatches config (stage.Setup setup) trace = SetupMatches setup trace
+StageMatches config stage.Unused trace = EarlyMatches blank trace
+StageMatches config stage.Requested trace = EarlyMatches blank trace
+StageMatches config (stage.Initial early due) trace = EarlyMatches early trace × (last_input trace + config.tssf ≡ due)
+StageMatches config (stage.Early early) trace = EarlyMatches early trace
 StageMatches config (stage.Active active) trace = ActiveMatches config.tccd active trace
 StageMatches config (stage.Down due) trace = last_input trace + config.tssf ≡ due
 StageMatches config stage.Ended trace = Unit {0}

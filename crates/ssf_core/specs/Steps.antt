@@ -2,7 +2,7 @@
 use Rattle.std.specs.Prelude.{◌≡◌, ◌++◌, ℕ, Result, Ok, Err, List, ◌∷◌}
 use Rattle.ssf_core.specs.Happenings.{Happening, What, Took, Expired, sent_at}
 use Rattle.ssf_core.specs.Stands.{StageMatches, ssf_phase_of}
-use Rattle.ssf_core.specs.Table.{Effect, on_expiry, on_input}
+use Rattle.ssf_core.specs.Rules.{Effect, on_expiry, on_input}
 use Rattle.ssf_core.specs.declared.config.SsfConfig.{SsfConfig}
 use Rattle.ssf_core.specs.declared.fault.SsfFault.{SsfFault}
 use Rattle.ssf_core.specs.declared.item.Item.{Item}
@@ -17,7 +17,7 @@ pub record FollowsEffect (config : SsfConfig) (trace : List Happening) (now : �
   pub data' : (items : List Item) → StageMatches config stage (record { at = now; what = what; sent = items } ∷ trace)
   pub sends : after ≡ before ++ sent_at now effect.sent
 
--- an input is taken where the table takes it, and else refused for the same reason, and nothing is sent
+-- an input is taken where the rules take it, and else refused for the same reason, and nothing is sent
 abbrev pub IsTakenInput : SsfConfig → List Happening → ℕ → Input → Result Effect SsfFault → Result Stage SsfFault → List Out → List Out → Type 0
 IsTakenInput config trace now input (Ok effect) (Ok stage) before after = FollowsEffect config trace now (Took input) effect stage before after
 IsTakenInput config trace now input (Ok effect) (Err fault) before after = ⊥
@@ -29,7 +29,7 @@ abbrev pub TakesInput : SsfConfig → Stage → ℕ → Input → Result Stage S
 TakesInput config stage now input result before after =
     (trace : List Happening) → StageMatches config stage trace → IsTakenInput config trace now input (on_input trace (ssf_phase_of stage) now input) result before after
 
--- a timer of a stage expires with the effect of the table, in each trace that the stage stands for
+-- a timer of a stage expires with the effect of the rules, in each trace that the stage stands for
 abbrev pub Expires : SsfConfig → Stage → ℕ → Timer → Stage → List Out → List Out → Type 0
 Expires config from now timer to before after =
     (trace : List Happening) → StageMatches config from trace

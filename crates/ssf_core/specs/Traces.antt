@@ -1,10 +1,10 @@
--- The traces of a gsmSSF: lists of happenings, the newest first, whose moments never fall, in which no due timer is missing, each with what the table sends. A refused input is no happening.
+-- The traces of a gsmSSF: lists of happenings, the newest first, whose moments never fall, in which no due timer is missing, each with what the rules send. A refused input is no happening.
 use Rattle.std.specs.Prelude.{◌≡◌, ◌≤◌, ◌<◌, ◌⊎◌, ◌+◌, ℕ, Bool, Option, Some, None, Result, Ok, Err, List, [], ◌∷◌}
 use Rattle.std.specs.Option.{option_map}
 use Rattle.ssf_core.specs.Happenings.{Happening, What, Took, Expired}
-use Rattle.ssf_core.specs.Phases.{SsfPhase, Unused, Initial, Setup, Active, Down}
+use Rattle.ssf_core.specs.Phases.{SsfPhase, Unused, Initial, Early, Active, Down}
 use Rattle.ssf_core.specs.Quantities.{answered, granted, last_input, last_happening_moment, pending, period_end, switch_due, switched}
-use Rattle.ssf_core.specs.Table.{Effect, on_input, on_expiry}
+use Rattle.ssf_core.specs.Rules.{Effect, on_input, on_expiry}
 use Rattle.ssf_core.specs.declared.config.SsfConfig.{SsfConfig}
 use Rattle.ssf_core.specs.declared.fault.SsfFault.{SsfFault}
 use Rattle.ssf_core.specs.declared.item.Item.{Item}
@@ -34,7 +34,7 @@ awaited_switch (Some moment) due = None
 -- Tsw: the switch that was set, in each phase but Down
 abbrev pub tsw_due : List Happening → SsfPhase → Option ℕ
 tsw_due trace Initial = awaited_switch (switched trace) (switch_due trace)
-tsw_due trace Setup = awaited_switch (switched trace) (switch_due trace)
+tsw_due trace Early = awaited_switch (switched trace) (switch_due trace)
 tsw_due trace Active = awaited_switch (switched trace) (switch_due trace)
 tsw_due trace _ = None
 
@@ -82,7 +82,7 @@ abbrev pub ComesBefore : ℕ → What → ℕ → Timer → Type 0
 ComesBefore now (Took input) d timer = now < d
 ComesBefore now (Expired first) d timer = (now < d) ⊎ ((now ≡ d) × (rank first ≤ rank timer))
 
--- what is sent is the table's; an expiry comes at its due moment
+-- what is sent is by the rules; an expiry comes at its due moment
 abbrev pub HasEffect : SsfConfig → List Happening → ℕ → What → List Item → Type 0
 HasEffect config trace now (Took input) sent =
     (effect : Effect) × (on_input trace (phase_after config trace) now input ≡ Ok effect) × (sent ≡ effect.sent)

@@ -1,4 +1,4 @@
-//! The events of the call, in the order of the table.
+//! The events of the call, in the order of the rules.
 
 ghost use Rattle.std.specs.Prelude.{◌≡◌, ◌+◌, ◌++◌, ◌≤◌, ◌∷◌, ℕ, List, None};
 ghost use Rattle.std.specs.Result.{result_unwrap_or};
@@ -6,9 +6,9 @@ ghost use Rattle.arrayvec.specs.ArrayVec.{array_vec_len};
 ghost use Rattle.ssf_core.specs.Happenings.{Happening, Took, sent_at};
 ghost use Rattle.ssf_core.specs.Quantities.{mode_at};
 ghost use Rattle.ssf_core.specs.Stages.{IsActiveTimely, IsSwitchTimely, IsTimelyStage, tccd_due_of};
-ghost use Rattle.ssf_core.specs.Stands.{ActiveMatches, SetupMatches, StageMatches, period_of, ssf_phase_of, release_of, running_period};
+ghost use Rattle.ssf_core.specs.Stands.{ActiveMatches, EarlyMatches, StageMatches, period_of, ssf_phase_of, release_of, running_period};
 ghost use Rattle.ssf_core.specs.Steps.{IsTakenInput, TakesInput};
-ghost use Rattle.ssf_core.specs.Table.{ends, notified, on_failure};
+ghost use Rattle.ssf_core.specs.Rules.{ends, notified, on_failure};
 ghost use Rattle.ssf_core.specs.declared.config.SsfConfig.{SsfConfig as Config};
 ghost use Rattle.ssf_core.specs.declared.item.Item.{Item};
 ghost use Rattle.ssf_core.specs.declared.ssf.Input.{Input};
@@ -16,7 +16,7 @@ ghost use Rattle.ssf_core.specs.declared.ssf.Input.TheVariants as taken;
 ghost use Rattle.cap_values.specs.declared.event.Event.TheVariants as event;
 
 use crate::sending::{by_mode, end, notify, send_last_report};
-use crate::stage::{Active, Charging, Setup, Stage, mode_of};
+use crate::stage::{Active, Charging, Early, Stage, mode_of};
 use crate::{BcsmEvent, Moment, Out, SsfConfig, SsfFault};
 use arrayvec::ArrayVec;
 use cap_values::{Charge, Event, Leg, Mode, Point};
@@ -59,45 +59,45 @@ pub(crate) fn meet(
             )
         }
         BcsmEvent::NoAnswer => fail(config, stage, sent, now, Event::NoAnswer, Point::NoAnswer),
-        BcsmEvent::Answer => answer(stage, sent, now),
+        BcsmEvent::Answer => activate(stage, sent, now),
         BcsmEvent::Disconnect(leg) => disconnect(config, stage, sent, now, leg),
         BcsmEvent::Abandon => abandon(stage, sent, now),
     }
 }
 
 /// Answer: the call is active; reported where its mode is NotifyAndContinue.
-fn answer(stage: Stage, sent: &mut ArrayVec<Out, 8>, now: Moment) -> Result<Stage, SsfFault>
+fn activate(stage: Stage, sent: &mut ArrayVec<Out, 8>, now: Moment) -> Result<Stage, SsfFault>
     requires room { array_vec_len sent.old ≤ 5 }
     requires timely { IsTimelyStage now stage }
     ensures takes { (config : Config) → TakesInput config stage now
         (taken.Meet BcsmEvent.Answer) result sent.old.items sent.new.items }
     ensures timely { IsTimelyStage now (result_unwrap_or result stage) }
 {
-    let Stage::Setup(setup) = stage else {
+    let Stage::Early(early) = stage else {
         return Err(SsfFault::NoSuchEvent);
     };
     notify(
         sent,
         now,
         Event::Answer,
-        mode_of(&setup.modes, Point::Answer),
+        mode_of(&early.modes, Point::Answer),
     );
-    Ok(Stage::Active(answered(setup, now)))
+    Ok(Stage::Active(answered(early, now)))
 }
 
-fn answered(setup: Setup, now: Moment) -> Active
-    requires { IsSwitchTimely now setup.switch }
-    ensures matches { (tccd : ℕ) (t : List Happening) (items : List Item) → SetupMatches setup t
+fn answered(early: Early, now: Moment) -> Active
+    requires { IsSwitchTimely now early.switch }
+    ensures matches { (tccd : ℕ) (t : List Happening) (items : List Item) → EarlyMatches early t
         → ActiveMatches tccd result
         (record { at = now; what = Took (taken.Meet BcsmEvent.Answer); sent = items } ∷ t) }
     ensures timely { IsActiveTimely now result }
 {
     Active {
-        modes: setup.modes,
+        modes: early.modes,
         answered: now,
-        granted: period_of(setup.charge),
-        charging: charging_of(setup.charge),
-        switch: setup.switch,
+        granted: period_of(early.charge),
+        charging: charging_of(early.charge),
+        switch: early.switch,
     }
 }
 
@@ -141,10 +141,10 @@ fn fail(
         result sent.old.items sent.new.items }
     ensures timely { IsTimelyStage now (result_unwrap_or result stage) }
 {
-    let Stage::Setup(setup) = stage else {
+    let Stage::Early(early) = stage else {
         return Err(SsfFault::NoSuchEvent);
     };
-    Ok(by_mode(config, sent, now, event, None, mode_of(&setup.modes, point)))
+    Ok(by_mode(config, sent, now, event, None, mode_of(&early.modes, point)))
 }
 
 /// Abandon: reported where its mode is NotifyAndContinue; ends.
@@ -156,12 +156,12 @@ fn abandon(stage: Stage, sent: &mut ArrayVec<Out, 8>, now: Moment) -> Result<Sta
     ensures timely { IsTimelyStage now (result_unwrap_or result stage) }
 {
     match stage {
-        Stage::Initial { setup, .. } => Ok(give_up(
+        Stage::Initial { early, .. } => Ok(give_up(
             sent,
             now,
-            mode_of(&setup.modes, Point::Abandon),
+            mode_of(&early.modes, Point::Abandon),
         )),
-        Stage::Setup(setup) => Ok(give_up(sent, now, mode_of(&setup.modes, Point::Abandon))),
+        Stage::Early(early) => Ok(give_up(sent, now, mode_of(&early.modes, Point::Abandon))),
         Stage::Unused | Stage::Requested | Stage::Active(_) | Stage::Down { .. } | Stage::Ended => {
             Err(SsfFault::NoSuchEvent)
         }

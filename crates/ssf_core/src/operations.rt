@@ -1,17 +1,17 @@
-//! The operations of the service, in the order of the table.
+//! The operations of the service, in the order of the rules.
 
 ghost use Rattle.std.specs.Prelude.{◌≡◌, ◌+◌, ◌≤◌, ℕ, List, Ok, Err, Some, None, IsSome};
 ghost use Rattle.std.specs.Result.{result_unwrap_or};
 ghost use Rattle.arrayvec.specs.ArrayVec.{array_vec_len};
 ghost use Rattle.ssf_core.specs.Stages.{IsActiveTimely, IsSwitchTimely, IsTimelyStage, started, tccd_due_of};
 ghost use Rattle.ssf_core.specs.Steps.{TakesInput};
-ghost use Rattle.ssf_core.specs.Table.{is_fitting};
+ghost use Rattle.ssf_core.specs.Rules.{is_fitting};
 ghost use Rattle.ssf_core.specs.declared.config.SsfConfig.{SsfConfig as Config};
 ghost use Rattle.ssf_core.specs.declared.item.Out.{Out as Sent};
 ghost use Rattle.ssf_core.specs.declared.ssf.Input.TheVariants as taken;
 
 use crate::sending::{clear, proceed, send, send_last_report};
-use crate::stage::{Active, Charging, Setup, Stage, armed, started, watch_any};
+use crate::stage::{Active, Charging, Early, Stage, armed, started, watch_any};
 use crate::{Item, Moment, Out, SsfConfig, SsfFault};
 use arrayvec::ArrayVec;
 use cap_values::{Arms, Cause, Charge, ScfOp};
@@ -54,16 +54,16 @@ fn request_report(
     ensures timely { IsTimelyStage now (result_unwrap_or result stage) }
 {
     match stage {
-        Stage::Initial { mut setup, .. } => {
-            setup.modes = armed(&setup.modes, arms);
+        Stage::Initial { mut early, .. } => {
+            early.modes = armed(&early.modes, arms);
             Ok(Stage::Initial {
-                setup,
+                early,
                 due: now + u64::from(config.tssf),
             })
         }
-        Stage::Setup(mut setup) => {
-            setup.modes = armed(&setup.modes, arms);
-            Ok(Stage::Setup(setup))
+        Stage::Early(mut early) => {
+            early.modes = armed(&early.modes, arms);
+            Ok(Stage::Early(early))
         }
         Stage::Active(mut active) => {
             active.modes = armed(&active.modes, arms);
@@ -92,11 +92,11 @@ fn apply_charging(
     ensures timely { IsTimelyStage now (result_unwrap_or result stage) }
 {
     match stage {
-        Stage::Initial { setup, .. } => Ok(Stage::Initial {
-            setup: charge_setup(setup, now, charge)?,
+        Stage::Initial { early, .. } => Ok(Stage::Initial {
+            early: charge_early(early, now, charge)?,
             due: now + u64::from(config.tssf),
         }),
-        Stage::Setup(setup) => Ok(Stage::Setup(charge_setup(setup, now, charge)?)),
+        Stage::Early(early) => Ok(Stage::Early(charge_early(early, now, charge)?)),
         Stage::Active(active) => charge_active(active, now, charge),
         Stage::Unused | Stage::Requested | Stage::Down { .. } | Stage::Ended => {
             Err(SsfFault::UnexpectedComponentSequence)
@@ -105,19 +105,19 @@ fn apply_charging(
 }
 
 /// A first period, where none is pending.
-fn charge_setup(setup: Setup, now: Moment, charge: Charge) -> Result<Setup, SsfFault>
+fn charge_early(early: Early, now: Moment, charge: Charge) -> Result<Early, SsfFault>
     requires { now ≤ HORIZON }
-    ensures pending { IsSome setup.charge → result ≡ Err SsfFault.UnexpectedComponentSequence }
-    ensures charged { setup.charge ≡ None → result ≡ Ok (record setup {
+    ensures pending { IsSome early.charge → result ≡ Err SsfFault.UnexpectedComponentSequence }
+    ensures charged { early.charge ≡ None → result ≡ Ok (record early {
       charge = Some charge;
-      switch = started setup.switch now charge.switch;
+      switch = started early.switch now charge.switch;
     }) }
 {
-    match setup.charge {
-        None => Ok(Setup {
-            modes: setup.modes,
+    match early.charge {
+        None => Ok(Early {
+            modes: early.modes,
             charge: Some(charge),
-            switch: started(setup.switch, now, charge.switch),
+            switch: started(early.switch, now, charge.switch),
         }),
         Some(_) => Err(SsfFault::UnexpectedComponentSequence),
     }
@@ -179,24 +179,24 @@ fn resume(stage: Stage, sent: &mut ArrayVec<Out, 8>, now: Moment) -> Result<Stag
     ensures timely { IsTimelyStage now (result_unwrap_or result stage) }
 {
     match stage {
-        Stage::Initial { setup, .. } => Ok(go_on(setup, sent, now)),
+        Stage::Initial { early, .. } => Ok(go_on(early, sent, now)),
         Stage::Down { .. } => Ok(proceed(sent, now)),
-        Stage::Unused | Stage::Requested | Stage::Setup(_) | Stage::Active(_) | Stage::Ended => {
+        Stage::Unused | Stage::Requested | Stage::Early(_) | Stage::Active(_) | Stage::Ended => {
             Err(SsfFault::UnexpectedComponentSequence)
         }
     }
 }
 
-fn go_on(setup: Setup, sent: &mut ArrayVec<Out, 8>, now: Moment) -> Stage
+fn go_on(early: Early, sent: &mut ArrayVec<Out, 8>, now: Moment) -> Stage
     requires room { array_vec_len sent.old ≤ 5 }
-    requires timely { IsSwitchTimely now setup.switch }
-    ensures takes { (config : Config) (due : ℕ) → TakesInput config (Stage.Initial setup due) now
+    requires timely { IsSwitchTimely now early.switch }
+    ensures takes { (config : Config) (due : ℕ) → TakesInput config (Stage.Initial early due) now
         (taken.Operate ScfOp.Continue) (Ok result) sent.old.items sent.new.items }
     ensures timely { IsTimelyStage now result }
 {
-    if watch_any(&setup.modes) || setup.charge.is_some() {
+    if watch_any(&early.modes) || early.charge.is_some() {
         send(sent, now, Item::Proceed);
-        return Stage::Setup(setup);
+        return Stage::Early(early);
     }
     proceed(sent, now)
 }
@@ -215,7 +215,7 @@ fn release_call(
     ensures timely { IsTimelyStage now (result_unwrap_or result stage) }
 {
     match stage {
-        Stage::Initial { .. } | Stage::Setup(_) | Stage::Down { .. } => Ok(clear(sent, now, cause)),
+        Stage::Initial { .. } | Stage::Early(_) | Stage::Down { .. } => Ok(clear(sent, now, cause)),
         Stage::Active(active) => {
             send_last_report(sent, now, &active);
             Ok(clear(sent, now, cause))

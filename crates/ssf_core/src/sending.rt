@@ -2,7 +2,7 @@
 
 ghost use Rattle.std.specs.Prelude.{◌≡◌, ◌+◌, ◌++◌, ◌<◌, ◌≤◌, ◌∷◌, ◌-◌, [], ℕ, List};
 ghost use Rattle.ssf_core.specs.Happenings.{Happening, Took, sent_at};
-ghost use Rattle.ssf_core.specs.Table.{by_mode, ends, event_report, last_report_sent, notified, report};
+ghost use Rattle.ssf_core.specs.Rules.{by_mode, ends, event_report, last_report_sent, notified, report};
 ghost use Rattle.ssf_core.specs.Split.{split};
 ghost use Rattle.ssf_core.specs.Stages.{IsActiveTimely, IsSwitchTimely, IsTimelyStage, passed_switch};
 ghost use Rattle.ssf_core.specs.Stands.{ActiveMatches};
@@ -62,7 +62,13 @@ pub(crate) fn proceed(sent: &mut ArrayVec<Out, 8>, now: Moment) -> Stage
 }
 
 /// Reports an event.
-fn tell(sent: &mut ArrayVec<Out, 8>, now: Moment, event: Event, leg: Option<Leg>, mode: Mode)
+fn report_event(
+    sent: &mut ArrayVec<Out, 8>,
+    now: Moment,
+    event: Event,
+    leg: Option<Leg>,
+    mode: Mode,
+)
     requires { array_vec_len sent.old < 8 }
     ensures items { sent.new.items ≡ sent.old.items
         ++ sent_at now (event_report event leg mode) }
@@ -82,7 +88,7 @@ pub(crate) fn notify(sent: &mut ArrayVec<Out, 8>, now: Moment, event: Event, mod
     ensures room { array_vec_len sent.new ≤ array_vec_len sent.old + 1 }
 {
     match mode {
-        Mode::NotifyAndContinue => tell(sent, now, event, None, mode),
+        Mode::NotifyAndContinue => report_event(sent, now, event, None, mode),
         Mode::Interrupted | Mode::Transparent => {}
     }
 }
@@ -107,13 +113,13 @@ pub(crate) fn by_mode(
 {
     match mode {
         Mode::Interrupted => {
-            tell(sent, now, event, leg, mode);
+            report_event(sent, now, event, leg, mode);
             Stage::Down {
                 due: now + u64::from(config.tssf),
             }
         }
         Mode::NotifyAndContinue => {
-            tell(sent, now, event, leg, mode);
+            report_event(sent, now, event, leg, mode);
             end(sent, now)
         }
         Mode::Transparent => end(sent, now),

@@ -12,7 +12,7 @@ ghost use Rattle.arrayvec.specs.ArrayVec.{array_vec_len};
 use crate::events::meet;
 use crate::operations::operate;
 use crate::sending::send;
-use crate::stage::{Setup, Stage, Switch, UNARMED, state_of};
+use crate::stage::{Early, Stage, Switch, UNARMED, state_of};
 use crate::timers::{next_moment, run_timers};
 use crate::{BcsmEvent, Item, Moment, Out, SsfConfig, SsfFault, State, Step};
 use arrayvec::ArrayVec;
@@ -25,7 +25,7 @@ use tariff_core::HORIZON;
 ///
 /// Every call first compares its moment with the last one: a lesser one is `TimeBackwards` and
 /// changes nothing. Then all timers due by it expire, each as of its due moment, and then the input
-/// is taken or refused by the table.
+/// is taken or refused by the rules.
 #[derive(Drop)]
 pub struct Ssf {
     config: SsfConfig,
@@ -79,7 +79,7 @@ impl Ssf {
     }
 
     /// The least moment at which a timer is due, or none where no timer runs. It doesn't lie behind
-    /// the last moment that the gsmSSF took.
+    /// the latest moment that the gsmSSF took.
     pub fn next_due(&self) -> Option<Moment>
         ensures least { (t : List Happening)
             → Stands self.now t → IsNextDue self.now.config t result }
@@ -288,7 +288,7 @@ fn trigger(
         }),
     );
     Ok(Stage::Initial {
-        setup: Setup {
+        early: Early {
             modes: UNARMED,
             charge: None,
             switch: Switch::Unset,

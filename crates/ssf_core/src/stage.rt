@@ -5,13 +5,13 @@ ghost use Rattle.ssf_core.specs.Phases.{state_of_phase};
 ghost use Rattle.ssf_core.specs.Stages.{started};
 ghost use Rattle.ssf_core.specs.Stands.{ssf_phase_of};
 ghost use Rattle.ssf_core.specs.Modes.{armed_modes, modes_at};
-ghost use Rattle.ssf_core.specs.Table.{any_watched, is_watched};
+ghost use Rattle.ssf_core.specs.Rules.{any_watched, is_watched};
 
 use crate::Moment;
 use cap_values::{Arms, Charge, Leg, Mode, Point};
 use tariff_core::HORIZON;
 
-/// A state of the table, with its phase.
+/// A state of the call, with its phase.
 #[derive(Clone, Copy)]
 pub(crate) enum Stage {
     /// Idle, never invoked.
@@ -19,9 +19,9 @@ pub(crate) enum Stage {
     /// WaitForRequest.
     Requested,
     /// WaitingForInstructions before the call goes on; Tssf is due at `due`.
-    Initial { setup: Setup, due: Moment },
+    Initial { early: Early, due: Moment },
     /// Monitoring before the answer.
-    Setup(Setup),
+    Early(Early),
     /// Monitoring after the answer.
     Active(Active),
     /// WaitingForInstructions after the call was interrupted; Tssf is due at `due`.
@@ -32,7 +32,7 @@ pub(crate) enum Stage {
 
 /// A call before its answer.
 #[derive(Clone, Copy)]
-pub(crate) struct Setup {
+pub(crate) struct Early {
     pub modes: Modes,
     /// The pending period.
     pub charge: Option<Charge>,
@@ -95,7 +95,7 @@ pub(crate) fn state_of(stage: &Stage) -> State
         Stage::Unused | Stage::Ended => State::Idle,
         Stage::Requested => State::WaitForRequest,
         Stage::Initial { .. } | Stage::Down { .. } => State::WaitingForInstructions,
-        Stage::Setup(_) | Stage::Active(_) => State::Monitoring,
+        Stage::Early(_) | Stage::Active(_) => State::Monitoring,
     }
 }
 

@@ -5,7 +5,7 @@ ghost use Rattle.ssf_core.specs.Happenings.{Happening, sent_at};
 ghost use Rattle.ssf_core.specs.Running.{Runs};
 ghost use Rattle.ssf_core.specs.Stages.{IsQuiet, IsTimelyStage, IsActiveTimely, IsBounded, due_by, expiries_left, expiry_of, items_left, expiry_moment, next_expiry_of, sooner_of, stage_due, switch_due_of, tccd_due_of, tcp_due_of};
 ghost use Rattle.ssf_core.specs.Steps.{Expires};
-ghost use Rattle.ssf_core.specs.Table.{on_tssf};
+ghost use Rattle.ssf_core.specs.Rules.{on_tssf};
 ghost use Rattle.ssf_core.specs.declared.config.SsfConfig.{SsfConfig as Config};
 ghost use Rattle.ssf_core.specs.declared.item.Out.{Out as Sent};
 ghost use Rattle.arrayvec.specs.ArrayVec.{array_vec_len};
@@ -66,8 +66,8 @@ fn tsw_due(stage: &Stage) -> Option<Moment>
     ensures { result ≡ stage_due stage.now Timer.Tsw }
 {
     match stage {
-        Stage::Initial { setup, .. } => switch_due(setup.switch),
-        Stage::Setup(setup) => switch_due(setup.switch),
+        Stage::Initial { early, .. } => switch_due(early.switch),
+        Stage::Early(early) => switch_due(early.switch),
         Stage::Active(active) => switch_due(active.switch),
         Stage::Unused | Stage::Requested | Stage::Down { .. } | Stage::Ended => None,
     }
@@ -240,13 +240,13 @@ fn switch_over(stage: Stage, now: Moment) -> Stage
     ensures room { items_left result ≤ items_left stage }
 {
     match stage {
-        Stage::Initial { mut setup, due } => {
-            setup.switch = Switch::Passed(now);
-            Stage::Initial { setup, due }
+        Stage::Initial { mut early, due } => {
+            early.switch = Switch::Passed(now);
+            Stage::Initial { early, due }
         }
-        Stage::Setup(mut setup) => {
-            setup.switch = Switch::Passed(now);
-            Stage::Setup(setup)
+        Stage::Early(mut early) => {
+            early.switch = Switch::Passed(now);
+            Stage::Early(early)
         }
         Stage::Active(mut active) => {
             active.switch = Switch::Passed(now);

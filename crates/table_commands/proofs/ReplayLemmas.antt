@@ -3,8 +3,8 @@ use Rattle.std.proofs.Common.{◌≡◌, ◌<◌, ℕ, zero, suc, length, arith,
 use Rattle.std.specs.Prelude.{◌≢◌, IfErr, IfOk, OnErr, OnOk}
 use Rattle.std.proofs.lemmas.List.{reverse-append}
 use Rattle.account_core.specs.Asked.{Asked}
-use Rattle.account_core.specs.Events.{EntryData}
-use Rattle.account_core.specs.Ledger.{IsRefusal, Ledger, answer_of, event_by, refusal_of}
+use Rattle.account_core.specs.Entries.{EntryData}
+use Rattle.account_core.specs.Ledger.{IsRefusal, Ledger, answer_of, entry_by, refusal_of}
 use Rattle.account_core.specs.Tellers.{IsTellerOf, entered}
 use Rattle.account_core.specs.declared.account.Teller.{Teller}
 use Rattle.account_core.specs.declared.entry.Reply.{Reply}
@@ -73,7 +73,7 @@ pub record IsStep (old new : Ledger) (ask : SeatAsk) (response : Result Reply Ac
 
 -- the ledger after an answer
 abbrev pub ledger_after : Ledger → ℕ → Asked → Result Reply AccountFault → Ledger
-ledger_after ledger seat asked (Ok reply) = entered ledger (event_by seat asked reply)
+ledger_after ledger seat asked (Ok reply) = entered ledger (entry_by seat asked reply)
 ledger_after ledger seat asked (Err why) = ledger
 
 refused_step : (ledger : Ledger) (seat : ℕ) (asked : Asked) (why : AccountFault) → IsRefusal ledger asked why → why ≢ fault.OutOfMemory
@@ -92,7 +92,7 @@ module _ (old new : Teller) (ledger : Ledger) (is : IsTellerOf ledger old) (seat
       let right : reply ≡ answer_of ledger asked = answered ledger is in
       record {
         line = rw (none, right) refl;
-        history = rw (none, ← right) (reverse-append ledger.history (event_by seat asked reply ∷ []));
+        history = rw (none, ← right) (reverse-append ledger.history (entry_by seat asked reply ∷ []));
         opening = refl;
         until = refl;
         limit = refl;
@@ -100,7 +100,7 @@ module _ (old new : Teller) (ledger : Ledger) (is : IsTellerOf ledger old) (seat
   step (Err why) answered admitted refused memory = refused_step ledger seat asked why (refused ledger is) (λ same. memory (ap Err same))
 
   pub teller_after : (response : Result Reply AccountFault)
-      → IfOk response (λ reply. (l : Ledger) → IsTellerOf l old → IsTellerOf (entered l (event_by seat asked reply)) new)
+      → IfOk response (λ reply. (l : Ledger) → IsTellerOf l old → IsTellerOf (entered l (entry_by seat asked reply)) new)
       → OnErr response ((l : Ledger) → IsTellerOf l old → IsTellerOf l new)
       → IsTellerOf (ledger_after ledger seat asked response) new
   teller_after (Ok reply) entered kept = entered ledger is

@@ -10,7 +10,7 @@ use Rattle.table_core.specs.Judging.{and_then}
 use Rattle.table_core.specs.Rows.{rows_of}
 use Rattle.tariff_core.specs.Bands.{Band}
 use Rattle.tariff_core.specs.Rates.{Rates}
-use Rattle.table_commands.specs.Faults.{meaning_in, meaning_of_part}
+use Rattle.table_commands.specs.Faults.{meaning_in, meaning_of_section}
 use Rattle.table_commands.specs.Input.{sized, sized_as}
 use Rattle.table_commands.specs.PriceLines.{price_lines}
 use Rattle.table_commands.specs.Printouts.{Printout, plain}
@@ -18,17 +18,17 @@ use Rattle.table_commands.specs.Quotes.{IsQuoteText}
 use Rattle.table_commands.specs.Replays.{replayed}
 use Rattle.table_commands.specs.Reports.{table_reports_of}
 use Rattle.table_commands.specs.declared.fault.Fault.{Fault}
-use Rattle.table_commands.specs.declared.fault.Part.TheVariants as part
+use Rattle.table_commands.specs.declared.fault.TableName.TheVariants as table_name
 
 -- what `price` makes of an input: its lines, or the first fault
 abbrev pub price_of_input : Rates → List ℕ → Result Printout Fault
 price_of_input plan input = and_then (sized input) (λ text.
-    and_then (meaning_in part.Reports (table_reports_of plan (rows_of text))) (λ reports. Ok (plain (price_lines plan 0 reports))))
+    and_then (meaning_in table_name.Reports (table_reports_of plan (rows_of text))) (λ reports. Ok (plain (price_lines plan 0 reports))))
 
 -- what `replay` makes of it
 abbrev pub replay_of_input : ℕ → ℕ → List ℕ → Result Printout Fault
 replay_of_input opening limit input = and_then (sized input) (λ text.
-    and_then (meaning_in part.Ops (replayed opening limit (rows_of text))) (λ lines. Ok (plain lines)))
+    and_then (meaning_in table_name.Ops (replayed opening limit (rows_of text))) (λ lines. Ok (plain lines)))
 
 -- the text of an audit, which passes where each account's history is legal
 abbrev pub printout_of_audit : Audited → Printout
@@ -43,7 +43,7 @@ pub record IsAuditPrinted (ask : AuditAsk) (text : List ℕ) (books : Books) (an
 -- what `audit` makes of a table of books, as it is asked
 abbrev pub IsAuditOfTable : AuditAsk → List ℕ → Result Printout Fault → Type 0
 IsAuditOfTable ask text answer =
-    MatchResult (meaning_in part.Book (books_of (most_rows ask.size) (rows_of text))) (λ books. IsAuditPrinted ask text books answer) (λ why. answer ≡ Err why)
+    MatchResult (meaning_in table_name.Book (books_of (most_rows ask.size) (rows_of text))) (λ books. IsAuditPrinted ask text books answer) (λ why. answer ≡ Err why)
 
 -- and of an input
 abbrev pub IsAuditOfInput : AuditAsk → List ℕ → Result Printout Fault → Type 0
@@ -58,4 +58,4 @@ pub record IsQuotePrinted (bands : List Band) (wish : QuoteWish) (answer : Resul
 -- what `quote` makes of an input, which is a tariff
 abbrev pub IsQuoteOfInput : QuoteWish → List ℕ → Result Printout Fault → Type 0
 IsQuoteOfInput wish input answer =
-    MatchResult (and_then (sized input) (λ text. meaning_of_part (tariff_in text))) (λ bands. IsQuotePrinted bands wish answer) (λ why. answer ≡ Err why)
+    MatchResult (and_then (sized input) (λ text. meaning_of_section (tariff_in text))) (λ bands. IsQuotePrinted bands wish answer) (λ why. answer ≡ Err why)

@@ -1,5 +1,5 @@
 -- What an ask of the code says.
-use Rattle.account_core.specs.Events.{asked_of}
+use Rattle.account_core.specs.Entries.{asked_of}
 use Rattle.table_commands.specs.Asks.{SeatAsk}
 use Rattle.table_commands.specs.declared.replaying.Ask.{Ask}
 

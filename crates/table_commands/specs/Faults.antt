@@ -19,18 +19,18 @@ use Rattle.table_core.specs.declared.fault.TableFault.TheVariants as table
 use Rattle.tariff_core.specs.TariffFaults.{tariff_fault_text as tariff_text_of}
 use Rattle.table_commands.specs.declared.fault.Fault.{Fault}
 use Rattle.table_commands.specs.declared.fault.Fault.TheVariants as fault
-use Rattle.table_commands.specs.declared.fault.Part.{Part}
-use Rattle.table_commands.specs.declared.fault.Part.TheVariants as part
+use Rattle.table_commands.specs.declared.fault.TableName.{TableName}
+use Rattle.table_commands.specs.declared.fault.TableName.TheVariants as table_name
 
--- the name of a part
-abbrev pub name_of_part : Part → List ℕ
-name_of_part part.Reports = codes "reports"
-name_of_part part.Ops = codes "ops"
-name_of_part part.Setup = codes "setup"
-name_of_part part.Script = codes "script"
-name_of_part part.Book = codes "book"
-name_of_part part.Records = codes "records"
-name_of_part part.Messages = codes "messages"
+-- how a table is called
+abbrev pub text_of_table_name : TableName → List ℕ
+text_of_table_name table_name.Reports = codes "reports"
+text_of_table_name table_name.Ops = codes "ops"
+text_of_table_name table_name.Setup = codes "setup"
+text_of_table_name table_name.Script = codes "script"
+text_of_table_name table_name.Book = codes "book"
+text_of_table_name table_name.Records = codes "records"
+text_of_table_name table_name.Messages = codes "messages"
 
 -- the line that says a fault, without its end
 abbrev pub line_of_fault : Fault → List ℕ
@@ -39,7 +39,7 @@ line_of_fault fault.Config = codes "prepaid: input: Config"
 line_of_fault fault.TooLong = codes "prepaid: input: TooLong"
 line_of_fault fault.Parts = codes "prepaid: input: Parts"
 line_of_fault (fault.Tariff row) = codes "prepaid: tariff " ++ tariff_text_of row
-line_of_fault (fault.Table part row) = codes "prepaid: " ++ (name_of_part part ++ (codes " " ++ row_fault_text row))
+line_of_fault (fault.Table name row) = codes "prepaid: " ++ (text_of_table_name name ++ (codes " " ++ row_fault_text row))
 line_of_fault (fault.Log why) = codes "prepaid: log: " ++ name_of_log why
 line_of_fault (fault.LogRow row kind) = codes "prepaid: log row " ++ (decimal row ++ (codes ": " ++ name_of_line kind))
 line_of_fault fault.Into = codes "prepaid: into: Device"
@@ -55,16 +55,16 @@ status_of fault.Device = 2
 status_of (fault.Run why) = 2
 status_of _ = 1
 
--- the fault of a table that is a part of the input
-abbrev pub in_part : Part → TableFault → Fault
-in_part part (table.Row refused) = fault.Table part refused
-in_part part table.Device = fault.Device
-in_part part table.OutOfMemory = fault.Run run.OutOfMemory
+-- the fault of the table that is called so
+abbrev pub in_table : TableName → TableFault → Fault
+in_table name (table.Row refused) = fault.Table name refused
+in_table name table.Device = fault.Device
+in_table name table.OutOfMemory = fault.Run run.OutOfMemory
 
 -- the same, of a table's meaning
-abbrev pub meaning_in : {X : Type 0} → Part → Result X RowFault → Result X Fault
-meaning_in part (Ok x) = Ok x
-meaning_in part (Err refused) = Err (fault.Table part refused)
+abbrev pub meaning_in : {X : Type 0} → TableName → Result X RowFault → Result X Fault
+meaning_in name (Ok x) = Ok x
+meaning_in name (Err refused) = Err (fault.Table name refused)
 
 -- the fault of words that have no request
 abbrev pub of_words : WordsFault → Fault
@@ -77,25 +77,25 @@ abbrev pub of_run_input : InputFault → Fault
 of_run_input input.Parts = fault.Parts
 of_run_input input.TooLong = fault.TooLong
 of_run_input (input.Tariff row) = fault.Tariff row
-of_run_input (input.Setup row) = fault.Table part.Setup row
-of_run_input (input.Script row) = fault.Table part.Script row
+of_run_input (input.Setup row) = fault.Table table_name.Setup row
+of_run_input (input.Script row) = fault.Table table_name.Script row
 of_run_input input.Device = fault.Device
 of_run_input input.OutOfMemory = fault.Run run.OutOfMemory
 
 -- the fault of a table whose header isn't the one that it must have
-abbrev pub no_header : Part → Fault
-no_header part = fault.Table part (record { row = 1; kind = kind.Header })
+abbrev pub no_header : TableName → Fault
+no_header name = fault.Table name (record { row = 1; kind = kind.Header })
 
 -- the fault of records that aren't rated to their end; an output that failed has none
 abbrev pub of_rate : RateFault → Option Fault
 of_rate (rate.Input why) = Some (of_run_input why)
-of_rate rate.Header = Some (no_header part.Records)
+of_rate rate.Header = Some (no_header table_name.Records)
 of_rate rate.Output = None
 
--- what a part of the input of a run means, its faults as the program's
-abbrev pub meaning_of_part : {X : Type 0} → Result X InputFault → Result X Fault
-meaning_of_part (Ok x) = Ok x
-meaning_of_part (Err why) = Err (of_run_input why)
+-- what a section of the input of a run means, its faults as the program's
+abbrev pub meaning_of_section : {X : Type 0} → Result X InputFault → Result X Fault
+meaning_of_section (Ok x) = Ok x
+meaning_of_section (Err why) = Err (of_run_input why)
 
 -- the input may fail, and memory run out, at any words and any input
 abbrev pub FaultMayAlwaysCome : Fault → Type 0

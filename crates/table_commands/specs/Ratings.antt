@@ -6,7 +6,7 @@ use Rattle.rating.specs.Ends.{IsInPart, IsRatedWhole as IsRatedWhole}
 use Rattle.rating.specs.Fronts.{AppendsFront}
 use Rattle.rating.specs.Texts.{rate_input_of}
 use Rattle.rating.specs.declared.fault.RateFault.{RateFault}
-use Rattle.rating.specs.declared.tally.Tally.{Tally}
+use Rattle.rating.specs.declared.score.Score.{Score}
 use Rattle.runs_core.specs.declared.run_fault.RunFault.TheVariants as run
 use Rattle.table_commands.specs.Faults.{line_of_fault, of_rate}
 use Rattle.table_commands.specs.Outputs.{IsSaidOfOutput}
@@ -21,10 +21,10 @@ IsOfFailure explaining old new = IsSaidOfOutput explaining old new ⊎ AppendsFr
 
 -- all rows were rated and printed: the status says whether all are right, and the summary went to the error writer where it was asked for, or a front of it
 pub record IsRatedInput (wish : RateWish) (text : List ℕ) (status : ℕ) (old new : Written) : Type 0 where
-  pub tally : Tally
-  pub printed : IsRatedWhole wish.differing (rate_input_of wish.names text) tally old.output new.output
-  pub status_is : status ≡ status_of_rating tally
-  pub line : AppendsFront old.faults new.faults (summary_of wish tally)
+  pub score : Score
+  pub printed : IsRatedWhole wish.differing (rate_input_of wish.names text) score old.output new.output
+  pub status_is : status ≡ status_of_rating score
+  pub line : AppendsFront old.faults new.faults (summary_of wish score)
 
 -- the tariff or the header has a fault, which is reported, and the output stays as it was
 pub record IsRatingRefused (wish : RateWish) (text : List ℕ) (status : ℕ) (old new : Written) : Type 0 where

@@ -1,7 +1,7 @@
 -- What `replay` makes of an ops table: the answers of a sequential account to its rows, in order.
 use Rattle.std.specs.Prelude.{ℕ, Option, Some, None, List, [], ◌∷◌, ◌++◌, Result, Ok}
 use Rattle.account_core.specs.Answers.{answer}
-use Rattle.account_core.specs.Events.{EntryData}
+use Rattle.account_core.specs.Entries.{EntryData}
 use Rattle.account_core.specs.Places.{refusal}
 use Rattle.account_core.specs.Wrong.{reply_or_fault}
 use Rattle.account_core.specs.declared.entry.Reply.{Reply}
@@ -17,8 +17,8 @@ line_by refused reply = response_line (reply_or_fault refused reply)
 
 -- the history after an operation, newest first: a refused one makes no entry
 abbrev pub history_by : Option AccountFault → EntryData → List EntryData → List EntryData
-history_by (Some why) event h = h
-history_by None event h = event ∷ h
+history_by (Some why) entry h = h
+history_by None entry h = entry ∷ h
 
 -- the line of an operation after a history
 abbrev pub line_of_ask : ℕ → Option ℕ → ℕ → List EntryData → SeatAsk → List ℕ

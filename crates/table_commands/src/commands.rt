@@ -11,7 +11,7 @@ ghost use Rattle.table_commands.specs.Printouts.{plain};
 ghost use Rattle.tariff_core.specs.RatesOf.{rates_of};
 
 use crate::ending::Ending;
-use crate::fault::{Fault, Part};
+use crate::fault::{Fault, TableName};
 use crate::input::read_input;
 use crate::price_lines::print_reports;
 use crate::quoting::print_quote;
@@ -123,7 +123,7 @@ fn price_reports<I: Read + Drop>(
         Ok(reports) => Ok(print_reports(alloc, plan, &reports)?),
         Err(fault) => {
             *kept = Some(bytes);
-            Err(Fault::in_part(Part::Reports, fault))
+            Err(Fault::in_table(TableName::Reports, fault))
         }
     }
 }
@@ -147,7 +147,7 @@ fn replay_operations<I: Read + Drop>(
         Ok(text) => Ok(text),
         Err(fault) => {
             *kept = Some(bytes);
-            Err(Fault::in_part(Part::Ops, fault))
+            Err(Fault::in_table(TableName::Ops, fault))
         }
     }
 }
@@ -185,7 +185,7 @@ fn audit_table<I: Read + Drop>(alloc: Global, ask: AuditAsk, table: I) -> Result
 {
     match audit_books(alloc, table, ask) {
         Ok(audit) => Ok(audit),
-        Err(fault) => Err(Fault::in_part(Part::Book, fault)),
+        Err(fault) => Err(Fault::in_table(TableName::Book, fault)),
     }
 }
 

@@ -4,7 +4,7 @@ ghost use Rattle.std.specs.Prelude.{◌≡◌, false, Err, None, IfErr, IfNone, 
 ghost use Rattle.table_commands.specs.Explanations.{IsOfWords, IsSaidOfFault, slip_of};
 ghost use Rattle.table_commands.specs.Faults.{of_words};
 
-use crate::fault::{Fault, Part};
+use crate::fault::{Fault, TableName};
 use crate::input::MAX_INPUT;
 use command_words::{WordsFault, explain_words};
 use explanations::{Slip, explain, explain_dividers};
@@ -34,7 +34,7 @@ impl<A: Drop> Ending<A> {
     pub fn over(
         alloc: Global,
         explains: bool,
-        in_parts: bool,
+        in_sections: bool,
         input: &Option<Vec<u8>>,
         answer: Result<A, Fault>,
     ) -> Ending<A>
@@ -42,12 +42,12 @@ impl<A: Drop> Ending<A> {
         ensures only { explains ≡ false → result.more ≡ None }
         ensures plain { IfOk answer (λ _. result.more ≡ None) }
         ensures none { IfNone input.now (IfErr answer (λ why. IfSome result.more
-            (λ _. slip_of in_parts why ≡ None))) }
+            (λ _. slip_of in_sections why ≡ None))) }
         ensures said { IfSome input.now (λ bytes. IfErr answer (λ why. IfSome result.more
-            (λ more. IsSaidOfFault in_parts bytes.items why (string_bytes more)))) }
+            (λ more. IsSaidOfFault in_sections bytes.items why (string_bytes more)))) }
     {
         let more = match (&answer, input) {
-            (Err(fault), Some(bytes)) if explains => said_of(alloc, in_parts, bytes, *fault),
+            (Err(fault), Some(bytes)) if explains => said_of(alloc, in_sections, bytes, *fault),
             (Err(Fault::TooLong), None) if explains => said_of_length(alloc).ok(),
             _ => None,
         };
@@ -116,11 +116,11 @@ fn said_of_length(alloc: Global) -> Result<String, AllocError> {
 }
 
 /// What is said of a fault over an input; nothing where memory runs out.
-fn said_of(alloc: Global, in_parts: bool, input: &Vec<u8>, fault: Fault) -> Option<String>
+fn said_of(alloc: Global, in_sections: bool, input: &Vec<u8>, fault: Fault) -> Option<String>
     ensures { IfSome result (λ more.
-        IsSaidOfFault in_parts input.now.items fault (string_bytes more)) }
+        IsSaidOfFault in_sections input.now.items fault (string_bytes more)) }
 {
-    match slip_of(in_parts, fault) {
+    match slip_of(in_sections, fault) {
         Some(slip) => explain(alloc, input.as_slice(), slip).ok(),
         None => dividers_of(alloc, input.as_slice(), fault),
     }
@@ -134,18 +134,18 @@ fn dividers_of(alloc: Global, input: &[u8], fault: Fault) -> Option<String> {
     }
 }
 
-/// The fault of a table in an input, which has three parts or is that table.
-fn slip_of(in_parts: bool, fault: Fault) -> Option<Slip>
-    ensures { result ≡ slip_of in_parts fault }
+/// The fault of a table in an input, which has three sections or is that table.
+fn slip_of(in_sections: bool, fault: Fault) -> Option<Slip>
+    ensures { result ≡ slip_of in_sections fault }
 {
     match fault {
-        Fault::Tariff(fault) if in_parts => Some(Slip::RunTariff(fault)),
+        Fault::Tariff(fault) if in_sections => Some(Slip::RunTariff(fault)),
         Fault::Tariff(fault) => Some(Slip::Tariff(fault)),
-        Fault::Table(Part::Reports, fault) => Some(Slip::Reports(fault)),
-        Fault::Table(Part::Ops, fault) => Some(Slip::Ops(fault)),
-        Fault::Table(Part::Book, fault) => Some(Slip::Book(fault)),
-        Fault::Table(Part::Setup, fault) => Some(Slip::Setup(fault)),
-        Fault::Table(Part::Script, fault) => Some(Slip::Script(fault)),
+        Fault::Table(TableName::Reports, fault) => Some(Slip::Reports(fault)),
+        Fault::Table(TableName::Ops, fault) => Some(Slip::Ops(fault)),
+        Fault::Table(TableName::Book, fault) => Some(Slip::Book(fault)),
+        Fault::Table(TableName::Setup, fault) => Some(Slip::Setup(fault)),
+        Fault::Table(TableName::Script, fault) => Some(Slip::Script(fault)),
         _ => None,
     }
 }

@@ -2,7 +2,7 @@
 
 ghost use Rattle.std.specs.Prelude.{◌≡◌, Some};
 ghost use Rattle.runs_core.specs.declared.run_fault.RunFault.TheVariants as run;
-ghost use Rattle.table_commands.specs.Faults.{line_of_fault, name_of_part, of_words};
+ghost use Rattle.table_commands.specs.Faults.{line_of_fault, text_of_table_name, of_words};
 ghost use Rattle.table_commands.specs.declared.fault.Fault.TheVariants as out;
 
 use command_words::WordsFault;
@@ -16,9 +16,9 @@ use std::{error, fmt};
 use table_core::{RowFault, RowKind, TableFault};
 use tariff_core::TariffFault;
 
-/// A part of the input that is a table.
+/// What a table of the input is called.
 #[derive(Clone, Copy, Debug)]
-pub enum Part {
+pub enum TableName {
     /// The reports of `price`.
     Reports,
     /// The operations of `replay`.
@@ -35,18 +35,18 @@ pub enum Part {
     Messages,
 }
 
-impl fmt::Display for Part {
-    ghost output = { λ part. Some (name_of_part part) };
+impl fmt::Display for TableName {
+    ghost output = { λ name. Some (text_of_table_name name) };
 
     fn fmt<W: fmt::Write>(&self, f: &mut fmt::Formatter<W>) -> fmt::Result {
         match self {
-            Part::Reports => f.write_str("reports"),
-            Part::Ops => f.write_str("ops"),
-            Part::Setup => f.write_str("setup"),
-            Part::Script => f.write_str("script"),
-            Part::Book => f.write_str("book"),
-            Part::Records => f.write_str("records"),
-            Part::Messages => f.write_str("messages"),
+            TableName::Reports => f.write_str("reports"),
+            TableName::Ops => f.write_str("ops"),
+            TableName::Setup => f.write_str("setup"),
+            TableName::Script => f.write_str("script"),
+            TableName::Book => f.write_str("book"),
+            TableName::Records => f.write_str("records"),
+            TableName::Messages => f.write_str("messages"),
         }
     }
 }
@@ -58,16 +58,16 @@ pub enum Fault {
     Arguments,
     /// A time that `run` or `serve` is asked for is out of its range.
     Config,
-    /// The input has more than `MAX_INPUT` bytes; of `rate` and `serve`, a part in front of a
-    /// divider has more than `MAX_PART`.
+    /// The input has more than `MAX_INPUT` bytes; of `rate` and `serve`, a section in front of a
+    /// divider has more than `MAX_SECTION`.
     TooLong,
-    /// The input of `run` doesn't have three parts, or that of `rate` or `serve` has too few
+    /// The input of `run` doesn't have three sections, or that of `rate` or `serve` has too few
     /// dividers.
     Parts,
     /// A row of the tariff has a fault.
     Tariff(TariffFault),
     /// A row of another table has a fault.
-    Table(Part, RowFault),
+    Table(TableName, RowFault),
     /// The log of `serve` can't be used.
     Log(LogFault),
     /// A line of the log of `serve` isn't accepted: its row, where the header in front of the lines
@@ -82,7 +82,7 @@ pub enum Fault {
 }
 
 impl Fault {
-    ghost use Rattle.table_commands.specs.Faults.{in_part, no_header, of_rate, of_run_input, status_of};
+    ghost use Rattle.table_commands.specs.Faults.{in_table, no_header, of_rate, of_run_input, status_of};
 
     /// The exit status: 1 for a fault of the words or the input, 2 where the run itself, its log or
     /// its files failed.
@@ -103,8 +103,8 @@ impl Fault {
             InputFault::Parts => Fault::Parts,
             InputFault::TooLong => Fault::TooLong,
             InputFault::Tariff(fault) => Fault::Tariff(fault),
-            InputFault::Setup(fault) => Fault::Table(Part::Setup, fault),
-            InputFault::Script(fault) => Fault::Table(Part::Script, fault),
+            InputFault::Setup(fault) => Fault::Table(TableName::Setup, fault),
+            InputFault::Script(fault) => Fault::Table(TableName::Script, fault),
             InputFault::Device => Fault::Device,
             InputFault::OutOfMemory => Fault::Run(RunFault::OutOfMemory),
         }
@@ -116,17 +116,17 @@ impl Fault {
     {
         match fault {
             RateFault::Input(fault) => Some(Fault::of_run_input(fault)),
-            RateFault::Header => Some(Fault::no_header(Part::Records)),
+            RateFault::Header => Some(Fault::no_header(TableName::Records)),
             RateFault::Output => None,
         }
     }
 
     /// The fault of a table whose header isn't the one that it must have.
-    pub fn no_header(part: Part) -> Fault
-        ensures { result ≡ no_header part }
+    pub fn no_header(name: TableName) -> Fault
+        ensures { result ≡ no_header name }
     {
         Fault::Table(
-            part,
+            name,
             RowFault {
                 row: 1,
                 kind: RowKind::Header,
@@ -134,12 +134,12 @@ impl Fault {
         )
     }
 
-    /// The fault of a table that is this part of the input.
-    pub fn in_part(part: Part, fault: TableFault) -> Fault
-        ensures { result ≡ in_part part fault }
+    /// The fault of the table that is called so.
+    pub fn in_table(name: TableName, fault: TableFault) -> Fault
+        ensures { result ≡ in_table name fault }
     {
         match fault {
-            TableFault::Row(fault) => Fault::Table(part, fault),
+            TableFault::Row(fault) => Fault::Table(name, fault),
             TableFault::Device => Fault::Device,
             TableFault::OutOfMemory => Fault::Run(RunFault::OutOfMemory),
         }
@@ -156,7 +156,7 @@ impl fmt::Display for Fault {
             Fault::TooLong => f.write_str("prepaid: input: TooLong"),
             Fault::Parts => f.write_str("prepaid: input: Parts"),
             Fault::Tariff(fault) => write!(f, "prepaid: tariff {fault}"),
-            Fault::Table(part, fault) => write!(f, "prepaid: {part} {fault}"),
+            Fault::Table(name, fault) => write!(f, "prepaid: {name} {fault}"),
             Fault::Log(fault) => write!(f, "prepaid: log: {fault}"),
             Fault::LogRow(row, kind) => write!(f, "prepaid: log row {row}: {kind}"),
             Fault::Into => f.write_str("prepaid: into: Device"),

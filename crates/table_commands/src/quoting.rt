@@ -7,7 +7,7 @@ ghost use Rattle.table_commands.specs.Quotes.{IsQuoteText, afford_line, band_lin
 
 use command_words::QuoteAsk;
 use moment_texts::{Clock, MomentField, TimeOfDay};
-use rating::{Charge, charge_call};
+use rating::{PricedTimes, charge_call};
 use std::alloc::{AllocError, Global};
 use table_core::write_digits;
 use tariff_core::{DAY, HORIZON, MAX_MOMENT, Plan, Quote, Route, Tariff, Times, afford};
@@ -43,7 +43,7 @@ fn write_quote(text: &mut String, ask: &QuoteAsk, quote: &Quote<'_>) -> Result<(
     write_band(text, quote.prefix, quote.start, plan)?;
     write_switch(text, ask.clock, &quote.route)?;
     if let Some(talk) = ask.talk {
-        let Charge { price, .. } = charge_call(&quote.route, ask.at, talk);
+        let PricedTimes { price, .. } = charge_call(&quote.route, ask.at, talk);
         writeln!(text, "price {price}")?;
     }
     if let Some(credit) = ask.credit {

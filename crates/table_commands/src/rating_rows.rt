@@ -4,7 +4,7 @@ ghost use Rattle.std.specs.Prelude.{◌≡◌, ◌++◌, ◌⊎◌, [], IfOk, If
 ghost use Rattle.std.specs.Io.KnownBytes.{Keeps};
 ghost use Rattle.rating.specs.Fronts.{AppendsFront};
 ghost use Rattle.rating.specs.SaidOf.{rate_wish_of};
-ghost use Rattle.rating.specs.Tallies.{IsBoundedTally};
+ghost use Rattle.rating.specs.Scores.{IsBoundedScore};
 ghost use Rattle.table_commands.specs.Ratings.{IsRatedByWish};
 ghost use Rattle.table_commands.specs.Summaries.{counts_text, status_of_rating, sums_text, summary_line};
 
@@ -12,7 +12,7 @@ use crate::error_lines::report_end;
 use crate::fault::Fault;
 use crate::noting::Noting;
 use arrayvec::ArrayString;
-use rating::{RateAsk, Tally, rate, write_text};
+use rating::{RateAsk, Score, rate, write_text};
 use std::alloc::Global;
 use std::fmt::{self, Write as WriteText};
 use std::io::{Read, Write};
@@ -39,49 +39,49 @@ pub fn rate_input<I: Read + Drop, O: Write, E: Write>(
         → Keeps (O.contents output.old.inner) (O.contents output.new.inner) }
 {
     match rate(alloc, ask, input, output) {
-        Ok(tally) => report_rated(faults, ask.summary, &tally),
+        Ok(score) => report_rated(faults, ask.summary, &score),
         Err(why) => report_end(faults, explains, Fault::of_rate(why), output.failed),
     }
 }
 
 /// Writes the summary, where it is wanted, and gives the status of rows that were all printed.
-fn report_rated<E: Write>(faults: &mut E, summary: bool, tally: &Tally) -> u8
-    requires { IsBoundedTally tally.now }
-    ensures status { result ≡ status_of_rating tally.now }
+fn report_rated<E: Write>(faults: &mut E, summary: bool, score: &Score) -> u8
+    requires { IsBoundedScore score.now }
+    ensures status { result ≡ status_of_rating score.now }
     ensures line { AppendsFront (E.contents faults.old) (E.contents faults.new)
-        (if summary then summary_line tally.now else []) }
+        (if summary then summary_line score.now else []) }
 {
     if summary {
-        write_summary(faults, tally);
+        write_summary(faults, score);
     }
-    if tally.passes() { 0 } else { 3 }
+    if score.passes() { 0 } else { 3 }
 }
 
 /// Writes the summary.
-fn write_summary<E: Write>(faults: &mut E, tally: &Tally)
+fn write_summary<E: Write>(faults: &mut E, score: &Score)
     ensures { AppendsFront (E.contents faults.old) (E.contents faults.new)
-        (summary_line tally.now) }
+        (summary_line score.now) }
 {
-    if let Ok(line) = summary_line(tally) {
+    if let Ok(line) = summary_line(score) {
         write_text(faults, line.as_str().as_bytes());
     }
 }
 
 /// The line of the summary. It takes no memory.
-fn summary_line(tally: &Tally) -> Result<ArrayString<MOST_BYTES>, fmt::Error>
-    ensures { IfOk result (λ line. line.bytes ≡ summary_line tally.now) }
+fn summary_line(score: &Score) -> Result<ArrayString<MOST_BYTES>, fmt::Error>
+    ensures { IfOk result (λ line. line.bytes ≡ summary_line score.now) }
 {
     let mut line = ArrayString::new();
-    add_counts(&mut line, tally)?;
-    add_sums(&mut line, tally)?;
+    add_counts(&mut line, score)?;
+    add_sums(&mut line, score)?;
     Ok(line)
 }
 
 /// Adds how many rows there were.
-fn add_counts(line: &mut ArrayString<MOST_BYTES>, tally: &Tally) -> fmt::Result
-    ensures { OnOk result (line.new.bytes ≡ line.old.bytes ++ counts_text tally.now) }
+fn add_counts(line: &mut ArrayString<MOST_BYTES>, score: &Score) -> fmt::Result
+    ensures { OnOk result (line.new.bytes ≡ line.old.bytes ++ counts_text score.now) }
 {
-    let (rows, differing, faults) = (tally.rows, tally.differing, tally.faults);
+    let (rows, differing, faults) = (score.rows, score.differing, score.faults);
     write!(
         line,
         "prepaid: rated: {rows} rows, {differing} differ, {faults} faults, "
@@ -89,11 +89,11 @@ fn add_counts(line: &mut ArrayString<MOST_BYTES>, tally: &Tally) -> fmt::Result
 }
 
 /// Adds what they come to, and the end of the line.
-fn add_sums(line: &mut ArrayString<MOST_BYTES>, tally: &Tally) -> fmt::Result
-    ensures { OnOk result (line.new.bytes ≡ line.old.bytes ++ sums_text tally.now) }
+fn add_sums(line: &mut ArrayString<MOST_BYTES>, score: &Score) -> fmt::Result
+    ensures { OnOk result (line.new.bytes ≡ line.old.bytes ++ sums_text score.now) }
 {
-    let (paid, price) = (tally.paid, tally.price);
-    let (over, under) = (tally.over, tally.under);
+    let (paid, price) = (score.paid, score.price);
+    let (over, under) = (score.over, score.under);
     writeln!(
         line,
         "charged {paid}, by the tariff {price}, over {over}, under {under}"

@@ -53,7 +53,7 @@ pub fn replay<I: Read + Drop>(
     let mut teller = Teller::new(alloc, opening, None, limit);
     let mut text = String::new(alloc);
     while table.next_row()? {
-        let ask = match read_ask(table.row(), Version::at(table.header())) {
+        let ask = match read_ask(table.row(), Version::of_header(table.header())) {
             Ok(ask) => ask,
             Err(kind) => return Err(table.fault(kind)),
         };

@@ -18,14 +18,14 @@ use Rattle.table_core.specs.declared.table.Table.{Table}
 
 -- ---- the fault that a row has in any table
 
-pub wrong_width : (limit width number : ℕ) (fields : Fields) → (length fields ≡ width → ⊥) → own_fault limit width number fields ≡ Some kind.Csv
-wrong_width limit width number fields other = grind (arith, nat_tests)
+pub wrong_width : (most_rows width number : ℕ) (fields : Fields) → (length fields ≡ width → ⊥) → own_fault most_rows width number fields ≡ Some kind.Csv
+wrong_width most_rows width number fields other = grind (arith, nat_tests)
 
-pub too_many : (limit width number : ℕ) (fields : Fields) → length fields ≡ width → limit + 1 < number → own_fault limit width number fields ≡ Some kind.TooManyRows
-too_many limit width number fields same late = grind (arith, nat_tests)
+pub too_many : (most_rows width number : ℕ) (fields : Fields) → length fields ≡ width → most_rows + 1 < number → own_fault most_rows width number fields ≡ Some kind.TooManyRows
+too_many most_rows width number fields same late = grind (arith, nat_tests)
 
-pub no_fault : (limit width number : ℕ) (fields : Fields) → length fields ≡ width → number ≤ limit + 1 → own_fault limit width number fields ≡ None
-no_fault limit width number fields same early = grind (arith, nat_tests)
+pub no_fault : (most_rows width number : ℕ) (fields : Fields) → length fields ≡ width → number ≤ most_rows + 1 → own_fault most_rows width number fields ≡ None
+no_fault most_rows width number fields same early = grind (arith, nat_tests)
 
 -- ---- a step, and the header
 
@@ -48,10 +48,10 @@ module _ {R : Type 0} (remaining : R → Option (List ℕ)) where
   pub opens_none : (headers : List Fields) (answer : Result (Table R) TableFault) (why : TableFault) (rows left : List Fields) (first : Fields) (which : Option ℕ)
       → IsErrAnd answer (λ met. met ≡ why) → rows ≡ first ∷ left → which_header headers first ≡ which → ok_or which (fault.Row (record { row = 1; kind = kind.Header })) ≡ Err why
       → Opens remaining headers answer rows
-  opens_none headers (Ok table) why rows left first which met rows_are is said_so = absurd met
-  opens_none headers (Err other) why rows left first None met rows_are is said_so =
+  opens_none headers (Ok table) why rows left first which met rows_are is opens = absurd met
+  opens_none headers (Err other) why rows left first None met rows_are is opens =
       let same : fault.Row (record { row = 1; kind = kind.Header }) ≡ why = cc in rw (met, ← same, rows_are) (refl, is)
-  opens_none headers (Err other) why rows left first (Some header) met rows_are is said_so = cc
+  opens_none headers (Err other) why rows left first (Some header) met rows_are is opens = cc
 
 -- ---- what a loop over a table has read
 
@@ -70,10 +70,10 @@ refuses form plain next passes fault.Device meaning is = tt
 refuses form plain next passes fault.OutOfMemory meaning is = tt
 
 -- a fault that a table's reader passes on is that of the meaning
-pub said_so : {X Y : Type 0} (known : Option (List ℕ)) (view : X → Y) (answer : Result X TableFault) (why : TableFault) (P : List ℕ → Type 0) (meaning : List ℕ → Result Y RowFault)
+pub fault_says : {X Y : Type 0} (known : Option (List ℕ)) (view : X → Y) (answer : Result X TableFault) (why : TableFault) (P : List ℕ → Type 0) (meaning : List ℕ → Result Y RowFault)
     → IsErrAnd answer (λ met. met ≡ why) → IfSome known P → ((text : List ℕ) → P text → RefusesTable why (meaning text)) → IfSome known (λ text. GivesTable view answer (meaning text))
-said_so known view (Ok x) why P meaning met holds so = absurd met
-said_so known view (Err other) why P meaning met holds so = map_known known P _ holds (λ text at. rw met (so text at))
+fault_says known view (Ok x) why P meaning met holds so = absurd met
+fault_says known view (Err other) why P meaning met holds so = map_known known P _ holds (λ text at. rw met (so text at))
 
 module _ {R S K F : Type 0} (form : TableForm S K F) (remaining : R → Option (List ℕ)) where
   -- what was read so far and what is read from the rows that are left are what is read from the table
@@ -83,17 +83,17 @@ module _ {R S K F : Type 0} (form : TableForm S K F) (remaining : R → Option (
     pub is : table_of form (rows_of text) ≡ rows_from form table.header table.width (table.number + 1) read left
 
   pub record IsRead (known : Option (List ℕ)) (table : Table R) (read : S) : Type 0 where
-    pub limit : table.limit ≡ form.limit
+    pub most_rows : table.most_rows ≡ form.most_rows
     pub header : table.header < length form.headers
     pub width : table.width ≡ width_at form.headers table.header
     pub so_far : IfSome known (IsSoFar table read)
 
   module _ (known : Option (List ℕ)) where
-    pub opened : (table : Table R) → IsAtFirst form.headers form.limit table → IfSome known (λ text. Opens remaining form.headers (Ok table) (rows_of text))
+    pub opened : (table : Table R) → IsAtFirst form.headers form.most_rows table → IfSome known (λ text. Opens remaining form.headers (Ok table) (rows_of text))
         → IsRead known table form.start
     unfolding table_of
     opened table first opens = record {
-      limit = first.limit;
+      most_rows = first.most_rows;
       header = first.header;
       width = first.width;
       so_far = map_known known _ _ opens (λ text (header, left, rows_are, which, width, has). record {
@@ -148,12 +148,12 @@ module _ {R S K F : Type 0} (form : TableForm S K F) (remaining : R → Option (
             next.same.header,
             next.same.width,
             is,
-            no_fault form.limit before.width (before.number + 1) fields (rw (row, next.width) next.same.width) (omega (arith, next.within, next.number, next.same.limit, was.limit)),
+            no_fault form.most_rows before.width (before.number + 1) fields (rw (row, next.width) next.same.width) (omega (arith, next.within, next.number, next.same.most_rows, was.most_rows)),
           ) refl
 
       pub taken : (now : S) → IsNextRow before after → StepsRow remaining before after (Ok true) → form.judge before.header read (fields_of after.rows.row) ≡ Ok now → IsRead known after now
       taken now next steps is = record {
-        limit = next.same.limit ∙ was.limit;
+        most_rows = next.same.most_rows ∙ was.most_rows;
         header = rw next.same.header was.header;
         width = rw (next.same.width, next.same.header) was.width;
         so_far = map_known known _ _ was.so_far (λ text so_far.
@@ -171,10 +171,10 @@ module _ {R S K F : Type 0} (form : TableForm S K F) (remaining : R → Option (
       unfolding rows_from
       ended steps = map_known known _ _ was.so_far (λ text so_far. so_far.is ∙ by_rows (steps so_far.left so_far.has))
 
-      own : (why : RowKind) (fields : Fields) (rest : List Fields) → own_fault before.limit before.width (before.number + 1) fields ≡ Some why
+      own : (why : RowKind) (fields : Fields) (rest : List Fields) → own_fault before.most_rows before.width (before.number + 1) fields ≡ Some why
           → rows_from form before.header before.width (before.number + 1) read (fields ∷ rest) ≡ Err (form.fault_at (before.number + 1) (form.kind_of why))
       unfolding rows_from
-      own why fields rest has = rw (rw was.limit at has) refl
+      own why fields rest has = rw (rw was.most_rows at has) refl
 
       stopped_by : (why : TableFault) (text : List ℕ) (so_far : IsSoFar before read text) → StepsBy remaining before after so_far.left (Err why) → Stops form why (table_of form (rows_of text))
       stopped_by (fault.Row refused) text so_far is = so_far.is ∙ by_rows is.left_are ∙ rw is.row_is (own refused.kind is.fields is.rest is.has)
@@ -198,7 +198,7 @@ module _ {S K F : Type 0} (form : TableForm S K F) (P : S → Type 0)
   unfolding rows_from
   rows_keep header width number read all [] holds is = let same : read ≡ all = cc in rw (← same) holds
   rows_keep header width number read all (fields ∷ rows) holds is =
-      rows_keep_by number (own_fault form.limit width number fields) header read all fields (form.judge header read fields) (λ next. rows_from form header width (number + 1) next rows) refl holds
+      rows_keep_by number (own_fault form.most_rows width number fields) header read all fields (form.judge header read fields) (λ next. rows_from form header width (number + 1) next rows) refl holds
       (λ next held. rows_keep header width (number + 1) next all rows held) is
 
   below_keep : (first : Fields) (rows : List Fields) (all : S) (which : Option ℕ) → P form.start → below form first rows which ≡ Ok all → P all

@@ -33,8 +33,8 @@ abbrev pub header_of : {R : Type 0} → Table R → ℕ
 header_of table = table.header
 
 -- the number of the last row that there may be
-abbrev pub limit_of : {R : Type 0} → Table R → ℕ
-limit_of table = table.limit
+abbrev pub most_rows_of : {R : Type 0} → Table R → ℕ
+most_rows_of table = table.most_rows
 
 -- the fault that reading has met
 abbrev pub stopped_by : {R : Type 0} → Table R → Option TableFault
@@ -42,7 +42,7 @@ stopped_by table = table.fault
 
 -- how many rows more a table may have
 abbrev pub room_of : {R : Type 0} → Table R → ℕ
-room_of table = table.limit + 1 - table.number
+room_of table = table.most_rows + 1 - table.number
 
 -- the rows that are left to a table, where the bytes below are known
 abbrev pub HasRows : {R : Type 0} → (R → Option (List ℕ)) → Table R → List Fields → Type 0
@@ -50,7 +50,7 @@ HasRows remaining table left = (table.fault ≡ None) × HasRowsLeft remaining t
 
 -- a table is below the header that it has
 pub record IsAtFirst {R : Type 0} (headers : List Fields) (most : ℕ) (table : Table R) : Type 0 where
-  pub limit : table.limit ≡ most
+  pub most_rows : table.most_rows ≡ most
   pub number : table.number ≡ 1
   pub header : table.header < length headers
   pub width : table.width ≡ width_at headers table.header
@@ -75,7 +75,7 @@ pub record IsRefusedRow {R : Type 0} (table : Table R) (left : List Fields) (row
   pub rest : List Fields
   pub left_are : left ≡ fields ∷ rest
   pub row_is : row ≡ table.number + 1
-  pub has : own_fault table.limit table.width (table.number + 1) fields ≡ Some why
+  pub has : own_fault table.most_rows table.width (table.number + 1) fields ≡ Some why
 
 -- a row was found: it was the first of those left. None was found: none was left. It was refused: the first of those left has the fault
 abbrev pub StepsBy : {R : Type 0} → (R → Option (List ℕ)) → Table R → Table R → List Fields → Result Bool TableFault → Type 0
@@ -89,17 +89,17 @@ StepsBy remaining before after left (Err fault.OutOfMemory) = ⊤
 abbrev pub StepsRow : {R : Type 0} → (R → Option (List ℕ)) → Table R → Table R → Result Bool TableFault → Type 0
 StepsRow remaining before after found = (left : List Fields) → HasRows remaining before left → StepsBy remaining before after left found
 
--- a table has the same header and the same limit
+-- a table has the same header and as many rows at most
 pub record IsSameTable {R : Type 0} (before after : Table R) : Type 0 where
   pub header : after.header ≡ before.header
   pub width : after.width ≡ before.width
-  pub limit : after.limit ≡ before.limit
+  pub most_rows : after.most_rows ≡ before.most_rows
 
 -- the next row is one that the table may have
 pub record IsNextRow {R : Type 0} (before after : Table R) : Type 0 where
   pub same : IsSameTable before after
   pub number : after.number ≡ before.number + 1
-  pub within : after.number ≤ after.limit + 1
+  pub within : after.number ≤ after.most_rows + 1
   pub width : length (fields_of after.rows.row) ≡ after.width
 
 -- where no row was taken, the number stays

@@ -36,7 +36,7 @@ width_at headers header = length (slice_index_or headers header [])
 -- a table: its headers, how many rows it may have besides, and what a row makes of what was read before it
 pub record TableForm (S K F : Type 0) : Type 0 where
   pub headers : List Fields
-  pub limit : ℕ
+  pub most_rows : ℕ
   -- before the first row
   pub start : S
   -- a row, by the header that the table has, from 0
@@ -47,9 +47,9 @@ pub record TableForm (S K F : Type 0) : Type 0 where
 
 -- a table whose rows have the faults of `RowKind`
 abbrev pub table_form : {S : Type 0} → List Fields → ℕ → S → (ℕ → S → Fields → Result S RowKind) → TableForm S RowKind RowFault
-table_form headers limit start judge = record {
+table_form headers most_rows start judge = record {
   headers = headers;
-  limit = limit;
+  most_rows = most_rows;
   start = start;
   judge = judge;
   kind_of = λ kind. kind;
@@ -58,8 +58,8 @@ table_form headers limit start judge = record {
 
 -- the fault that a row has in any table: another number of fields than the header has, or too many rows besides the header, which is row 1
 abbrev pub own_fault : ℕ → ℕ → ℕ → Fields → Option RowKind
-own_fault limit width number fields =
-    if not (length fields == width) then Some kind.Csv else if nat_lt (limit + 1) number then Some kind.TooManyRows else None
+own_fault most_rows width number fields =
+    if not (length fields == width) then Some kind.Csv else if nat_lt (most_rows + 1) number then Some kind.TooManyRows else None
 
 -- what a row comes to, where it has no such fault
 abbrev pub unless_own : {S K F : Type 0} → TableForm S K F → Option RowKind → Result S K → Result S K
@@ -75,7 +75,7 @@ then_rows form number (Err why) next = Err (form.fault_at number why)
 unfoldable pub rows_from : {S K F : Type 0} → TableForm S K F → ℕ → ℕ → ℕ → S → List Fields → Result S F
 rows_from form header width number read [] = Ok read
 rows_from form header width number read (fields ∷ rows) =
-    then_rows form number (unless_own form (own_fault form.limit width number fields) (form.judge header read fields)) (λ next. rows_from form header width (number + 1) next rows)
+    then_rows form number (unless_own form (own_fault form.most_rows width number fields) (form.judge header read fields)) (λ next. rows_from form header width (number + 1) next rows)
 
 -- the rows below the first one, where it is a header
 abbrev pub below : {S K F : Type 0} → TableForm S K F → Fields → List Fields → Option ℕ → Result S F

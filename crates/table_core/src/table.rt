@@ -21,11 +21,11 @@ pub struct Table<R> {
     rows: Rows<R>,
     header: usize,
     width: usize,
-    limit: u32,
+    most_rows: u32,
     number: u32,
     fault: Option<TableFault>,
-    ghost within: { number ≤ limit + 1 },
-    ghost counted: { limit ≤ 4294967293 },
+    ghost within: { number ≤ most_rows + 1 },
+    ghost counted: { most_rows ≤ 4294967293 },
 }
 
 // Written out, since a derived one is proved field by field again wherever a table is let go.
@@ -35,7 +35,7 @@ impl<R: Drop> Drop for Table<R> {
             rows: _rows,
             header: _header,
             width: _width,
-            limit: _limit,
+            most_rows: _limit,
             number: _number,
             fault: _fault,
         } = self;
@@ -46,17 +46,17 @@ impl<R: Read + Drop> Table<R> {
     ghost use Rattle.table_core.specs.Reading.{IsAtFirst, MovesRow, Opens, StepsRow, header_of, row_number_of, row_of_table, stopped_by};
 
     /// The table of `reader`, whose first row is one of these headers, and which has at most
-    /// `limit` rows besides it. `Header` is the fault of row 1.
+    /// `most_rows` rows besides it. `Header` is the fault of row 1.
     pub fn open(
         alloc: Global,
         reader: R,
         headers: &[&[&str]],
-        limit: u32,
+        most_rows: u32,
     ) -> Result<Table<R>, TableFault>
-        requires { limit ≤ 4294967293 }
+        requires { most_rows ≤ 4294967293 }
         ensures opens { IfSome (R.remaining reader)
             (λ text. Opens R.remaining (headers_of headers.now) result (rows_of text)) }
-        ensures first { IfOk result (IsAtFirst (headers_of headers.now) limit) }
+        ensures first { IfOk result (IsAtFirst (headers_of headers.now) most_rows) }
     {
         let no_header = TableFault::Row(RowFault {
             row: 1,
@@ -71,7 +71,7 @@ impl<R: Read + Drop> Table<R> {
             width: rows.row().len(),
             rows,
             header,
-            limit,
+            most_rows,
             number: 1,
             fault: None,
         })
@@ -112,7 +112,7 @@ impl<R: Read + Drop> Table<R> {
                 kind: RowKind::Csv,
             }));
         }
-        if self.number > self.limit {
+        if self.number > self.most_rows {
             return Err(TableFault::Row(RowFault {
                 row,
                 kind: RowKind::TooManyRows,

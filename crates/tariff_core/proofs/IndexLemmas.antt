@@ -15,14 +15,14 @@ use Rattle.std.proofs.lemmas.Map.Lookups.{exact_bytes, exact_unsigned}
 use Rattle.std.proofs.lemmas.Map.Text.{is_eq-slice_cmp}
 use Rattle.tariff_core.specs.Bands.{Band, band_at, counts_on, has_band, is_at}
 use Rattle.tariff_core.specs.Digits.{text_of_digits}
-use Rattle.tariff_core.specs.Places.{by_place}
+use Rattle.tariff_core.specs.BandKeys.{by_band_key}
 use Rattle.tariff_core.specs.Tariff.{Finds, Indexes, KeepsRow, band_of, key_of}
 use Rattle.tariff_core.specs.TariffTable.{repeats}
-use Rattle.tariff_core.specs.declared.place.Place.{Place}
+use Rattle.tariff_core.specs.declared.band_key.BandKey.{BandKey}
 use Rattle.tariff_core.specs.declared.row.Row.{Row}
 use Rattle.tariff_core.proofs.WeekdayLemmas.{no_weekday}
 
--- ---- the order of places
+-- ---- the order of keys
 
 is_eq-nat_cmp : (s t : ℕ) → is_eq (nat_cmp s t) ≡ (s == t)
 is_eq-nat_cmp s t = grind (arith, nat_tests)
@@ -32,9 +32,9 @@ is_eq-then Less p = refl
 is_eq-then Equal p = refl
 is_eq-then Greater p = refl
 
--- two places are the same where their digits, their days and their starts are
-pub same_place : (k q : Place) → is_eq (by_place k q) ≡ (bytes_eq (text_of_digits k.prefix) (text_of_digits q.prefix) && ((k.day == q.day) && (k.start == q.start)))
-same_place k q =
+-- two keys are the same where their digits, their days and their starts are
+pub same_band_key : (k q : BandKey) → is_eq (by_band_key k q) ≡ (bytes_eq (text_of_digits k.prefix) (text_of_digits q.prefix) && ((k.day == q.day) && (k.start == q.start)))
+same_band_key k q =
     is_eq-then (slice_cmp nat_cmp (text_of_digits k.prefix) (text_of_digits q.prefix)) (ordering_then (nat_cmp k.day q.day) (nat_cmp k.start q.start))
     ∙ rw (is_eq-slice_cmp (text_of_digits k.prefix) (text_of_digits q.prefix), is_eq-then (nat_cmp k.day q.day) (nat_cmp k.start q.start), is_eq-nat_cmp k.day q.day, is_eq-nat_cmp k.start q.start) refl
 
@@ -48,26 +48,26 @@ equal_is Less is = cc
 equal_is Equal is = refl
 equal_is Greater is = cc
 
-pub same_digits : (k q : Place) → is_eq (by_place k q) ≡ true → (text_of_digits k.prefix ≡ text_of_digits q.prefix) × (k.day ≡ q.day) × (k.start ≡ q.start)
+pub same_digits : (k q : BandKey) → is_eq (by_band_key k q) ≡ true → (text_of_digits k.prefix ≡ text_of_digits q.prefix) × (k.day ≡ q.day) × (k.start ≡ q.start)
 same_digits k q is =
     let one = both_equal (slice_cmp nat_cmp (text_of_digits k.prefix) (text_of_digits q.prefix)) (ordering_then (nat_cmp k.day q.day) (nat_cmp k.start q.start)) is in
     let two = both_equal (nat_cmp k.day q.day) (nat_cmp k.start q.start) one.1 in
     (exact_bytes _ _ one.0, exact_unsigned _ _ two.0, exact_unsigned _ _ (equal_is _ two.1))
 
--- ---- the day of a place
+-- ---- the day of a key
 
--- the day of the places of a weekday
+-- the day of the keys of a weekday
 pub record IsKey (by_days : Bool) (weekday day : ℕ) : Type 0 where
   pub low : 1 ≤ weekday
   pub high : weekday ≤ 7
   pub key : day ≡ key_of by_days weekday
 
--- each day of a place is that of a weekday
+-- each day of a key is that of a weekday
 pub key_day : (by_days : Bool) (first end day : ℕ) → first ≡ key_of by_days 1 → end ≡ key_of by_days 7 + 1 → first ≤ day → day < end → (weekday : ℕ) × IsKey by_days weekday day
 key_day true first end day first_is end_is low high = (day, record { low = omega (arith, first_is); high = omega (arith, end_is); key = refl })
 key_day false first end day first_is end_is low high = (1, record { low = omega arith; high = omega arith; key = omega (arith, end_is, high) })
 
--- what holds of the weekdays before a day of places, and of those of that day, holds of those before the next
+-- what holds of the weekdays before a day of keys, and of those of that day, holds of those before the next
 pub one_more : (by_days : Bool) (P : ℕ → Type 0) (day : ℕ) → ((weekday : ℕ) → 1 ≤ weekday → weekday ≤ 7 → key_of by_days weekday < day → P weekday)
     → ((weekday : ℕ) → IsKey by_days weekday day → P weekday) → (weekday : ℕ) → 1 ≤ weekday → weekday ≤ 7 → key_of by_days weekday < day + 1 → P weekday
 one_more by_days P day below at weekday low high less = elim (cases_lt (key_of by_days weekday) day) [
@@ -75,7 +75,7 @@ one_more by_days P day below at weekday low high less = elim (cases_lt (key_of b
   | inr behind ↦ at weekday (record { low = low; high = high; key = omega (arith, less, behind) })
 ]
 
--- the days of places end behind that of each weekday
+-- the days of keys end behind that of each weekday
 pub key_below : (by_days : Bool) (end weekday : ℕ) → end ≡ key_of by_days 7 + 1 → weekday ≤ 7 → key_of by_days weekday < end
 key_below true end weekday is high = omega (arith, is)
 key_below false end weekday is high = omega (arith, is)
@@ -88,7 +88,7 @@ key_above false first weekday is low = omega (arith, is)
 all_count : (days : List ℕ) (one other : ℕ) → days ≡ [] → ((length days == 0) || list_any (λ digit. digit == 48 + one) days) ≡ ((length days == 0) || list_any (λ digit. digit == 48 + other) days)
 all_count days one other none = rw none refl
 
--- a row counts on the day of its place where it counts on the weekday
+-- a row counts on the day of its key where it counts on the weekday
 pub counts_key : (by_days : Bool) (band : Band) (weekday day : ℕ) → (by_days ≡ false → band.days ≡ []) → day ≡ key_of by_days weekday → counts_on day band ≡ counts_on weekday band
 counts_key true band weekday day none is = ap (λ d. counts_on d band) is
 counts_key false band weekday day none is = all_count band.days day weekday (none refl)
@@ -97,15 +97,15 @@ some_map : {X Y : Type 0} (view : X → Y) (found : Option X) → is_some (optio
 some_map view None = refl
 some_map view (Some x) = refl
 
--- the index has an entry at a place for a weekday where there is a row
-pub finds_at : (by_days : Bool) (index : BTreeMap Place Row) (bands : List Band) (place : Place) (weekday : ℕ) → Indexes by_days index bands → IsKey by_days weekday place.day
-    → is_some (get by_place index place) ≡ has_band (text_of_digits place.prefix) weekday place.start bands
-finds_at by_days index bands place weekday indexed is =
-    sym (some_map band_of (get by_place index place)) ∙ ap is_some (indexed place weekday (record { from_monday = is.low; to_sunday = is.high; key = is.key }))
+-- the index has an entry at a key for a weekday where there is a row
+pub finds_at : (by_days : Bool) (index : BTreeMap BandKey Row) (bands : List Band) (band_key : BandKey) (weekday : ℕ) → Indexes by_days index bands → IsKey by_days weekday band_key.day
+    → is_some (get by_band_key index band_key) ≡ has_band (text_of_digits band_key.prefix) weekday band_key.start bands
+finds_at by_days index bands band_key weekday indexed is =
+    sym (some_map band_of (get by_band_key index band_key)) ∙ ap is_some (indexed band_key weekday (record { from_monday = is.low; to_sunday = is.high; key = is.key }))
 
 -- ---- no row
 
-pub indexes_none : (by_days : Bool) (index : BTreeMap Place Row) (rows : List Row) → index.entries ≡ [] → rows ≡ [] → Indexes by_days index (map band_of rows)
+pub indexes_none : (by_days : Bool) (index : BTreeMap BandKey Row) (rows : List Row) → index.entries ≡ [] → rows ≡ [] → Indexes by_days index (map band_of rows)
 unfolding band_at
 indexes_none by_days index rows empty none q day on = rw (empty, none) refl
 
@@ -160,7 +160,7 @@ not_there bands band day low high new counts =
     (no_weekday (λ d. counts_on d band && has_band band.prefix d band.start bands) day low high new) counts
 
 -- the index of the rows and one more, which is new
-pub indexes_more : (by_days : Bool) (before after : BTreeMap Place Row) (bands : List Band) (row : Row)
+pub indexes_more : (by_days : Bool) (before after : BTreeMap BandKey Row) (bands : List Band) (row : Row)
     → Indexes by_days before bands → Finds by_days before row after → repeats bands (band_of row) ≡ false
     → Indexes by_days after (bands ++ band_of row ∷ [])
 indexes_more by_days before after bands row indexed finds new q day on =
@@ -168,15 +168,15 @@ indexes_more by_days before after bands row indexed finds new q day on =
     (by_same (is_at (text_of_digits q.prefix) day q.start (band_of row)) refl)
   where
     by_same : (b : Bool) → is_at (text_of_digits q.prefix) day q.start (band_of row) ≡ b
-        → option_map band_of (if b then Some row else get by_place before q)
-        ≡ (if is_some (option_map band_of (get by_place before q)) then option_map band_of (get by_place before q) else if b then Some (band_of row) else None)
+        → option_map band_of (if b then Some row else get by_band_key before q)
+        ≡ (if is_some (option_map band_of (get by_band_key before q)) then option_map band_of (get by_band_key before q) else if b then Some (band_of row) else None)
     by_same true is =
         let parts = at_parts (text_of_digits q.prefix) day q.start (band_of row) is in
         let new_there : has_band (text_of_digits q.prefix) day q.start bands ≡ false =
         rw (← parts.0, ← parts.1) (not_there bands (band_of row) day on.from_monday on.to_sunday new parts.2) in
-        let none : is_some (option_map band_of (get by_place before q)) ≡ false = rw (indexed q day on) new_there in
-        taken (option_map band_of (get by_place before q)) (band_of row) none
-    by_same false is = passed (option_map band_of (get by_place before q))
+        let none : is_some (option_map band_of (get by_band_key before q)) ≡ false = rw (indexed q day on) new_there in
+        taken (option_map band_of (get by_band_key before q)) (band_of row) none
+    by_same false is = passed (option_map band_of (get by_band_key before q))
 
 pub rows_more : (old new : List Row) (row : Row) → new ≡ old ++ row ∷ [] → map band_of new ≡ map band_of old ++ band_of row ∷ []
 rows_more old new row grown = rw (grown, map-append band_of old (row ∷ [])) refl
@@ -184,7 +184,7 @@ rows_more old new row grown = rw (grown, map-append band_of old (row ∷ [])) re
 pub count_more : (old new : List Row) (row : Row) → new ≡ old ++ row ∷ [] → length new ≡ length old + 1
 count_more old new row grown = rw (grown, length-append old (row ∷ [])) refl
 
-pub keeps_indexed : (by_days : Bool) (old new : List Row) (before after : BTreeMap Place Row) (row : Row) → Indexes by_days before (map band_of old)
+pub keeps_indexed : (by_days : Bool) (old new : List Row) (before after : BTreeMap BandKey Row) (row : Row) → Indexes by_days before (map band_of old)
     → KeepsRow by_days old before row new after → repeats (map band_of old) (band_of row) ≡ false → Indexes by_days after (map band_of new)
 keeps_indexed by_days old new before after row indexed kept is_new =
     rw (rows_more old new row kept.rows) (indexes_more by_days before after (map band_of old) row indexed kept.index is_new)

@@ -25,7 +25,7 @@ weekday_within moment = within (moment / DAY)
     within : (days : ℕ) → (1 ≤ (days + 3) % 7 + 1) × ((days + 3) % 7 + 1 ≤ 7)
     within days = (omega arith, omega arith)
 
--- the day of the places of a moment
+-- the day of the keys of a moment
 pub keyed_at : (by_days : Bool) (now on day : ℕ) → on ≡ weekday now → day ≡ key_of by_days on → IsKey by_days (weekday now) day
 keyed_at by_days now on day on_is day_is =
     let (low, high) = weekday_within now in record { low = low; high = high; key = day_is ∙ ap (key_of by_days) on_is }

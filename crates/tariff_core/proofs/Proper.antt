@@ -91,8 +91,8 @@ more_proper bands band proper new day = record {
 adds_proper : (which : ℕ) (earlier : List Band) (fields : Fields) (read : List Band) → IsProper earlier → tariff_form.judge which earlier fields ≡ Ok read → IsProper read
 adds_proper which earlier fields read proper is =
     let (band, new, added) = after_is (new_band_in which earlier fields) _ read is in
-    let (said_so, apart) = taken_band which earlier fields band new in
-    let day = some_start _ band.start (starts_within _) (read_parts which fields band said_so).0 in
+    let (is_read, apart) = taken_band which earlier fields band new in
+    let day = some_start _ band.start (starts_within _) (read_parts which fields band is_read).0 in
     let all : earlier ++ band ∷ [] ≡ read = cc added in
     subst IsProper all (more_proper earlier band proper apart day)
 
@@ -106,7 +106,7 @@ rows_proper : (which width number : ℕ) (earlier : List Band) (rows : List Fiel
 unfolding rows_from
 rows_proper which width number earlier [] bands proper is = let same : earlier ≡ bands = cc is in subst IsProper same proper
 rows_proper which width number earlier (fields ∷ rows) bands proper is =
-    let (read, judged, later) = then_is number (own_fault tariff_form.limit width number fields) (tariff_form.judge which earlier fields) _ bands is in
+    let (read, judged, later) = then_is number (own_fault tariff_form.most_rows width number fields) (tariff_form.judge which earlier fields) _ bands is in
     rows_proper which width (number + 1) read rows bands (adds_proper which earlier fields read proper judged) later
 
 below_proper : (first : Fields) (rows : List Fields) (which : Option ℕ) (bands : List Band) → below tariff_form first rows which ≡ Ok bands → IsProper bands

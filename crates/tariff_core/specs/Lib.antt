@@ -1,10 +1,10 @@
 pub mod Afford
+pub mod BandKeys
 pub mod Bands
 pub mod Ceiling
 pub mod Digits
 pub mod Lawful
 pub mod Laws
-pub mod Places
 pub mod Price
 pub mod RangeTexts
 pub mod Rates

@@ -116,7 +116,7 @@ header_with_days = header_with_steps ++ codes "days" ∷ []
 abbrev pub tariff_form : TableForm (List Band) TariffKind TariffFault
 tariff_form = record {
   headers = tariff_header ∷ header_with_free ∷ header_with_steps ∷ header_with_days ∷ [];
-  limit = 10000;
+  most_rows = 10000;
   start = [];
   judge = λ tariff_header. adds (new_band_in tariff_header);
   kind_of = kind_from;

@@ -12,9 +12,9 @@ ghost use Rattle.csv.specs.Records.{fields_of};
 ghost use Rattle.table_core.specs.Rows.{rows_of};
 
 use crate::DAY;
+use crate::band_key::BandKey;
 use crate::digits::Digits;
 use crate::fields::{WITH_DAYS, read_row};
-use crate::place::Place;
 use crate::row::Row;
 use crate::tariff_fault::{TariffFault, TariffKind};
 use crate::times::{since_midnight, weekday};
@@ -35,7 +35,7 @@ const MAX_ROWS: u32 = 10_000;
 pub(crate) struct Bands {
     rows: Vec<Row>,
     by_days: bool,
-    index: BTreeMap<Place, Row>,
+    index: BTreeMap<BandKey, Row>,
 }
 
 impl Model for Bands {
@@ -140,7 +140,7 @@ impl Bands {
     {
         let (first, end) = keys(self.by_days);
         for day in first..end {
-            let midnight = Place {
+            let midnight = BandKey {
                 prefix,
                 day,
                 start: 0,
@@ -158,7 +158,7 @@ impl Bands {
         ensures { result ≡ has_band (text_of_digits prefix) day start self.now }
     {
         let day = key_of(self.by_days, day);
-        self.index.contains_key(&Place { prefix, day, start })
+        self.index.contains_key(&BandKey { prefix, day, start })
     }
 
     /// The row of a prefix at a moment: of those that count on its weekday, the latest that starts
@@ -170,12 +170,12 @@ impl Bands {
             (λ row. IsBandAt self.now (text_of_digits prefix) now (band_of row)) }
     {
         let day = key_of(self.by_days, weekday(now));
-        let first = Place {
+        let first = BandKey {
             prefix,
             day,
             start: 0,
         };
-        let end = Place {
+        let end = BandKey {
             prefix,
             day,
             start: since_midnight(now) + 1,
@@ -193,8 +193,8 @@ impl Bands {
     {
         let day = key_of(self.by_days, weekday(now));
         let start = since_midnight(now) + 1;
-        let first = Place { prefix, day, start };
-        let end = Place {
+        let first = BandKey { prefix, day, start };
+        let end = BandKey {
             prefix,
             day,
             start: DAY,
@@ -204,14 +204,14 @@ impl Bands {
     }
 }
 
-/// The day of the places of a weekday: that weekday, or 0 in a table without days.
+/// The day of the keys of a weekday: that weekday, or 0 in a table without days.
 fn key_of(by_days: bool, day: u8) -> u8
     ensures { result ≡ key_of by_days day }
 {
     if by_days { day } else { 0 }
 }
 
-/// The days of all places, from the first to before the end: each weekday, or 0.
+/// The days of all keys, from the first to before the end: each weekday, or 0.
 fn keys(by_days: bool) -> (u8, u8)
     ensures first { result.0 ≡ key_of by_days 1 }
     ensures end { result.1 ≡ key_of by_days 7 + 1 }
@@ -228,7 +228,7 @@ fn any_has_steps(rows: &[Row]) -> bool
 
 /// The row that these fields say, after the rows that are in the index.
 fn judge(
-    index: &BTreeMap<Place, Row>,
+    index: &BTreeMap<BandKey, Row>,
     header: usize,
     fields: &ByteRecord,
 ) -> Result<Row, TariffKind>
@@ -244,14 +244,14 @@ fn judge(
 }
 
 /// Whether the index has a row with the prefix and the start of this one on one of its days.
-fn is_repeated(index: &BTreeMap<Place, Row>, by_days: bool, row: &Row) -> bool
+fn is_repeated(index: &BTreeMap<BandKey, Row>, by_days: bool, row: &Row) -> bool
     requires { by_days ≡ false → text_of_digits row.now.days ≡ [] }
     ensures { (bands : _) → Indexes by_days index.now bands
         → result ≡ repeats bands (band_of row.now) }
 {
     let (first, end) = keys(by_days);
     for day in first..end {
-        if row.counts_on(day) && index.contains_key(&row.place(day)) {
+        if row.counts_on(day) && index.contains_key(&row.key(day)) {
             return true;
         }
     }
@@ -261,27 +261,27 @@ fn is_repeated(index: &BTreeMap<Place, Row>, by_days: bool, row: &Row) -> bool
 /// Puts a row at the end and into the index.
 fn keep(
     rows: &mut Vec<Row>,
-    index: &mut BTreeMap<Place, Row>,
+    index: &mut BTreeMap<BandKey, Row>,
     by_days: bool,
     row: Row,
 ) -> Result<(), AllocError>
     requires { by_days ≡ false → text_of_digits row.days ≡ [] }
     ensures { OnOk result (KeepsRow by_days rows.old.items index.old row rows.new.items index.new) }
 {
-    enter(index, by_days, row)?;
+    index_row(index, by_days, row)?;
     rows.push(row)?;
     Ok(())
 }
 
-/// Puts a row into the index, at its place for each day on which it counts.
-fn enter(index: &mut BTreeMap<Place, Row>, by_days: bool, row: Row) -> Result<(), AllocError>
+/// Puts a row into the index, by its key for each day on which it counts.
+fn index_row(index: &mut BTreeMap<BandKey, Row>, by_days: bool, row: Row) -> Result<(), AllocError>
     requires { by_days ≡ false → text_of_digits row.days ≡ [] }
     ensures { OnOk result (Finds by_days index.old row index.new) }
 {
     let (first, end) = keys(by_days);
     for day in first..end {
         if row.counts_on(day) {
-            index.insert(row.place(day), row)?;
+            index.insert(row.key(day), row)?;
         }
     }
     Ok(())

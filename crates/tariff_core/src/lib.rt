@@ -2,11 +2,11 @@
 //! price of the one under the other.
 #![tactic(auto)]
 
+mod band_key;
 mod bands;
 mod digits;
 mod fields;
 mod laws;
-mod place;
 mod plan;
 mod pricing;
 mod reading;

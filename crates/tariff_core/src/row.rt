@@ -5,8 +5,8 @@ ghost use Rattle.tariff_core.specs.Rates.{are_steps};
 ghost use Rattle.tariff_core.specs.declared.plan.TheConstants.{MAX_RATE};
 ghost use Rattle.tariff_core.specs.declared.times.TheConstants.{DAY};
 
+use crate::band_key::BandKey;
 use crate::digits::Digits;
-use crate::place::Place;
 
 /// What the calls of a row cost: the fee, the rate a minute, how many units are free, and the
 /// billing steps.
@@ -57,11 +57,11 @@ impl Row {
         days.is_empty() || days.contains(&(b'0' + day))
     }
 
-    /// Where the row is found on a day.
-    pub fn place(&self, day: u8) -> Place
+    /// The key by which the row is found on a day.
+    pub fn key(&self, day: u8) -> BandKey
         ensures { result ≡ record { prefix = self.now.prefix; day = day; start = self.now.start } }
     {
-        Place {
+        BandKey {
             prefix: self.prefix,
             day,
             start: self.start,

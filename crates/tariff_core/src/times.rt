@@ -14,10 +14,10 @@ use std::marker::Model;
 /// A day, in units of 100 ms: the longest time that a call is charged for.
 pub const DAY: u32 = 864_000;
 
-/// The last moment that an input may name, in units of 100 ms.
+/// The greatest moment that an input may name, in units of 100 ms.
 pub const MAX_MOMENT: u64 = 1_000_000_000_000;
 
-/// The last moment that a switch takes, in units of 100 ms: twice the last that an input may name.
+/// The greatest moment that a switch takes, in units of 100 ms: twice the greatest of an input.
 /// What follows an input takes a few days, so no call comes there.
 pub const HORIZON: u64 = 2_000_000_000_000;
 

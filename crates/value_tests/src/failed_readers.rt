@@ -35,7 +35,7 @@ fn ends_with_device<R: Read + Drop>(rt: &impl Abort, length: usize, table: &mut 
 }
 
 #[test]
-fn a_tariff_tells_the_row(rt: HostRuntime) {
+fn a_tariff_names_the_row(rt: HostRuntime) {
     for length in 0..=TABLE.len() {
         let bytes = &TABLE[..length];
         let fault = fault_of(rt.alloc(), Failing { bytes });

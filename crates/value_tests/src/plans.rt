@@ -150,11 +150,11 @@ fn plans_keep_their_ranges(rt: HostRuntime) {
     }
     for &(first, step, fits) in &STEPS {
         let made = FREE.with_steps(first, step).ok();
-        let parts = made.map(|plan| (plan.free, plan.first, plan.step));
+        let steps = made.map(|plan| (plan.free, plan.first, plan.step));
         gives(
             &rt,
             &(first, step),
-            &parts,
+            &steps,
             &fits.then_some((300, first, step)),
         );
         gives(

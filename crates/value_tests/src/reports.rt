@@ -8,10 +8,10 @@ use std::process::Abort;
 use tariff_core::{DAY, Plan, TimeInfo, Times, debit, lawful, price, read_times};
 
 /// The time before a switch and after it, and whether the tariff has switched.
-pub(crate) type Parts = (u32, u32, bool);
+pub(crate) type Split = (u32, u32, bool);
 
 /// Times, and whether they fit.
-const TIMES: [(Parts, bool); 3] = [
+const TIMES: [(Split, bool); 3] = [
     ((600, 1, false), false),
     ((864_000, 1, true), false),
     ((0, 0, false), true),
@@ -30,9 +30,9 @@ const SWITCHED: [(u32, Option<u32>, bool); 6] = [
     (0, Some(864_001), false),
 ];
 
-const OLD: Parts = (200, 100, true);
+const OLD: Split = (200, 100, true);
 
-const FRESH: Parts = (200, 0, false);
+const FRESH: Split = (200, 0, false);
 
 const NO_SWITCH: TimeInfo = TimeInfo::NoSwitch { t: 300 };
 
@@ -59,7 +59,7 @@ const NO_INTERVAL: TimeInfo = TimeInfo::Switch {
 };
 
 /// The times of a call, a report, and the times that it then has.
-const REPORTS: [(Parts, TimeInfo, Option<Parts>); 7] = [
+const REPORTS: [(Split, TimeInfo, Option<Split>); 7] = [
     (OLD, NO_SWITCH, Some((300, 0, false))),
     (FRESH, SWITCH, Some((200, 100, true))),
     (OLD, LEFT_OUT, Some((200, 150, true))),
@@ -70,7 +70,7 @@ const REPORTS: [(Parts, TimeInfo, Option<Parts>); 7] = [
 ];
 
 /// Times, those that follow, how many are granted, and whether they may follow.
-const FOLLOWING: [(Plan, Parts, Parts, u32, bool); 9] = [
+const FOLLOWING: [(Plan, Split, Split, u32, bool); 9] = [
     (CHEAPER, (0, 0, false), (600, 0, false), 600, true),
     (CHEAPER, (0, 0, false), (601, 0, false), 600, false),
     (CHEAPER, (600, 0, false), (599, 0, false), 864_000, false),
@@ -83,24 +83,24 @@ const FOLLOWING: [(Plan, Parts, Parts, u32, bool); 9] = [
 ];
 
 /// The times of a call: before a switch, after it, and whether there was one.
-pub(crate) fn times(rt: &impl Abort, parts: Parts) -> Times
-    ensures { result.switched ≡ parts.2 }
+pub(crate) fn times(rt: &impl Abort, split: Split) -> Times
+    ensures { result.switched ≡ split.2 }
 {
-    let (before, after, switched) = parts;
+    let (before, after, switched) = split;
     Times::new(before, after, switched).expect(rt, "times")
 }
 
-fn parts_of(times: Option<Times>) -> Option<Parts> {
+fn split_of(times: Option<Times>) -> Option<Split> {
     let times = times?;
     Some((times.before(), times.after(), times.switched()))
 }
 
 #[test]
 fn times_and_reports_keep_their_ranges(rt: HostRuntime) {
-    for &(parts, fits) in &TIMES {
-        let (before, after, switched) = parts;
-        let made = parts_of(Times::new(before, after, switched));
-        gives(&rt, &parts, &made, &fits.then_some(parts));
+    for &(split, fits) in &TIMES {
+        let (before, after, switched) = split;
+        let made = split_of(Times::new(before, after, switched));
+        gives(&rt, &split, &made, &fits.then_some(split));
     }
     assert!(rt; Times::new(0, 0, false) == Some(Times::ZERO));
     for &(t, fits) in &UNSWITCHED {
@@ -128,7 +128,7 @@ fn follows(rt: &impl Abort, plan: &Plan, old: Times, new: Times, granted: u32, w
 fn reads_and_judges_reports(rt: HostRuntime) {
     for &(old, info, want) in &REPORTS {
         let read = read_times(times(&rt, old), info);
-        gives(&rt, &(old, info), &parts_of(read), &want);
+        gives(&rt, &(old, info), &split_of(read), &want);
     }
     for &(plan, old, new, granted, want) in &FOLLOWING {
         let (old, new) = (times(&rt, old), times(&rt, new));

@@ -7,7 +7,7 @@ use cap_values::{Arming, Arms, Cause, Charge, Event, Leg, Mode, Number, Point, S
 type Coded = (Option<Event>, Option<Mode>, Option<Leg>);
 
 /// The period, the switch and the release of a charge.
-type Parts = (Option<u32>, Option<u32>, bool);
+type Fields = (Option<u32>, Option<u32>, bool);
 
 const CODES: [(u8, Coded); 13] = [
     (0, (None, Some(Mode::Interrupted), None)),
@@ -61,7 +61,7 @@ const NUMBERS: [(&str, Option<ValueFault>); 8] = [
 ];
 
 /// Charges, and why each is none.
-const CHARGES: [(Parts, Option<ValueFault>); 12] = [
+const CHARGES: [(Fields, Option<ValueFault>); 12] = [
     ((Some(1), None, true), None),
     ((Some(1), Some(1), true), None),
     ((Some(1), Some(86_400), true), None),
@@ -158,7 +158,7 @@ fn value_of(cause: Result<Cause, ValueFault>) -> Result<u8, ValueFault> {
     Ok(cause?.value)
 }
 
-fn parts_of(charge: Result<Charge, ValueFault>) -> Result<Parts, ValueFault> {
+fn fields_of(charge: Result<Charge, ValueFault>) -> Result<Fields, ValueFault> {
     let charge = charge?;
     Ok((Some(charge.period), charge.switch, charge.release))
 }
@@ -198,10 +198,10 @@ fn values_keep_their_ranges(rt: HostRuntime) {
         let made = value_of(Cause::new(value));
         gives(&rt, &value, &made, &or_fault(value, fault));
     }
-    for &(parts, fault) in &CHARGES {
-        let (period, switch, release) = parts;
-        let made = parts_of(Charge::new(period, switch, release));
-        gives(&rt, &parts, &made, &or_fault(parts, fault));
+    for &(fields, fault) in &CHARGES {
+        let (period, switch, release) = fields;
+        let made = fields_of(Charge::new(period, switch, release));
+        gives(&rt, &fields, &made, &or_fault(fields, fault));
     }
     for &(text, fault) in &NUMBERS {
         let number = Number::new(text);

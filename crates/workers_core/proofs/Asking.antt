@@ -5,14 +5,14 @@ use Rattle.std.specs.Map.{keys_of}
 use Rattle.std.proofs.lemmas.List.{map-append}
 use Rattle.std.proofs.lemmas.List.Elements.{All-head, All-tail, Contains-append_left, Contains-append_right, Contains-push}
 use Rattle.account_core.specs.Asked.{Asked}
-use Rattle.account_core.specs.Events.{EntryData}
+use Rattle.account_core.specs.Entries.{EntryData}
 use Rattle.account_core.specs.declared.fault.AccountFault.{AccountFault}
 use Rattle.cap_values.specs.NumberDigits.{digits_of_number}
 use Rattle.cap_values.specs.declared.message.SsfMsg.{SsfMsg}
 use Rattle.cap_values.specs.declared.message.SsfMsg.TheVariants as msg
 use Rattle.cap_values.specs.declared.number.Number.{Number}
 use Rattle.dialogue_core.specs.Phases.{Conditions, Phase, Says, FirstAsk, Running, Asks}
-use Rattle.dialogue_core.specs.Table.{on_begin, conditions, reserve, on_message}
+use Rattle.dialogue_core.specs.Rules.{on_begin, conditions, reserve, on_message}
 use Rattle.tariff_core.specs.Routes.{HasNoRoute}
 use Rattle.tariff_core.specs.declared.route.Route.{Route}
 use Rattle.workers_core.proofs.Chaining.{all_sound, first_sound}

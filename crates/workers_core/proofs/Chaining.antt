@@ -4,10 +4,10 @@ use Rattle.std.specs.Map.{keys_of}
 use Rattle.std.proofs.lemmas.List.Elements.{All-nil}
 use Rattle.std.specs.Prelude.{slice_index_or}
 use Rattle.account_core.specs.Asked.{Asked, Credits}
-use Rattle.account_core.specs.Events.{EntryData}
+use Rattle.account_core.specs.Entries.{EntryData}
 use Rattle.account_core.specs.declared.fault.AccountFault.{AccountFault}
 use Rattle.dialogue_core.specs.Phases.{Asks}
-use Rattle.dialogue_core.specs.Table.{on_begin}
+use Rattle.dialogue_core.specs.Rules.{on_begin}
 use Rattle.shared_account.specs.Refusals.{IsRefusedAt, Knowing, Refusal}
 use Rattle.workers_core.proofs.Handling.{sound_after}
 use Rattle.workers_core.proofs.Talking.{all_right_still, refused_still, right_still}

@@ -5,11 +5,11 @@ use Rattle.std.specs.Map.{keys_of}
 use Rattle.std.proofs.lemmas.Bool.Decides.{nat_tests}
 use Rattle.std.proofs.lemmas.List.{append_assoc}
 use Rattle.account_core.specs.Asked.{Credits}
-use Rattle.account_core.specs.Events.{EntryData}
+use Rattle.account_core.specs.Entries.{EntryData}
 use Rattle.account_core.specs.declared.fault.AccountFault.{AccountFault}
 use Rattle.cap_values.specs.declared.message.SsfMsg.{SsfMsg}
 use Rattle.dialogue_core.specs.Phases.{Says, Asks}
-use Rattle.dialogue_core.specs.Table.{Step, on_begin}
+use Rattle.dialogue_core.specs.Rules.{Step, on_begin}
 use Rattle.workers_core.proofs.OwnCalls.{TakesTo, begun_about, begun_says, takes_answer, talk_credits}
 use Rattle.workers_core.proofs.Chaining.{first_sound, once_sound}
 use Rattle.workers_core.proofs.Growing.{place_within, read_grown}

@@ -4,7 +4,7 @@ use Rattle.std.specs.Prelude.{◌==◌, flat_map, if◌then◌else◌, slice_ind
 use Rattle.std.specs.Map.{keys_of}
 use Rattle.std.proofs.lemmas.Bool.Decides.{nat_tests}
 use Rattle.std.proofs.lemmas.Grind.{flat_map-append}
-use Rattle.account_core.specs.Events.{EntryData}
+use Rattle.account_core.specs.Entries.{EntryData}
 use Rattle.dialogue_core.specs.Phases.{Phase, Says}
 use Rattle.workers_core.proofs.Handling.{many_keys, same_number}
 use Rattle.workers_core.specs.Handled.{AnswerView, Holding, IsTalked, grown}

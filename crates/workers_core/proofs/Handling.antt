@@ -7,13 +7,13 @@ use Rattle.std.proofs.lemmas.List.{flat_map_more, get_or-map, length-map}
 use Rattle.std.proofs.lemmas.List.Elements.{All-nil, Contains-push}
 use Rattle.std.proofs.lemmas.List.Quantifiers.{position-Some}
 use Rattle.account_core.specs.Asked.{Credits}
-use Rattle.account_core.specs.Events.{EntryData}
+use Rattle.account_core.specs.Entries.{EntryData}
 use Rattle.cap_values.specs.Orders.{Release}
 use Rattle.cap_values.specs.declared.message.SsfMsg.{SsfMsg}
 use Rattle.cap_values.specs.declared.message.SsfMsg.TheVariants as msg
 use Rattle.cap_values.specs.declared.number.Number.{Number}
 use Rattle.dialogue_core.specs.Phases.{Phase, Says, Asks}
-use Rattle.dialogue_core.specs.Table.{Step, on_begin, on_message}
+use Rattle.dialogue_core.specs.Rules.{Step, on_begin, on_message}
 use Rattle.dialogue_core.specs.Views.{phase_of, says_of}
 use Rattle.workers_core.proofs.OwnCalls.{SaysOf, TakesTo, begun_about, begun_says, begun_settles, settled_by, takes_answer, talk_credits, talk_held, talk_settles, talked_about}
 use Rattle.workers_core.proofs.Parts.{IsEntered, all_served_grown, all_served_more, begun_more, part_through}

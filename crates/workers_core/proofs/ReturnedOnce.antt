@@ -6,14 +6,14 @@ use Rattle.std.proofs.lemmas.Bool.Decides.{nat_tests}
 use Rattle.std.proofs.lemmas.List.{append_assoc}
 use Rattle.std.proofs.lemmas.List.Elements.{All-append, All-nil, All-weaker}
 use Rattle.account_core.specs.Asked.{Credits, Returns}
-use Rattle.account_core.specs.Events.{EntryData}
+use Rattle.account_core.specs.Entries.{EntryData}
 use Rattle.account_core.specs.declared.fault.AccountFault.{AccountFault}
 use Rattle.cap_values.specs.declared.event.Event.TheVariants as event
 use Rattle.cap_values.specs.declared.message.SsfMsg.{SsfMsg}
 use Rattle.cap_values.specs.declared.message.SsfMsg.TheVariants as msg
 use Rattle.dialogue_core.specs.Phases.{Conditions, Phase, Says, Sequel, Running, Returning, Asks}
 use Rattle.dialogue_core.specs.Phases as phase
-use Rattle.dialogue_core.specs.Table.{Step, going_on, on_begin, on_message}
+use Rattle.dialogue_core.specs.Rules.{Step, going_on, on_begin, on_message}
 use Rattle.workers_core.proofs.OwnCalls.{SaysOf, TakesTo, begun_about, begun_says, takes_answer}
 use Rattle.workers_core.proofs.Asking.{taken_on}
 use Rattle.workers_core.proofs.AtRest.{nothing_asked}

@@ -5,11 +5,11 @@ use Rattle.std.specs.Map.{keys_of}
 use Rattle.std.proofs.lemmas.Grind.{flat_map-append}
 use Rattle.std.proofs.lemmas.List.{append_assoc}
 use Rattle.account_core.specs.Asked.{Credits, Settles}
-use Rattle.account_core.specs.Events.{EntryData}
+use Rattle.account_core.specs.Entries.{EntryData}
 use Rattle.account_core.specs.declared.fault.AccountFault.{AccountFault}
 use Rattle.cap_values.specs.declared.message.SsfMsg.TheVariants as msg
 use Rattle.dialogue_core.specs.Phases.{Phase, Says, Settling, Asks}
-use Rattle.dialogue_core.specs.Table.{Step, on_begin}
+use Rattle.dialogue_core.specs.Rules.{Step, on_begin}
 use Rattle.tariff_core.specs.declared.times.TimeInfo.{TimeInfo}
 use Rattle.workers_core.proofs.OwnCalls.{TakesTo, begun_about, begun_settles, kept_got, no_settle, settled_by, takes_answer, talk_settles, talked_about}
 use Rattle.workers_core.proofs.Asking.{taken_on}

@@ -1,7 +1,7 @@
 -- The talk of a dialogue with its account, ask by ask.
 use Rattle.std.proofs.Common.{◌≡◌, ◌≢◌, ◌⊎◌, ◌++◌, ◌∙◌, inl, inr, ℕ, false, Option, None, Ok, Err, List, [], ◌∷◌, refl, sym, ap, subst, append_assoc, append-nil}
 use Rattle.account_core.specs.Asked.{Asked}
-use Rattle.account_core.specs.Events.{EntryData}
+use Rattle.account_core.specs.Entries.{EntryData}
 use Rattle.shared_account.specs.Refusals.{IsRefusedAt, Knowing, Refusal}
 use Rattle.shared_account.specs.Seats.{Reads}
 use Rattle.account_core.specs.declared.fault.AccountFault.{AccountFault}

@@ -4,7 +4,7 @@ use Rattle.account_core.specs.Asked.{Asked, Credits}
 use Rattle.cap_values.specs.NumberDigits.{digits_of_number}
 use Rattle.cap_values.specs.declared.number.Number.{Number}
 use Rattle.dialogue_core.specs.Phases.{Phase, Says}
-use Rattle.dialogue_core.specs.Table.{on_begin}
+use Rattle.dialogue_core.specs.Rules.{on_begin}
 use Rattle.dialogue_core.specs.Talks.{AreGot, Asking, Got, is_ask, orders_sent_by, talked}
 use Rattle.dialogue_core.specs.Views.{phase_of, says_of}
 use Rattle.run_values.specs.Setups.{Setup}

@@ -4,13 +4,13 @@ use Rattle.std.specs.BTreeMap.{is_at}
 use Rattle.std.specs.Map.{lookup}
 use Rattle.std.specs.Ordering.{nat_cmp}
 use Rattle.account_core.specs.Asked.{Asked, Credits}
-use Rattle.account_core.specs.Events.{EntryData}
+use Rattle.account_core.specs.Entries.{EntryData}
 use Rattle.account_core.specs.declared.fault.AccountFault.{AccountFault}
 use Rattle.cap_values.specs.NumberDigits.{digits_of_number}
 use Rattle.cap_values.specs.Orders.{Release}
 use Rattle.cap_values.specs.declared.number.Number.{Number}
 use Rattle.dialogue_core.specs.Phases.{Phase, Says, Asks}
-use Rattle.dialogue_core.specs.Table.{on_begin}
+use Rattle.dialogue_core.specs.Rules.{on_begin}
 use Rattle.dialogue_core.specs.Views.{phase_of, says_of}
 use Rattle.shared_account.specs.Refusals.{IsRefusedAt, Knowing, Refusal}
 use Rattle.shared_account.specs.Seats.{Reads}

@@ -1,6 +1,6 @@
 -- What the posts of a worker come to, handled one after another.
 use Rattle.std.specs.Prelude.{◌≡◌, ℕ, Option, None, List, [], ◌∷◌, map}
-use Rattle.account_core.specs.Events.{EntryData}
+use Rattle.account_core.specs.Entries.{EntryData}
 use Rattle.account_core.specs.declared.fault.AccountFault.{AccountFault}
 use Rattle.workers_core.specs.Handled.{AnswerView, Holding, IsHandled, IsRightlyHandled}
 use Rattle.workers_core.specs.Talks.{Showing}

@@ -1,13 +1,13 @@
 -- What the handling of a post does.
 use Rattle.std.specs.Prelude.{◌≡◌, ◌++◌, ◌==◌, ℕ, Bool, true, false, Option, Some, None, List, [], ◌∷◌, if◌then◌else◌, slice_set, slice_index_or}
 use Rattle.account_core.specs.Asked.{Credits}
-use Rattle.account_core.specs.Events.{EntryData}
+use Rattle.account_core.specs.Entries.{EntryData}
 use Rattle.account_core.specs.declared.fault.AccountFault.{AccountFault}
 use Rattle.cap_values.specs.NumberDigits.{digits_of_number}
 use Rattle.cap_values.specs.Orders.{Order, Release, orders_of}
 use Rattle.cap_values.specs.declared.number.Number.{Number}
 use Rattle.dialogue_core.specs.Phases.{Phase, Says, Asks}
-use Rattle.dialogue_core.specs.Table.{on_begin}
+use Rattle.dialogue_core.specs.Rules.{on_begin}
 use Rattle.tariff_core.specs.declared.route.Route.{Route}
 use Rattle.run_values.specs.Setups.{Setup}
 use Rattle.dialogue_core.specs.Talks.{Got, is_ask, orders_sent_by, talked}

@@ -2,7 +2,7 @@
 use Rattle.std.specs.Prelude.{◌≡◌, ◌≢◌, ◌==◌, ◌++◌, ℕ, Bool, true, false, Option, Some, None, List, [], ◌∷◌, All, Contains, if◌then◌else◌, length, map, slice_index_or}
 use Rattle.std.specs.Map.{keys_of}
 use Rattle.account_core.specs.Asked.{Asked, Credits, Reserves, Returns, Settles}
-use Rattle.account_core.specs.Events.{EntryData}
+use Rattle.account_core.specs.Entries.{EntryData}
 use Rattle.account_core.specs.declared.fault.AccountFault.{AccountFault}
 use Rattle.cap_values.specs.NumberDigits.{digits_of_number}
 use Rattle.cap_values.specs.declared.message.SsfMsg.{SsfMsg}
@@ -94,7 +94,7 @@ IsOnTerms setup place posts (Returns call) = Unit {0}
 abbrev pub ReservesAreOnTerms : Type 0
 ReservesAreOnTerms =
     (setup : Setup) (number place : ℕ) (posts : List Post) (refusals : List (Option AccountFault)) (lists : List (List EntryData))
-    → IsWorked setup number posts refusals lists → All (λ event. IsOnTerms setup place posts event.asked) (slice_index_or lists place [])
+    → IsWorked setup number posts refusals lists → All (λ entry. IsOnTerms setup place posts entry.asked) (slice_index_or lists place [])
 
 -- ---- what a dialogue asks first
 
@@ -119,7 +119,7 @@ PostsAreHandled =
 
 -- what the entries of an account's list ask
 abbrev pub asked_at : List (List EntryData) → ℕ → List Asked
-asked_at lists place = map (λ event. event.asked) (slice_index_or lists place [])
+asked_at lists place = map (λ entry. entry.asked) (slice_index_or lists place [])
 
 -- no dialogue of a call began with these posts: none is an InitialDp of it from a subscriber
 abbrev pub HasNoDialogue : Setup → List Post → ℕ → Type 0

@@ -1,8 +1,8 @@
 -- What shows that an account refused a worker.
 use Rattle.std.specs.Prelude.{◌≡◌, ◌<◌, ℕ, List, length, reverse, slice_index_or}
 use Rattle.account_core.specs.Asked.{Asked, call_of}
-use Rattle.account_core.specs.Events.{EntryData}
-use Rattle.account_core.specs.Places.{IsClosing}
+use Rattle.account_core.specs.Entries.{EntryData}
+use Rattle.account_core.specs.Places.{IsOwed}
 use Rattle.account_core.specs.declared.fault.AccountFault.{AccountFault}
 use Rattle.shared_account.specs.Refusals.{IsAlone, IsRefusedAt, Knowing, Refusal}
 use Rattle.workers_core.specs.Talks.{Showing}
@@ -22,7 +22,7 @@ RefusesAt Was seats place = IsRefusedAt (WasAt Was seats place)
 abbrev pub IsAloneWith : {T : Type 0} → (T → Knowing) → List T → ℕ → Type 0
 IsAloneWith Was seats call = (place : ℕ) → IsAlone (WasAt Was seats place) call
 
--- what closes a call, by the own entries of the seat that asks, is never refused
-abbrev pub NeverRefusesClosing : (ℕ → Showing) → ℕ → Type 0
-NeverRefusesClosing Shows call =
-    (place : ℕ) (mine : List EntryData) (asked : Asked) (why : AccountFault) → call_of asked ≡ call → IsClosing (reverse mine) asked → Shows place mine asked why → ⊥
+-- what a call is owed, by the own entries of the seat that asks, is never refused
+abbrev pub NeverRefusesOwed : (ℕ → Showing) → ℕ → Type 0
+NeverRefusesOwed Shows call =
+    (place : ℕ) (mine : List EntryData) (asked : Asked) (why : AccountFault) → call_of asked ≡ call → IsOwed (reverse mine) asked → Shows place mine asked why → ⊥

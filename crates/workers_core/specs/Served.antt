@@ -1,7 +1,7 @@
 -- What the entries of a worker's seats have to do with the posts that it handled.
 use Rattle.std.specs.Prelude.{◌≡◌, ◌==◌, ◌⊎◌, ℕ, Option, List, [], ◌∷◌, All, Contains, flat_map, if◌then◌else◌}
 use Rattle.account_core.specs.Asked.{Asked, Credits, Reserves, Settles, Returns}
-use Rattle.account_core.specs.Events.{EntryData}
+use Rattle.account_core.specs.Entries.{EntryData}
 use Rattle.cap_values.specs.declared.message.SsfMsg.{SsfMsg}
 use Rattle.cap_values.specs.declared.message.SsfMsg.TheVariants.{InitialDp, EventReport, ChargingReport, Ended}
 use Rattle.tariff_core.specs.declared.times.TimeInfo.{TimeInfo}
@@ -44,7 +44,7 @@ settled_in (Returns call) = []
 
 -- the Settles among entries: the number, the call and the times of each
 abbrev pub settles_of : List EntryData → List Report
-settles_of mine = flat_map (λ event. settled_in event.asked) mine
+settles_of mine = flat_map (λ entry. settled_in entry.asked) mine
 
 -- money for an account: how much, and its last moment from then on, if it is moved
 abbrev pub Money : Type 0
@@ -68,7 +68,7 @@ credited_in (Returns call) = []
 
 -- the money of the Credits among entries
 abbrev pub credits_of : List EntryData → List Money
-credits_of mine = flat_map (λ event. credited_in event.asked) mine
+credits_of mine = flat_map (λ entry. credited_in entry.asked) mine
 
 -- the call that a message begins
 abbrev pub begun_in : ℕ → SsfMsg → List ℕ
@@ -95,7 +95,7 @@ held_in (Returns call) = call ∷ []
 
 -- the calls of the Reserves and the Returns among entries
 abbrev pub held_calls_of : List EntryData → List ℕ
-held_calls_of mine = flat_map (λ event. held_in event.asked) mine
+held_calls_of mine = flat_map (λ entry. held_in entry.asked) mine
 
 -- the call that an operation returns
 abbrev pub returned_in : Asked → List ℕ
@@ -106,7 +106,7 @@ returned_in (Returns call) = call ∷ []
 
 -- the calls of the Returns among entries
 abbrev pub returns_of : List EntryData → List ℕ
-returns_of mine = flat_map (λ event. returned_in event.asked) mine
+returns_of mine = flat_map (λ entry. returned_in entry.asked) mine
 
 -- the entries that a seat of an account made for posts: each Settle is of a charging report and carries its post's number, each Credit is of a
 -- recharge of the account, both in the order of the posts, and each Reserve or Return is of a call that had an InitialDp

@@ -1,8 +1,8 @@
 -- The talk of a dialogue with its account: what is asked, what each ask gets, and what is entered.
 use Rattle.std.specs.Prelude.{◌≡◌, ◌++◌, ℕ, true, false, Option, Some, None, Ok, Err, List, [], ◌∷◌}
 use Rattle.account_core.specs.Asked.{Asked}
-use Rattle.account_core.specs.Events.{EntryData}
-use Rattle.account_core.specs.Ledger.{event_by}
+use Rattle.account_core.specs.Entries.{EntryData}
+use Rattle.account_core.specs.Ledger.{entry_by}
 use Rattle.account_core.specs.declared.fault.AccountFault.{AccountFault}
 use Rattle.cap_values.specs.Orders.{Order}
 use Rattle.dialogue_core.specs.Phases.{Phase, Says, Asks, Sends, Finished}
@@ -10,7 +10,7 @@ use Rattle.dialogue_core.specs.Talks.{Got, is_ask, orders_sent_by, talked}
 
 -- the entry of an ask that got a reply
 abbrev pub entry_of : ℕ → Says → Got → List EntryData
-entry_of seat (Asks asked) (Ok reply) = event_by seat asked reply ∷ []
+entry_of seat (Asks asked) (Ok reply) = entry_by seat asked reply ∷ []
 entry_of seat (Asks asked) (Err fault) = []
 entry_of seat (Sends orders) got = []
 entry_of seat Finished got = []

@@ -10,7 +10,7 @@ ghost use Rattle.workers_core.specs.Handled.{IsRecharged, IsTalked, answer_view}
 ghost use Rattle.workers_core.specs.Refusals.{RefusesAt, WasAt};
 ghost use Rattle.workers_core.specs.Workers.{talk_standing, standings_in};
 ghost use Rattle.dialogue_core.specs.Talks.{asks_after, asks_left};
-ghost use Rattle.account_core.specs.Events.{EntryData, asked_of};
+ghost use Rattle.account_core.specs.Entries.{EntryData, asked_of};
 ghost use Rattle.shared_account.specs.Refusals.{IsRefusedAt, Refusal};
 ghost use Rattle.cap_values.specs.Orders.{Release, orders_of};
 ghost use Rattle.dialogue_core.specs.Views.{phase_of, says_of};
@@ -58,7 +58,7 @@ pub(crate) fn pass<G: Gate>(gate: &G, worker: u32, body: &Body) -> Result<(), Wo
 }
 
 /// Lets the gate know that a message of a call was answered.
-pub(crate) fn tell<G: Gate>(gate: &G, worker: u32, body: &Body) {
+pub(crate) fn notify_gate<G: Gate>(gate: &G, worker: u32, body: &Body) {
     if let Body::Ssf { call, .. } = *body {
         gate.after(worker, call);
     }

@@ -2,7 +2,7 @@
 
 ghost use Rattle.std.specs.Prelude.{ℕ, List};
 ghost use Rattle.workers_core.specs.Laws.{CallsAreReserved, CallsAreReturned, EntriesComeFromPosts, PostsAreHandled, RechargesAreEntered, ReportsAreSettled, ReservesAreOnTerms, WhatIsSaidIsSent};
-ghost use Rattle.workers_core.specs.Refusals.{IsAloneWith, NeverRefusesClosing, RefusesAt};
+ghost use Rattle.workers_core.specs.Refusals.{IsAloneWith, NeverRefusesOwed, RefusesAt};
 
 use shared_account::Shared;
 
@@ -44,12 +44,12 @@ pub fn calls_are_reserved()
     ensures { CallsAreReserved }
 {}
 
-/// What closes a call that is the seats' alone, its Return or its first Settle since its last
+/// What a call is owed that is the seats' alone, its Return or its first Settle since its last
 /// grant, by the own entries of the seat that asks, is never refused by an account that the seat
 /// knows.
-pub fn closing_is_never_refused<S: Shared>()
+pub fn owed_is_never_refused<S: Shared>()
     ensures { (seats : List S.Seat) (call : ℕ) → IsAloneWith S.was seats call
-        → NeverRefusesClosing (RefusesAt S.was seats) call }
+        → NeverRefusesOwed (RefusesAt S.was seats) call }
 {}
 
 /// A ChargingReport of a call that goes on is settled just once, at the call's account and at no

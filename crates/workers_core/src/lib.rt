@@ -10,7 +10,7 @@ mod worker_fault;
 
 pub use ends::{Gone, Inbox, Outbox};
 pub use laws::{
-    calls_are_reserved, calls_are_returned, closing_is_never_refused, entries_come_from_posts,
+    calls_are_reserved, calls_are_returned, entries_come_from_posts, owed_is_never_refused,
     posts_are_handled, recharges_are_entered, reports_are_settled, reserves_are_on_terms,
     what_is_said_is_sent,
 };

@@ -2,7 +2,7 @@
 
 ghost use Rattle.std.specs.Prelude.{◌≡◌, ◌++◌, ◌∷◌, ◌≤◌, ◌<◌, [], ℕ, List, None, Option, true, map, All, IfErr, IfOk, IfSome, OnOk, IfNone, length};
 ghost use Rattle.std.specs.Map.{keys_of};
-ghost use Rattle.account_core.specs.Events.{EntryData};
+ghost use Rattle.account_core.specs.Entries.{EntryData};
 ghost use Rattle.shared_account.specs.Refusals.{Refusal};
 ghost use Rattle.workers_core.specs.Handled.{IsRecharged, IsRightlyHandled, answer_view};
 ghost use Rattle.workers_core.specs.Refusals.{RefusesAt, WasAt};
@@ -11,12 +11,12 @@ ghost use Rattle.workers_core.specs.Workers.{IsReady, accounts_of, holding, numb
 ghost use Rattle.workers_core.specs.Calls.{AreCalled};
 ghost use Rattle.workers_core.specs.Cases.{IsCase};
 ghost use Rattle.cap_values.specs.Orders.{Release, orders_of};
-ghost use Rattle.dialogue_core.specs.Table.{on_message};
+ghost use Rattle.dialogue_core.specs.Rules.{on_message};
 ghost use Rattle.dialogue_core.specs.Views.{phase_of};
 ghost use Rattle.run_values.specs.Setups.{place_of};
 
 use crate::WorkerFault;
-use crate::acting::{act, make_room, pass, tell};
+use crate::acting::{act, make_room, notify_gate, pass};
 use cap_values::{Number, SsfMsg};
 use dialogue_core::{Dialogue, Turn};
 use rising_map::RisingMap;
@@ -140,7 +140,7 @@ impl<'s, S: Shared> Worker<'s, S> {
             post.number,
             case,
         )?;
-        tell(gate, self.number, &post.body);
+        notify_gate(gate, self.number, &post.body);
         Ok(answer)
     }
 

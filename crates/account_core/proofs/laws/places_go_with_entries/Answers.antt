@@ -7,6 +7,6 @@ use Rattle.account_core.proofs.laws.places_go_with_entries.Goals as goal
 
 pub returns : goal.returns
 returns c = record {
-  moves = λ h event. owed_moves h event ∙ ap (λ k. owed h + owed_to k) (sym (known_here h event));
+  moves = λ h entry. owed_moves h entry ∙ ap (λ k. owed h + owed_to k) (sym (known_here h entry));
   share = owed_at_most;
 }

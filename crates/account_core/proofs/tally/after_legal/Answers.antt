@@ -1,6 +1,6 @@
 use Rattle.std.proofs.Common.{◌≡◌, ◌∙◌, None, rules}
 use Rattle.account_core.specs.Answers.{inadmissible_for}
-use Rattle.account_core.specs.Events.{asked_of, entry_data}
+use Rattle.account_core.specs.Entries.{asked_of, entry_data}
 use Rattle.account_core.specs.Kept.{known_of}
 use Rattle.account_core.proofs.Tallying.{replied_response, response_after, response_legal, response_money, response_room}
 use Rattle.account_core.proofs.tally.after_legal.Goals as goal

@@ -32,7 +32,7 @@ pub take_row-requires-clause-fields : goal.take_row-requires-clause-fields
 take_row-requires-clause-fields g c =
     let (books, read, are, right) = c.loop-wrongs.invariant in
     let next = rw c.if-branch.true at c.in_ok-next_row.ensures.moves in
-    rw (c.at-version.ensures, c.header.ensures, c.row.ensures)
+    rw (c.of_header-version.ensures, c.header.ensures, c.row.ensures)
     (has_columns _ _ (header_stays (books_form (most_rows c.args.size)) g.I.Read.remaining _ c.loop-wrongs.table c.next_row.new.self books read next)
     (row_columns (books_form (most_rows c.args.size)) g.I.Read.remaining _ c.loop-wrongs.table c.next_row.new.self books read next))
 
@@ -40,7 +40,7 @@ pub returns-in-Some : goal.returns-in-Some
 returns-in-Some g c =
     let (books, read, are, right) = c.loop-wrongs.invariant in
     let next = rw c.if-branch.true at c.in_ok-next_row.ensures.moves in
-    let came = rw (c.row.ensures, c.at-version.ensures, c.header.ensures, next.same.header, c.in-Some.is) at (c.in_ok-kind.ensures.comes books are) in
+    let came = rw (c.row.ensures, c.of_header-version.ensures, c.header.ensures, next.same.header, c.in-Some.is) at (c.in_ok-kind.ensures.comes books are) in
     rw c.fault.ensures (refused (books_form (most_rows c.args.size)) g.I.Read.remaining _ c.loop-wrongs.table c.next_row.new.self books read c.in-Some.kind
     next (rw c.if-branch.true at c.in_ok-next_row.ensures.steps) (row_refused books _ _ c.in-Some.kind came))
 
@@ -49,13 +49,13 @@ loop-wrongs-preserved g c =
     let (books, read, are, right) = c.loop-wrongs.invariant in
     let next = rw c.if-branch.true at c.in_ok-next_row.ensures.moves in
     let steps = rw c.if-branch.true at c.in_ok-next_row.ensures.steps in
-    let came = rw (c.row.ensures, c.at-version.ensures, c.header.ensures, next.same.header, c.in_default.is) at (c.in_ok-kind.ensures.comes books are) in
-    let noted = rw (c.row.ensures, c.at-version.ensures, c.header.ensures, next.same.header, c.number-number.ensures) at (c.in_ok-kind.ensures.noted books are) in
+    let came = rw (c.row.ensures, c.of_header-version.ensures, c.header.ensures, next.same.header, c.in_default.is) at (c.in_ok-kind.ensures.comes books are) in
+    let noted = rw (c.row.ensures, c.of_header-version.ensures, c.header.ensures, next.same.header, c.number-number.ensures) at (c.in_ok-kind.ensures.noted books are) in
     let (all, is, all_are) = row_taken books _ _ came in (
       all,
       taken (books_form (most_rows c.args.size)) g.I.Read.remaining _ c.loop-wrongs.table c.next_row.new.self books read all next steps is,
       all_are,
-      right_so_far (most_rows c.args.size) g.I.Read.remaining _ c.loop-wrongs.table c.next_row.new.self books all _ _ read.limit next steps is noted right,
+      right_so_far (most_rows c.args.size) g.I.Read.remaining _ c.loop-wrongs.table c.next_row.new.self books all _ _ read.most_rows next steps is noted right,
     )
 
 pub returns : goal.returns

@@ -3,7 +3,7 @@ use Rattle.std.specs.List.{All}
 use Rattle.std.proofs.lemmas.List.{take_all}
 use Rattle.std.proofs.lemmas.Grind.{common_steps}
 use Rattle.std.proofs.lemmas.List.Elements.{All-map, All-nil, All-same}
-use Rattle.account_core.specs.Events.{entry_data}
+use Rattle.account_core.specs.Entries.{entry_data}
 use Rattle.account_core.specs.declared.entry.Entry.{Entry}
 use Rattle.book_texts.proofs.TextLemmas.{all_so_far}
 use Rattle.book_texts.specs.Typed.{IsTypedEntry}

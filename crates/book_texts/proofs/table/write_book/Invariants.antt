@@ -1,6 +1,6 @@
 use Rattle.std.proofs.Common.{◌≡◌, ◌++◌, map, string_bytes, take}
 use Rattle.std.specs.List.{All, flat_map}
-use Rattle.account_core.specs.Events.{entry_data}
+use Rattle.account_core.specs.Entries.{entry_data}
 use Rattle.book_texts.specs.BookTexts.{entry_row, opening_row}
 use Rattle.book_texts.specs.Typed.{IsTypedEntry}
 use Rattle.book_texts.proofs.table.write_book.Given as goal

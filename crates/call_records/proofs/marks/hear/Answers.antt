@@ -1,7 +1,7 @@
 use Rattle.std.proofs.Common.{◌==◌, refl, ap, ◌∙◌}
 use Rattle.std.proofs.lemmas.Result.{on_ok_weaker}
 use Rattle.account_core.specs.Asked.{call_of}
-use Rattle.account_core.specs.Events.{asked_of, entry_data}
+use Rattle.account_core.specs.Entries.{asked_of, entry_data}
 use Rattle.call_records.proofs.MarkLemmas.{marks_kept}
 use Rattle.call_records.specs.Kept.{marks_in}
 use Rattle.call_records.proofs.marks.hear.Goals as goal

@@ -1,6 +1,6 @@
 use Rattle.std.proofs.Common.{[], ◌∷◌, map, reverse, take}
 use Rattle.std.proofs.lemmas.List.{map-append, reverse-append}
-use Rattle.account_core.specs.Events.{entry_data}
+use Rattle.account_core.specs.Entries.{entry_data}
 use Rattle.call_records.proofs.CallLemmas.{next_item}
 use Rattle.call_records.proofs.marks.marks_in.Goals as goal
 

@@ -1,5 +1,5 @@
 use Rattle.std.proofs.Common.{map, reverse, take}
-use Rattle.account_core.specs.Events.{entry_data}
+use Rattle.account_core.specs.Entries.{entry_data}
 use Rattle.call_records.specs.Kept.{HaveMarks}
 use Rattle.call_records.proofs.marks.marks_in.Given as goal
 

@@ -1,5 +1,5 @@
 use Rattle.std.proofs.Common.{refl, ◌∷◌, ◌∙◌}
-use Rattle.account_core.specs.Events.{asked_of}
+use Rattle.account_core.specs.Entries.{asked_of}
 use Rattle.dialogue_core.proofs.talk.converse.Goals as goal
 
 pub loop-turn-preserved : goal.loop-turn-preserved

@@ -10,9 +10,9 @@ use Rattle.explanations.proofs.row_line.push_row_line.Goals as goal
 
 pub returns : goal.returns
 returns c =
-    let shown_is = rw (sliced c.args.at c.args.part.now) at c.in_ok-push_shown.ensures in
+    let shown_is = rw (sliced c.args.at c.args.table.now) at c.in_ok-push_shown.ensures in
     let begun_is = rw (c.lines_ended.ensures.value, c.lines_ended-2.ensures.value) at c.in_ok-write.ensures.bytes in
     on_ok_weaker c.writeln.result
     (λ new_is. line_made (string_bytes c.args.text.now) (string_bytes c.write.new.self) (string_bytes c.push_shown.new.text) (string_bytes c.writeln.new.self) (codes "line ")
-    (decimal (lines_ended c.args.before.now + lines_ended (take c.args.at c.args.part.now) + 1)) (codes " of the input: ") (shown_columns MOST_COLUMNS (drop c.args.at c.args.part.now)) (codes "\n")
+    (decimal (lines_ended c.args.before.now + lines_ended (take c.args.at c.args.table.now) + 1)) (codes " of the input: ") (shown_columns MOST_COLUMNS (drop c.args.at c.args.table.now)) (codes "\n")
     begun_is shown_is new_is) c.writeln.ensures.bytes

@@ -3,7 +3,7 @@ use Rattle.std.specs.Prelude.{option_map}
 use Rattle.csv.specs.Records.{fields_of}
 use Rattle.table_core.specs.Rows.{rows_of}
 use Rattle.table_core.proofs.Known.{at_known, if_known}
-use Rattle.rating.specs.Cuts.{cut_start, passed_text, cut_place, reader_of}
+use Rattle.rating.specs.Cuts.{cut_start, passed_text, cut_cursor, reader_of}
 use Rattle.rating.specs.SaidOf.{wished_names}
 use Rattle.rating.specs.Texts.{headed}
 use Rattle.rating.specs.declared.call.TheConstants.{MAX_SHOWN}
@@ -13,8 +13,8 @@ use Rattle.rating.proofs.rating.rate_records.Goals as goal
 
 pub returns-clause-ends : goal.returns-clause-ends
 returns-clause-ends g c = if_known (g.I.Read.remaining c.args.records) _ (λ text known.
-    let has = at_known (option_map (passed_text (cut_place c.new.result)) (g.I.Read.remaining (reader_of c.new.result))) _ (cut_start MAX_SHOWN text)
-    (rw (c.new.ensures.place, c.new.ensures.reader, known) refl) c.new-rows.ensures in
+    let has = at_known (option_map (passed_text (cut_cursor c.new.result)) (g.I.Read.remaining (reader_of c.new.result))) _ (cut_start MAX_SHOWN text)
+    (rw (c.new.ensures.cursor, c.new.ensures.reader, known) refl) c.new-rows.ensures in
     let printed = rw (c.new-text.ensures.items, c.row-2.ensures) at c.in_ok-push_fields.ensures in
     let small = within_printed _ _ printed (omega (arith, c.if-len-gt-MAX_SHOWN.false, c.len.ensures)) in
     let (below, is, left) = opened _ (wished_names c.args.ask.now.names) c.args.tariff.now text c.next_row.new.self c.in-Some.columns
@@ -27,8 +27,8 @@ returns-clause-ends g c = if_known (g.I.Read.remaining c.args.records) _ (λ tex
 
 pub returns-then-not-branch-clause-ends : goal.returns-then-not-branch-clause-ends
 returns-then-not-branch-clause-ends g c = if_known (g.I.Read.remaining c.args.records) _ (λ text known.
-    let has = at_known (option_map (passed_text (cut_place c.new.result)) (g.I.Read.remaining (reader_of c.new.result))) _ (cut_start MAX_SHOWN text)
-    (rw (c.new.ensures.place, c.new.ensures.reader, known) refl) c.new-rows.ensures in (
+    let has = at_known (option_map (passed_text (cut_cursor c.new.result)) (g.I.Read.remaining (reader_of c.new.result))) _ (cut_start MAX_SHOWN text)
+    (rw (c.new.ensures.cursor, c.new.ensures.reader, known) refl) c.new-rows.ensures in (
       no_header (wished_names c.args.ask.now.names) c.args.tariff.now text
           (rw c.if-not-branch.true at c.in_ok-next_row.ensures.takes (rows_of (cut_start MAX_SHOWN text)) has),
       still_held (g.O.Write.contents c.args.output.now),
@@ -36,8 +36,8 @@ returns-then-not-branch-clause-ends g c = if_known (g.I.Read.remaining c.args.re
 
 pub returns-in_default-clause-ends : goal.returns-in_default-clause-ends
 returns-in_default-clause-ends g c = if_known (g.I.Read.remaining c.args.records) _ (λ text known.
-    let has = at_known (option_map (passed_text (cut_place c.new.result)) (g.I.Read.remaining (reader_of c.new.result))) _ (cut_start MAX_SHOWN text)
-    (rw (c.new.ensures.place, c.new.ensures.reader, known) refl) c.new-rows.ensures in (
+    let has = at_known (option_map (passed_text (cut_cursor c.new.result)) (g.I.Read.remaining (reader_of c.new.result))) _ (cut_start MAX_SHOWN text)
+    (rw (c.new.ensures.cursor, c.new.ensures.reader, known) refl) c.new-rows.ensures in (
       no_columns _ (wished_names c.args.ask.now.names) c.args.tariff.now text c.next_row.new.self
           (rw c.if-not-branch.false at c.in_ok-next_row.ensures.takes (rows_of (cut_start MAX_SHOWN text)) has)
           (rw c.row.ensures at (sym c.find.ensures.value ∙ c.in_default.is)),
@@ -46,8 +46,8 @@ returns-in_default-clause-ends g c = if_known (g.I.Read.remaining c.args.records
 
 pub returns-then-len-gt-MAX_SHOWN-clause-ends : goal.returns-then-len-gt-MAX_SHOWN-clause-ends
 returns-then-len-gt-MAX_SHOWN-clause-ends g c = if_known (g.I.Read.remaining c.args.records) _ (λ text known.
-    let has = at_known (option_map (passed_text (cut_place c.new.result)) (g.I.Read.remaining (reader_of c.new.result))) _ (cut_start MAX_SHOWN text)
-    (rw (c.new.ensures.place, c.new.ensures.reader, known) refl) c.new-rows.ensures in
+    let has = at_known (option_map (passed_text (cut_cursor c.new.result)) (g.I.Read.remaining (reader_of c.new.result))) _ (cut_start MAX_SHOWN text)
+    (rw (c.new.ensures.cursor, c.new.ensures.reader, known) refl) c.new-rows.ensures in
     let printed = rw (c.new-text.ensures.items, c.row-2.ensures) at c.in_ok-push_fields.ensures in (
       long_header _ (wished_names c.args.ask.now.names) c.args.tariff.now text c.next_row.new.self
           (rw c.if-not-branch.false at c.in_ok-next_row.ensures.takes (rows_of (cut_start MAX_SHOWN text)) has)

@@ -7,50 +7,50 @@ use Rattle.rating.proofs.rating.rate_rows.Goals as goal
 
 pub loop-turn-init : goal.loop-turn-init
 loop-turn-init g c = (
-  c.new-tally.ensures.bounded,
-  rw c.new-tally.ensures.exact (omega arith),
-  λ header left has text width. rw c.new-tally.ensures.exact (at_first g.I.Read.remaining c.args.rater.now.differing _ c.args.rows (g.O.Write.contents c.args.output.now) c.args.text.items has text),
+  c.new-score.ensures.bounded,
+  rw c.new-score.ensures.exact (omega arith),
+  λ header left has text width. rw c.new-score.ensures.exact (at_first g.I.Read.remaining c.args.rater.now.differing _ c.args.rows (g.O.Write.contents c.args.output.now) c.args.text.items has text),
 )
 
 pub returns-in-Err-clause-ends : goal.returns-in-Err-clause-ends
 returns-in-Err-clause-ends g c = λ header left has text width.
     stops c.args.rater.now.differing _ (g.O.Write.contents c.args.output.now) _ c.from.result (rw c.from.ensures (rows_may _))
-    (inr (failed g.I.Read.remaining c.args.rater.now.differing _ c.loop-turn.rows _ _ _ c.loop-turn.text.items c.loop-turn.tally (c.loop-turn.invariant.2 header left has text width)
+    (inr (failed g.I.Read.remaining c.args.rater.now.differing _ c.loop-turn.rows _ _ _ c.loop-turn.text.items c.loop-turn.score (c.loop-turn.invariant.2 header left has text width)
     (some_written _ _ c.loop-turn.text.items true (rw c.as_slice.ensures.value at c.in_ok-write_rest-in-Err.ensures.wrote))))
 
 pub returns-in_err-write_rest-in-Err-clause-ends : goal.returns-in_err-write_rest-in-Err-clause-ends
 returns-in_err-write_rest-in-Err-clause-ends g c = λ header left has text width.
     failed_ends c.args.rater.now.differing _ (g.O.Write.contents c.args.output.now) _ c.from_residual.result _ c.from_residual.ensures.1
     c.in_err-write_rest-in-Err.ensures.fault.why_is
-    (failed g.I.Read.remaining c.args.rater.now.differing _ c.loop-turn.rows _ _ _ c.loop-turn.text.items c.loop-turn.tally (c.loop-turn.invariant.2 header left has text width)
+    (failed g.I.Read.remaining c.args.rater.now.differing _ c.loop-turn.rows _ _ _ c.loop-turn.text.items c.loop-turn.score (c.loop-turn.invariant.2 header left has text width)
     (rw c.as_slice.ensures.value at c.in_err-write_rest-in-Err.ensures.fault.front))
 
 pub returns-in_err-write_rest-clause-ends : goal.returns-in_err-write_rest-clause-ends
 returns-in_err-write_rest-clause-ends g c = λ header left has text width.
     failed_ends c.args.rater.now.differing _ (g.O.Write.contents c.args.output.now) _ c.from_residual-in_err-write_rest.result _ c.from_residual-in_err-write_rest.ensures.1
     c.in_err-write_rest.ensures.fault.why_is
-    (failed g.I.Read.remaining c.args.rater.now.differing _ c.loop-turn.rows _ _ _ c.loop-turn.text.items c.loop-turn.tally (c.loop-turn.invariant.2 header left has text width)
+    (failed g.I.Read.remaining c.args.rater.now.differing _ c.loop-turn.rows _ _ _ c.loop-turn.text.items c.loop-turn.score (c.loop-turn.invariant.2 header left has text width)
     (rw c.as_slice-then-not-found.ensures.value at c.in_err-write_rest.ensures.fault.front))
 
 pub returns-then-not-found-clause-ends : goal.returns-then-not-found-clause-ends
 returns-then-not-found-clause-ends g c = λ header left has text width.
     let way = c.loop-turn.invariant.2 header left has text width in
-    all_written g.I.Read.remaining c.args.rater.now.differing _ c.loop-turn.rows _ _ _ c.loop-turn.text.items c.loop-turn.tally way
+    all_written g.I.Read.remaining c.args.rater.now.differing _ c.loop-turn.rows _ _ _ c.loop-turn.text.items c.loop-turn.score way
     (rw c.if-not-found.true at (c.in-Ok.ensures.takes (map shown way.left) way.has)) (rw c.as_slice-then-not-found.ensures.value at c.in_ok-write_rest.ensures.wrote)
 
 pub returns-in_err-add_row-clause-ends : goal.returns-in_err-add_row-clause-ends
 returns-in_err-add_row-clause-ends g c = λ header left has text width.
     stopped_ends c.args.rater.now.differing _ (g.O.Write.contents c.args.output.now) _ c.from_residual-in_err-add_row.result _ c.from_residual-in_err-add_row.ensures.1 tt
-    (inr (in_part g.I.Read.remaining c.args.rater.now.differing _ c.loop-turn.rows _ _ c.loop-turn.text.items c.loop-turn.tally (c.loop-turn.invariant.2 header left has text width)))
+    (inr (in_part g.I.Read.remaining c.args.rater.now.differing _ c.loop-turn.rows _ _ c.loop-turn.text.items c.loop-turn.score (c.loop-turn.invariant.2 header left has text width)))
 
 pub returns-in_err-send-clause-ends : goal.returns-in_err-send-clause-ends
 returns-in_err-send-clause-ends g c = λ header left has text width.
     let way = c.loop-turn.invariant.2 header left has text width in
-    let more = row_more g.I.Read.remaining c.args.rater.now.differing _ c.loop-turn.rows c.next_row.new.self _ _ c.loop-turn.text.items c.add_row.new.text.items c.loop-turn.tally c.add_row.new.tally way
+    let more = row_more g.I.Read.remaining c.args.rater.now.differing _ c.loop-turn.rows c.next_row.new.self _ _ c.loop-turn.text.items c.add_row.new.text.items c.loop-turn.score c.add_row.new.score way
     (rw c.if-not-found.false at (c.in-Ok.ensures.takes (map shown way.left) way.has)) (rw (← width, c.row.ensures) at c.in_ok-add_row.ensures.adds) in
     failed_ends c.args.rater.now.differing _ (g.O.Write.contents c.args.output.now) _ c.from_residual-in_err-send.result _ c.from_residual-in_err-send.ensures.1
     c.in_err-send.ensures.fault.why_is
-    (failed g.I.Read.remaining c.args.rater.now.differing _ c.next_row.new.self _ _ _ c.add_row.new.text.items c.add_row.new.tally more c.in_err-send.ensures.fault.front)
+    (failed g.I.Read.remaining c.args.rater.now.differing _ c.next_row.new.self _ _ _ c.add_row.new.text.items c.add_row.new.score more c.in_err-send.ensures.fault.front)
 
 pub loop-turn-preserved : goal.loop-turn-preserved
 loop-turn-preserved g c = (
@@ -58,11 +58,11 @@ loop-turn-preserved g c = (
   omega (arith, c.in_ok-add_row.ensures.one, c.loop-turn.invariant.1),
   λ header left has text width.
       let way = c.loop-turn.invariant.2 header left has text width in
-      let more = row_more g.I.Read.remaining c.args.rater.now.differing _ c.loop-turn.rows c.next_row.new.self _ _ c.loop-turn.text.items c.add_row.new.text.items c.loop-turn.tally c.add_row.new.tally way
+      let more = row_more g.I.Read.remaining c.args.rater.now.differing _ c.loop-turn.rows c.next_row.new.self _ _ c.loop-turn.text.items c.add_row.new.text.items c.loop-turn.score c.add_row.new.score way
       (rw c.if-not-found.false at (c.in-Ok.ensures.takes (map shown way.left) way.has)) (rw (← width, c.row.ensures) at c.in_ok-add_row.ensures.adds) in
-      sent_more g.I.Read.remaining c.args.rater.now.differing _ c.next_row.new.self _ _ _ c.add_row.new.text.items c.send.new.text.items c.add_row.new.tally more c.in_ok-send.ensures.sends,
+      sent_more g.I.Read.remaining c.args.rater.now.differing _ c.next_row.new.self _ _ _ c.add_row.new.text.items c.send.new.text.items c.add_row.new.score more c.in_ok-send.ensures.sends,
 )
 
 pub returns-clause-ends : goal.returns-clause-ends
 returns-clause-ends g c = λ header left has text width.
-    inr (in_part g.I.Read.remaining c.args.rater.now.differing _ c.loop-turn.rows _ _ c.loop-turn.text.items c.loop-turn.tally (c.loop-turn.invariant.2 header left has text width))
+    inr (in_part g.I.Read.remaining c.args.rater.now.differing _ c.loop-turn.rows _ _ c.loop-turn.text.items c.loop-turn.score (c.loop-turn.invariant.2 header left has text width))

@@ -1,9 +1,9 @@
 use Rattle.std.proofs.Common.{refl, ap, true, ◌≡◌}
 use Rattle.std.proofs.lemmas.List.Elements.{All-map}
 use Rattle.run_laws.specs.Runs.{HasAccounts}
-use Rattle.run_texts.specs.Happenings.{ScriptEvent, is_in_time}
+use Rattle.run_texts.specs.Happenings.{RowData, is_in_time}
 use Rattle.run_texts.specs.Inputs.{input_in}
-use Rattle.run_texts.specs.Views.{script_event, with_digits}
+use Rattle.run_texts.specs.Views.{row_data, with_digits}
 use Rattle.run_command.proofs.setting_up.set_up.Goals as goal
 
 pub returns-clause-start : goal.returns-clause-start
@@ -26,7 +26,7 @@ returns-clause-start c =
       range = record {
         accounts = accounts;
         few = c.in_ok-texts.ensures.within.accounts;
-        recharges = All-map (λ (event : ScriptEvent). is_in_time event.what ≡ true) script_event texts.script.items c.in_ok-texts.ensures.in_time;
+        recharges = All-map (λ (row : RowData). is_in_time row.what ≡ true) row_data texts.script.items c.in_ok-texts.ensures.in_time;
       };
       says = refl;
     }

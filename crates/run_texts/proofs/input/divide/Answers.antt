@@ -1,4 +1,4 @@
-use Rattle.run_texts.proofs.PartLemmas.{too_many}
+use Rattle.run_texts.proofs.SectionLemmas.{too_many}
 use Rattle.run_texts.proofs.input.divide.Goals as goal
 
 pub returns-in-Some : goal.returns-in-Some

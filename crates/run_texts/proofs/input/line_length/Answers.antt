@@ -1,4 +1,4 @@
-use Rattle.run_texts.proofs.PartLemmas.{ended_line, last_line}
+use Rattle.run_texts.proofs.SectionLemmas.{ended_line, last_line}
 use Rattle.run_texts.proofs.input.line_length.Goals as goal
 
 pub returns-in-Some-clause-line : goal.returns-in-Some-clause-line

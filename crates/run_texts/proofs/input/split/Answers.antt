@@ -1,6 +1,6 @@
 use Rattle.std.proofs.Common.{arith, sym, ◌∙◌}
-use Rattle.run_texts.specs.Parts.{lines_in_text}
-use Rattle.run_texts.proofs.PartLemmas.{divided_here, goes_on, not_divided, nothing_before}
+use Rattle.run_texts.specs.Sections.{lines_in_text}
+use Rattle.run_texts.proofs.SectionLemmas.{divided_here, goes_on, not_divided, nothing_before}
 use Rattle.run_texts.proofs.input.split.Goals as goal
 
 pub loop-start-init : goal.loop-start-init

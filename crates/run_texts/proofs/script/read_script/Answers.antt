@@ -3,7 +3,7 @@ use Rattle.std.proofs.lemmas.List.Elements.{All-push}
 use Rattle.table_core.specs.Rows.{rows_of}
 use Rattle.table_core.specs.Tables.{table_of}
 use Rattle.table_core.proofs.Known.{map_known}
-use Rattle.table_core.proofs.TableLemmas.{ended, header_stays, not_opened, opened, refused, refuses, row_columns, stopped, taken, said_so}
+use Rattle.table_core.proofs.TableLemmas.{ended, header_stays, not_opened, opened, refused, refuses, row_columns, stopped, taken, fault_says}
 use Rattle.run_texts.specs.Scripts.{first_to_last, script_form, script_of}
 use Rattle.run_texts.specs.Happenings.{is_in_time}
 use Rattle.run_texts.specs.Views.{happens_of}
@@ -15,14 +15,14 @@ use Rattle.run_texts.proofs.script.read_script.Goals as goal
 pub returns-in_err-table-clause-means : goal.returns-in_err-table-clause-means
 returns-in_err-table-clause-means g c =
     let form = script_form c.args.directory.now.accounts in
-    said_so (g.I.Read.remaining c.args.reader) _ c.from_residual.result c.in_err-table.field-0.0 _ (λ text. script_of c.args.directory.now.accounts (rows_of text)) c.from_residual.ensures.1
+    fault_says (g.I.Read.remaining c.args.reader) _ c.from_residual.result c.in_err-table.field-0.0 _ (λ text. script_of c.args.directory.now.accounts (rows_of text)) c.from_residual.ensures.1
     (not_opened form g.I.Read.remaining _ c.in_err-table.field-0.0 c.in_err-table.ensures.opens)
     (λ text. refuses form (λ row why. refl) first_to_last (λ why. refl) c.in_err-table.field-0.0 (table_of form (rows_of text)))
 
 pub returns-in_err-next_row-clause-means : goal.returns-in_err-next_row-clause-means
 returns-in_err-next_row-clause-means g c =
     let form = script_form c.args.directory.now.accounts in
-    said_so (g.I.Read.remaining c.args.reader) _ c.from_residual-in_err-next_row.result c.in_err-next_row.field-0.0 _ (λ text. script_of c.args.directory.now.accounts (rows_of text)) c.from_residual-in_err-next_row.ensures.1
+    fault_says (g.I.Read.remaining c.args.reader) _ c.from_residual-in_err-next_row.result c.in_err-next_row.field-0.0 _ (λ text. script_of c.args.directory.now.accounts (rows_of text)) c.from_residual-in_err-next_row.ensures.1
     (stopped form g.I.Read.remaining _ c.loop-rows.table c.next_row.new.self _ c.loop-rows.invariant.so_far c.in_err-next_row.field-0.0 c.in_err-next_row.ensures.steps)
     (λ text. refuses form (λ row why. refl) first_to_last (λ why. refl) c.in_err-next_row.field-0.0 (table_of form (rows_of text)))
 

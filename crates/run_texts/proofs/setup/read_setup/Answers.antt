@@ -1,13 +1,13 @@
 use Rattle.std.proofs.Common.{refl, arith}
 use Rattle.table_core.specs.Rows.{rows_of}
-use Rattle.table_core.proofs.TableLemmas.{ended, header_stays, not_opened, opened, refused, refuses, row_columns, stopped, taken, said_so}
+use Rattle.table_core.proofs.TableLemmas.{ended, header_stays, not_opened, opened, refused, refuses, row_columns, stopped, taken, fault_says}
 use Rattle.run_texts.specs.Setups.{setup_form, table_setup_of}
 use Rattle.run_texts.proofs.FieldLemmas.{setup_columns}
 use Rattle.run_texts.proofs.setup.read_setup.Goals as goal
 
 pub returns-in_err-table-clause-means : goal.returns-in_err-table-clause-means
 returns-in_err-table-clause-means g c =
-    said_so (g.I.Read.remaining c.args.reader) _ c.from_residual.result c.in_err-table.field-0.0 _ (λ text. table_setup_of (rows_of text)) c.from_residual.ensures.1
+    fault_says (g.I.Read.remaining c.args.reader) _ c.from_residual.result c.in_err-table.field-0.0 _ (λ text. table_setup_of (rows_of text)) c.from_residual.ensures.1
     (not_opened setup_form g.I.Read.remaining _ c.in_err-table.field-0.0 c.in_err-table.ensures.opens)
     (λ text. refuses setup_form (λ row why. refl) (λ all. all) (λ why. refl) c.in_err-table.field-0.0 (table_setup_of (rows_of text)))
 
@@ -21,12 +21,12 @@ loop-directory-init g c = record {
 
 pub returns-in_err-next_row-clause-means : goal.returns-in_err-next_row-clause-means
 returns-in_err-next_row-clause-means g c =
-    said_so (g.I.Read.remaining c.args.reader) _ c.from_residual-in_err-next_row.result c.in_err-next_row.field-0.0 _ (λ text. table_setup_of (rows_of text)) c.from_residual-in_err-next_row.ensures.1
+    fault_says (g.I.Read.remaining c.args.reader) _ c.from_residual-in_err-next_row.result c.in_err-next_row.field-0.0 _ (λ text. table_setup_of (rows_of text)) c.from_residual-in_err-next_row.ensures.1
     (stopped setup_form g.I.Read.remaining _ c.loop-directory.table c.next_row.new.self _ c.loop-directory.invariant.so_far c.in_err-next_row.field-0.0 c.in_err-next_row.ensures.steps)
     (λ text. refuses setup_form (λ row why. refl) (λ all. all) (λ why. refl) c.in_err-next_row.field-0.0 (table_setup_of (rows_of text)))
 
-pub enter-requires-clause-fields : goal.enter-requires-clause-fields
-enter-requires-clause-fields g c =
+pub list_row-requires-clause-fields : goal.list_row-requires-clause-fields
+list_row-requires-clause-fields g c =
     let next = rw c.if-branch.true at c.in_ok-next_row.ensures.moves in
     rw c.row.ensures
     (setup_columns _ _ (header_stays setup_form g.I.Read.remaining _ c.loop-directory.table c.next_row.new.self _ c.loop-directory.invariant.so_far next)
@@ -36,7 +36,7 @@ pub loop-directory-preserved : goal.loop-directory-preserved
 loop-directory-preserved g c =
     let next = rw c.if-branch.true at c.in_ok-next_row.ensures.moves in
     record {
-      within = omega (arith, next.within, next.same.limit, c.loop-directory.invariant.so_far.limit);
+      within = omega (arith, next.within, next.same.most_rows, c.loop-directory.invariant.so_far.most_rows);
       few = c.in-Ok.ensures.few;
       count = omega (arith, next.number, c.in-Ok.ensures.count, c.loop-directory.invariant.count);
       so_far = taken setup_form g.I.Read.remaining _ c.loop-directory.table c.next_row.new.self _ c.loop-directory.invariant.so_far _

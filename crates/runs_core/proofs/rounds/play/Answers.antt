@@ -23,7 +23,7 @@ loop-preserved g c =
           _ _ _ _ _ _ _ more.0 before.0 more.1 (search rules) (search rules) more.2,
       c.play_round.ensures.count ∙ before.1,
       c.play_round.ensures.promises ∙ before.2,
-      c.play_round.ensures.plan ∙ before.3,
+      c.play_round.ensures.agenda ∙ before.3,
       none_failed _ _ true c.play_round.ensures.failed (search rules),
     )
 

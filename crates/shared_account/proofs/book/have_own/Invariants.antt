@@ -1,6 +1,6 @@
 use Rattle.std.proofs.Common.{◌≡◌, take, map}
 use Rattle.std.specs.Prelude.{All}
-use Rattle.account_core.specs.Events.{entry_data}
+use Rattle.account_core.specs.Entries.{entry_data}
 use Rattle.shared_account.specs.Own.{own}
 use Rattle.shared_account.proofs.book.have_own.Given as goal
 

@@ -1,5 +1,5 @@
 use Rattle.std.proofs.Common.{rules, arith, ap, ◌∙◌}
-use Rattle.account_core.specs.Events.{entry_data}
+use Rattle.account_core.specs.Entries.{entry_data}
 use Rattle.shared_account.proofs.Merging.{next_own}
 use Rattle.shared_account.proofs.book.is_own.Goals.{then-at-mine-via-then-at-mine, then-at-mine-via-else-at-mine+then-not-same_entry}
 use Rattle.shared_account.proofs.book.is_own.Goals as goal

@@ -1,5 +1,5 @@
 use Rattle.std.proofs.Common.{◌≡◌, ◌≤◌, take, map, length}
-use Rattle.account_core.specs.Events.{entry_data}
+use Rattle.account_core.specs.Entries.{entry_data}
 use Rattle.shared_account.specs.Own.{own}
 use Rattle.shared_account.proofs.book.is_own.Given as goal
 

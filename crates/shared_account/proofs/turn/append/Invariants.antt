@@ -1,4 +1,4 @@
-use Rattle.account_core.specs.Events.{entry_data}
+use Rattle.account_core.specs.Entries.{entry_data}
 use Rattle.shared_account.proofs.turn.append.Given as goal
 
 abbrev pub ghosts-append_as : goal.ghosts-append_as

@@ -1,5 +1,5 @@
 use Rattle.std.proofs.Common.{rules}
-use Rattle.account_core.specs.Events.{entry_data}
+use Rattle.account_core.specs.Entries.{entry_data}
 use Rattle.shared_account.proofs.Turning.{appends_as}
 use Rattle.shared_account.proofs.turn.append_as.Goals as goal
 

@@ -22,8 +22,8 @@ returns-clause-book c =
     let all : are_all c.args.count (map (λ (s : TurnSeatView). s.number) seats) ≡ true = sym whole ∙ response in
     let numbered = (first_by (length (map (λ (s : TurnSeatView). s.number) seats) == c.args.count) (are_numbered 0 (map (λ (s : TurnSeatView). s.number) seats)) all).1 in
     let have : HaveEnded account 0 (map (λ (s : TurnSeatView). s.view) seats) = subst (HaveEnded account 0) c.gather-chair.ensures.taken c.clear.ensures.each in
-    let others : All (λ event. event.seat < length (map (λ (s : TurnSeatView). s.view) seats)) account.history =
-    subst (λ (lasts : List Ledger). All (λ event. event.seat < length lasts) account.history) c.gather-chair.ensures.taken c.clear.ensures.no_others in
+    let others : All (λ entry. entry.seat < length (map (λ (s : TurnSeatView). s.view) seats)) account.history =
+    subst (λ (lasts : List Ledger). All (λ entry. entry.seat < length lasts) account.history) c.gather-chair.ensures.taken c.clear.ensures.no_others in
     subst (IsBookOf _ (map own_of seats)) (sym c.new.ensures) (record {
       account = refl;
       opening = c.clear.ensures.opening;

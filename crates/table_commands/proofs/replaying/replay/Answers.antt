@@ -1,8 +1,8 @@
 use Rattle.std.proofs.Common.{[], ◌∷◌, ◌++◌, None, ap, refl, string_bytes, sym}
-use Rattle.account_core.specs.Events.{asked_of}
+use Rattle.account_core.specs.Entries.{asked_of}
 use Rattle.table_core.specs.Rows.{rows_of}
 use Rattle.table_core.proofs.Known.{map_known}
-use Rattle.table_core.proofs.TableLemmas.{ended, header_stays, not_opened, opened, refused, refuses, row_columns, stopped, taken, said_so}
+use Rattle.table_core.proofs.TableLemmas.{ended, header_stays, not_opened, opened, refused, refuses, row_columns, stopped, taken, fault_says}
 use Rattle.table_commands.specs.AskingOf.{asking_of}
 use Rattle.table_commands.specs.Asks.{asks_form, asks_of}
 use Rattle.table_commands.specs.Replays.{replayed_lines, replayed}
@@ -11,7 +11,7 @@ use Rattle.table_commands.proofs.replaying.replay.Goals as goal
 
 pub returns-in_err-table : goal.returns-in_err-table
 returns-in_err-table g c =
-    said_so (g.I.Read.remaining c.args.reader) _ c.from_residual.result c.in_err-table.field-0.0 _ (λ text. replayed c.args.opening c.args.limit (rows_of text)) c.from_residual.ensures.1
+    fault_says (g.I.Read.remaining c.args.reader) _ c.from_residual.result c.in_err-table.field-0.0 _ (λ text. replayed c.args.opening c.args.limit (rows_of text)) c.from_residual.ensures.1
     (not_opened asks_form g.I.Read.remaining _ c.in_err-table.field-0.0 c.in_err-table.ensures.opens)
     (λ text. refuses asks_form (λ row why. refl) (replayed_lines c.args.opening None c.args.limit []) (λ why. refl) c.in_err-table.field-0.0 (asks_of (rows_of text)))
 
@@ -27,7 +27,7 @@ loop-text-init g c = (
 pub returns-in_err-next_row : goal.returns-in_err-next_row
 returns-in_err-next_row g c =
     let (asks, ledger, read, teller_is, replay) = c.loop-text.invariant in
-    said_so (g.I.Read.remaining c.args.reader) _ c.from_residual-in_err-next_row.result c.in_err-next_row.field-0.0 _ (λ text. replayed c.args.opening c.args.limit (rows_of text)) c.from_residual-in_err-next_row.ensures.1
+    fault_says (g.I.Read.remaining c.args.reader) _ c.from_residual-in_err-next_row.result c.in_err-next_row.field-0.0 _ (λ text. replayed c.args.opening c.args.limit (rows_of text)) c.from_residual-in_err-next_row.ensures.1
     (stopped asks_form g.I.Read.remaining _ c.loop-text.table c.next_row.new.self asks read c.in_err-next_row.field-0.0 c.in_err-next_row.ensures.steps)
     (λ text. refuses asks_form (λ row why. refl) (replayed_lines c.args.opening None c.args.limit []) (λ why. refl) c.in_err-next_row.field-0.0 (asks_of (rows_of text)))
 
@@ -35,7 +35,7 @@ pub read_ask-requires : goal.read_ask-requires
 read_ask-requires g c =
     let (asks, ledger, read, teller_is, replay) = c.loop-text.invariant in
     let next = rw c.if-branch.true at c.in_ok-next_row.ensures.moves in
-    rw (c.at.ensures, c.header.ensures, c.row.ensures)
+    rw (c.of_header.ensures, c.header.ensures, c.row.ensures)
     (has_operation _ _ (header_stays asks_form g.I.Read.remaining _ c.loop-text.table c.next_row.new.self asks read next)
     (row_columns asks_form g.I.Read.remaining _ c.loop-text.table c.next_row.new.self asks read next))
 
@@ -43,7 +43,7 @@ pub returns-in-Err : goal.returns-in-Err
 returns-in-Err g c =
     let (asks, ledger, read, teller_is, replay) = c.loop-text.invariant in
     let next = rw c.if-branch.true at c.in_ok-next_row.ensures.moves in
-    let why = rw (c.row.ensures, c.at.ensures, c.header.ensures, next.same.header) at (sym c.in-Err.ensures) in
+    let why = rw (c.row.ensures, c.of_header.ensures, c.header.ensures, next.same.header) at (sym c.in-Err.ensures) in
     rw c.fault.ensures (map_known (g.I.Read.remaining c.args.reader) _ _
     (refused asks_form g.I.Read.remaining _ c.loop-text.table c.next_row.new.self asks read c.in-Err.kind
     next (rw c.if-branch.true at c.in_ok-next_row.ensures.steps) (rw why refl))
@@ -59,7 +59,7 @@ loop-text-preserved g c =
     let (asks, ledger, read, teller_is, replay) = c.loop-text.invariant in
     let ask = c.in-Ok.ask in
     let next = rw c.if-branch.true at c.in_ok-next_row.ensures.moves in
-    let asked = rw (c.row.ensures, c.at.ensures, c.header.ensures, next.same.header) at (sym c.in-Ok.ensures) in
+    let asked = rw (c.row.ensures, c.of_header.ensures, c.header.ensures, next.same.header) at (sym c.in-Ok.ensures) in
     let answers = c.apply.ensures in (
       asks ++ asking_of ask ∷ [],
       ledger_after ledger ask.seat (asked_of ask.op) c.apply.result,

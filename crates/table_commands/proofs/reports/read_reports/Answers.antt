@@ -1,7 +1,7 @@
 use Rattle.std.proofs.Common.{refl, sym}
 use Rattle.table_core.specs.Rows.{rows_of}
 use Rattle.table_core.specs.Tables.{table_of}
-use Rattle.table_core.proofs.TableLemmas.{ended, not_opened, opened, refused, refuses, row_width, stopped, taken, said_so}
+use Rattle.table_core.proofs.TableLemmas.{ended, not_opened, opened, refused, refuses, row_width, stopped, taken, fault_says}
 use Rattle.tariff_core.specs.RatesOf.{rates_of}
 use Rattle.table_commands.specs.Reports.{last_times_after, reports_form, table_reports_of}
 use Rattle.table_commands.proofs.ReportLemmas.{last_more}
@@ -10,7 +10,7 @@ use Rattle.table_commands.proofs.reports.read_reports.Goals as goal
 pub returns-in_err-table : goal.returns-in_err-table
 returns-in_err-table g c =
     let form = reports_form (rates_of c.args.plan.now) in
-    said_so (g.I.Read.remaining c.args.reader) _ c.from_residual.result c.in_err-table.field-0.0 _ (λ text. table_reports_of (rates_of c.args.plan.now) (rows_of text)) c.from_residual.ensures.1
+    fault_says (g.I.Read.remaining c.args.reader) _ c.from_residual.result c.in_err-table.field-0.0 _ (λ text. table_reports_of (rates_of c.args.plan.now) (rows_of text)) c.from_residual.ensures.1
     (not_opened form g.I.Read.remaining _ c.in_err-table.field-0.0 c.in_err-table.ensures.opens)
     (λ text. refuses form (λ row why. refl) (λ all. all) (λ why. refl) c.in_err-table.field-0.0 (table_of form (rows_of text)))
 
@@ -23,7 +23,7 @@ loop-reports-init g c =
 pub returns-in_err-next_row : goal.returns-in_err-next_row
 returns-in_err-next_row g c =
     let form = reports_form (rates_of c.args.plan.now) in
-    said_so (g.I.Read.remaining c.args.reader) _ c.from_residual-in_err-next_row.result c.in_err-next_row.field-0.0 _ (λ text. table_reports_of (rates_of c.args.plan.now) (rows_of text)) c.from_residual-in_err-next_row.ensures.1
+    fault_says (g.I.Read.remaining c.args.reader) _ c.from_residual-in_err-next_row.result c.in_err-next_row.field-0.0 _ (λ text. table_reports_of (rates_of c.args.plan.now) (rows_of text)) c.from_residual-in_err-next_row.ensures.1
     (stopped form g.I.Read.remaining _ c.loop-reports.table c.next_row.new.self _ c.loop-reports.invariant.1 c.in_err-next_row.field-0.0 c.in_err-next_row.ensures.steps)
     (λ text. refuses form (λ row why. refl) (λ all. all) (λ why. refl) c.in_err-next_row.field-0.0 (table_of form (rows_of text)))
 

@@ -3,7 +3,7 @@ use Rattle.std.specs.Prelude.{◌&&◌}
 use Rattle.tariff_core.specs.Bands.{counts_on, has_band}
 use Rattle.tariff_core.specs.Tariff.{band_of}
 use Rattle.tariff_core.proofs.IndexLemmas.{counts_key, finds_at, key_above, key_below, key_day, one_more}
-use Rattle.tariff_core.proofs.RangeLemmas.{place_at}
+use Rattle.tariff_core.proofs.RangeLemmas.{band_key_at}
 use Rattle.tariff_core.proofs.WeekdayLemmas.{none_of_weekdays, some_weekday}
 use Rattle.tariff_core.proofs.bands.is_repeated.Goals as goal
 use Rattle.tariff_core.proofs.bands.is_repeated.Goals.{else-counts_on-via-then-counts_on+else-contains_key, else-counts_on-via-else-counts_on}
@@ -27,9 +27,9 @@ loop-day-preserved c bands indexed =
     one_more c.args.by_days (λ weekday. (counts_on weekday band && has_band band.prefix weekday band.start bands) ≡ false) c.loop-day.day (c.loop-day.invariant bands indexed) (λ weekday key.
     elim c.else-counts_on.branch [
       | else-counts_on-via-then-counts_on+else-contains_key w ↦
-          let asked = rw w.place.ensures at w.contains_key.ensures in
+          let asked = rw w.key.ensures at w.contains_key.ensures in
           not_second (counts_on weekday band) (has_band band.prefix weekday band.start bands)
-          (sym (finds_at c.args.by_days c.args.index.now bands (place_at c.args.row.now.prefix c.loop-day.day c.args.row.now.start) weekday indexed key) ∙ sym asked ∙ w.if-contains_key.false)
+          (sym (finds_at c.args.by_days c.args.index.now bands (band_key_at c.args.row.now.prefix c.loop-day.day c.args.row.now.start) weekday indexed key) ∙ sym asked ∙ w.if-contains_key.false)
       | else-counts_on-via-else-counts_on w ↦
           not_first (counts_on weekday band) (has_band band.prefix weekday band.start bands)
           (sym (counts_key c.args.by_days band weekday c.loop-day.day c.requires key.key) ∙ sym c.counts_on.ensures ∙ w.if-counts_on.false)
@@ -39,11 +39,11 @@ pub returns-then-contains_key : goal.returns-then-contains_key
 returns-then-contains_key c bands indexed =
     let band = band_of c.args.row.now in
     let (weekday, key) = key_day c.args.by_days c.keys-first.result.0 c.keys-first.result.1 c.loop-day.day c.keys-first.ensures.first c.keys-first.ensures.end c.loop-day.auto.day c.loop-day-test.true in
-    let asked = rw c.place.ensures at c.contains_key.ensures in
+    let asked = rw c.key.ensures at c.contains_key.ensures in
     let p : ℕ → Bool = λ day. counts_on day band && has_band band.prefix day band.start bands in
     sym (some_weekday p weekday key.low key.high (both (counts_on weekday band) (has_band band.prefix weekday band.start bands)
     (sym (counts_key c.args.by_days band weekday c.loop-day.day c.requires key.key) ∙ sym c.counts_on.ensures ∙ c.if-counts_on.true)
-    (sym (finds_at c.args.by_days c.args.index.now bands (place_at c.args.row.now.prefix c.loop-day.day c.args.row.now.start) weekday indexed key) ∙ sym asked ∙ c.if-contains_key.true)))
+    (sym (finds_at c.args.by_days c.args.index.now bands (band_key_at c.args.row.now.prefix c.loop-day.day c.args.row.now.start) weekday indexed key) ∙ sym asked ∙ c.if-contains_key.true)))
 
 pub returns : goal.returns
 returns c bands indexed =

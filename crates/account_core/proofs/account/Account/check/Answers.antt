@@ -1,6 +1,6 @@
 use Rattle.std.proofs.Common.{List, subst, sym}
 use Rattle.account_core.specs.Checked.{IsCheckOf}
-use Rattle.account_core.specs.Events.{EntryData}
+use Rattle.account_core.specs.Entries.{EntryData}
 use Rattle.account_core.proofs.Walking.{past_more, past_to}
 use Rattle.account_core.proofs.account.Account.check.Goals as goal
 

@@ -1,7 +1,7 @@
 use Rattle.std.proofs.Common.{arith, ◌++◌, ◌∷◌, [], ap, length, ◌∙◌}
 use Rattle.std.specs.Vec.{vec_capacity}
 use Rattle.std.proofs.lemmas.List.{length-append, length-map}
-use Rattle.account_core.specs.Events.{entry_data}
+use Rattle.account_core.specs.Entries.{entry_data}
 use Rattle.account_core.proofs.Keeping.{admits, kept_entered, places_enough, shown}
 use Rattle.account_core.proofs.account.Account.enter.Goals as goal
 

@@ -1,5 +1,5 @@
 use Rattle.std.proofs.Common.{◌≡◌, Some, ap, reverse, sym, ◌∙◌}
-use Rattle.account_core.specs.Events.{asked_of}
+use Rattle.account_core.specs.Entries.{asked_of}
 use Rattle.account_core.specs.declared.fault.AccountFault.TheVariants as fault
 use Rattle.account_core.proofs.Entering.{never_gated}
 use Rattle.account_core.proofs.account.Teller.admit.Goals as goal

@@ -1,5 +1,5 @@
 use Rattle.std.proofs.Common.{arith, ◌+◌, reverse, subst, sym}
-use Rattle.account_core.specs.Events.{asked_of, entry_data}
+use Rattle.account_core.specs.Entries.{asked_of, entry_data}
 use Rattle.account_core.specs.Tellers.{IsTellerOf, entered}
 use Rattle.account_core.specs.declared.tally.Tally.{Tally}
 use Rattle.account_core.proofs.Entering.{answered_by, credit_entered, funds_fit, teller_entered}

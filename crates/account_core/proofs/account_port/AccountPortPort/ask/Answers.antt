@@ -1,4 +1,4 @@
-use Rattle.account_core.specs.Events.{asked_of}
+use Rattle.account_core.specs.Entries.{asked_of}
 use Rattle.account_core.proofs.FittingAnswers.{account_moves}
 use Rattle.account_core.proofs.account_port.AccountPortPort.ask.Goals as goal
 

@@ -3,7 +3,7 @@ use Rattle.std.proofs.lemmas.Option.{IfSome_then}
 use Rattle.std.proofs.lemmas.Result.{IfErr-weaker, IfOk-weaker}
 use Rattle.account_core.specs.Asked.{call_of}
 use Rattle.account_core.specs.Checked.{IsCheckOf}
-use Rattle.account_core.specs.Events.{EntryData, asked_of}
+use Rattle.account_core.specs.Entries.{EntryData, asked_of}
 use Rattle.account_core.specs.Known.{known, nothing_known}
 use Rattle.account_core.proofs.history_check.HistoryCheck.hear.Goals as goal
 

@@ -1,7 +1,7 @@
 use Rattle.std.proofs.Common.{◌≡◌, ◌∙◌, [], List, ap, length, subst, sym}
 use Rattle.account_core.specs.Answers.{IsLegalPast}
 use Rattle.account_core.specs.Checked.{IsHeardOf, IsSumOf, entries_counted}
-use Rattle.account_core.specs.Events.{EntryData}
+use Rattle.account_core.specs.Entries.{EntryData}
 use Rattle.account_core.specs.declared.history_check.Heard.TheVariants.{Nothing}
 use Rattle.account_core.proofs.Entering.{nothing_taken_yet}
 use Rattle.account_core.proofs.SumLemmas.{no_sums}

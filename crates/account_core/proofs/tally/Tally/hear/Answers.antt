@@ -1,5 +1,5 @@
 use Rattle.std.proofs.Common.{◌≡◌, ◌∷◌, None, rules, subst, sym}
-use Rattle.account_core.specs.Events.{entry_data}
+use Rattle.account_core.specs.Entries.{entry_data}
 use Rattle.account_core.specs.Tallied.{IsTallied}
 use Rattle.account_core.specs.declared.tally.Tally.{Tally}
 use Rattle.account_core.proofs.Tallying.{funds_more, tallied_more}

@@ -1,5 +1,5 @@
 use Rattle.std.proofs.Common.{Ok}
-use Rattle.dialogue_core.specs.Table.{on_reply}
+use Rattle.dialogue_core.specs.Rules.{on_reply}
 use Rattle.dialogue_core.specs.Views.{phase_of}
 use Rattle.dialogue_core.proofs.Asking.{fewer_said, got_by}
 use Rattle.dialogue_core.proofs.dialogue.Dialogue.hear.Goals as goal

@@ -1,5 +1,5 @@
 use Rattle.std.proofs.Common.{ap, ◌∙◌}
-use Rattle.account_core.specs.Events.{entry_data}
+use Rattle.account_core.specs.Entries.{entry_data}
 use Rattle.shared_account.specs.Own.{own}
 use Rattle.shared_account.proofs.Ending.{own_data}
 use Rattle.std.proofs.Common.{map}

@@ -1,10 +1,10 @@
 use Rattle.std.proofs.Common.{◌≡◌, reverse, rules}
 use Rattle.std.proofs.lemmas.Result.{IfOk-weaker}
 use Rattle.std.specs.Prelude.{IfErr, IfOk, IsOk}
-use Rattle.account_core.specs.Events.{asked_of}
+use Rattle.account_core.specs.Entries.{asked_of}
 use Rattle.account_core.specs.Ledger.{IsRefusal, answer_of}
-use Rattle.account_core.specs.Places.{IsClosing}
-use Rattle.shared_account.proofs.Owning.{closing_alike}
+use Rattle.account_core.specs.Places.{IsOwed}
+use Rattle.shared_account.proofs.Owning.{owed_alike}
 use Rattle.shared_account.proofs.Refusing.{fits_of, returning_of}
 use Rattle.shared_account.proofs.seat.Seat.apply_to.Goals as goal
 
@@ -21,12 +21,12 @@ returns-in-Reserve-clause-kind c =
 pub returns-in-Reserve-clause-returning : goal.returns-in-Reserve-clause-returning
 returns-in-Reserve-clause-returning c =
     let refused : IfErr c.apply_of_call.result (IsRefusal c.args.account.now (asked_of c.args.op)) = search rules in
-    let closing : IsClosing (reverse c.args.account.now.history) (asked_of c.args.op) → IsClosing (reverse c.args.self.now.mine) (asked_of c.args.op)
+    let is_owed : IsOwed (reverse c.args.account.now.history) (asked_of c.args.op) → IsOwed (reverse c.args.self.now.mine) (asked_of c.args.op)
     → IsOk c.apply_of_call.result = search rules in
-    returning_of c.args.account.now c.args.self.now.mine (asked_of c.args.op) c.apply_of_call.result refused closing
+    returning_of c.args.account.now c.args.self.now.mine (asked_of c.args.op) c.apply_of_call.result refused is_owed
 
 pub returns-in-Reserve-clause-own : goal.returns-in-Reserve-clause-own
-returns-in-Reserve-clause-own c closing same =
-    let both : IsClosing (reverse c.args.account.now.history) (asked_of c.args.op) → IsClosing (reverse c.args.self.now.mine) (asked_of c.args.op)
+returns-in-Reserve-clause-own c is_owed same =
+    let both : IsOwed (reverse c.args.account.now.history) (asked_of c.args.op) → IsOwed (reverse c.args.self.now.mine) (asked_of c.args.op)
     → IsOk c.apply_of_call.result = search rules in
-    both closing (closing_alike c.args.account.now.history c.args.self.now.mine (asked_of c.args.op) closing same)
+    both is_owed (owed_alike c.args.account.now.history c.args.self.now.mine (asked_of c.args.op) is_owed same)

@@ -1,6 +1,6 @@
 use Rattle.std.proofs.Common.{arith, rules, ◌+◌, ◌-◌, ◌++◌, ◌∷◌, [], ap, length, map, reverse, ◌∙◌}
 use Rattle.std.specs.Vec.{vec_capacity}
-use Rattle.account_core.specs.Events.{asked_of, entry_data}
+use Rattle.account_core.specs.Entries.{asked_of, entry_data}
 use Rattle.account_core.specs.declared.entry.Entry.{Entry}
 use Rattle.shared_account.proofs.Roominess.{is_entry, length_past, of_call, owed_after, roomy_after, roomy_pushed, roomy_same}
 use Rattle.shared_account.proofs.seat.Seat.enter_call.Goals as goal

@@ -1,7 +1,7 @@
 use Rattle.std.proofs.Common.{◌≡◌, ◌∷◌, ◌++◌, [], List, ap, sym, subst}
 use Rattle.std.specs.Prelude.{MatchResult}
-use Rattle.account_core.specs.Events.{EntryData, asked_of}
-use Rattle.account_core.specs.Ledger.{event_by}
+use Rattle.account_core.specs.Entries.{EntryData, asked_of}
+use Rattle.account_core.specs.Ledger.{entry_by}
 use Rattle.shared_account.specs.Own.{own}
 use Rattle.shared_account.specs.Plays.{Sitter}
 use Rattle.shared_account.specs.Prefixes.{IsPrefix}
@@ -10,17 +10,17 @@ use Rattle.shared_account.proofs.Calls.{HasGone, gone, owns, sits}
 use Rattle.shared_account.proofs.turn_account.TurnAccount.call.Given.{Over}
 use Rattle.shared_account.proofs.turn_account.TurnAccount.call.Goals as goal
 
-went : (g : Over) (c : goal.After-drop-door g) → HasGone c.seat.inside.chair.me.0 c.enter-result.new.chair.me.0
+went : (g : Over) (c : goal.After-drop-door g) → HasGone c.seat.inside.chair.me.0 c.ask_and_count-result.new.chair.me.0
 went g c =
-    gone c.seat.inside.chair.me.0 c.take_turn.new.chair.me.0 c.take_turn.ensures.later c.enter-result.new.chair.me.0 (event_by c.seat.inside.number (asked_of c.args.op))
-    c.enter-result.result c.enter-result.ensures.entered c.enter-result.ensures.kept
+    gone c.seat.inside.chair.me.0 c.take_turn.new.chair.me.0 c.take_turn.ensures.later c.ask_and_count-result.new.chair.me.0 (entry_by c.seat.inside.number (asked_of c.args.op))
+    c.ask_and_count-result.result c.ask_and_count-result.ensures.entered c.ask_and_count-result.ensures.kept
 
-seen : (g : Over) (c : goal.After-drop-door g) → c.enter-result.new.chair.me.0.seen.history ≡ c.hand_on.new.chair.me.0.seen.history
+seen : (g : Over) (c : goal.After-drop-door g) → c.ask_and_count-result.new.chair.me.0.seen.history ≡ c.hand_on.new.chair.me.0.seen.history
 seen g c = sym (ap (λ (m : Sitter). m.0.seen.history) c.hand_on.ensures.idle)
 
 pub invariant_of-seat : goal.invariant_of-seat
 invariant_of-seat g c =
-    sits c.hand_on.new.chair.me c.seat.inside.chair.me.0 c.enter-result.new.chair.me.0 c.seat.inside.number c.hand_on.ensures.idle (went g c)
+    sits c.hand_on.new.chair.me c.seat.inside.chair.me.0 c.ask_and_count-result.new.chair.me.0 c.seat.inside.number c.hand_on.ensures.idle (went g c)
     c.seat.invariant.number c.seat.invariant.ended c.hand_on.ensures.legal
 
 pub returns-clause-begins : goal.returns-clause-begins
@@ -32,10 +32,10 @@ pub returns-clause-own : goal.returns-clause-own
 returns-clause-own g c =
     let number = c.seat.inside.number in
     let asked = asked_of c.args.op in
-    let response = c.enter-result.result in
+    let response = c.ask_and_count-result.result in
     let before : List EntryData = own number c.seat.inside.chair.me.0.seen.history in
-    let O : List EntryData → Type 0 = λ h. MatchResult response (λ reply. own number h ≡ before ++ event_by number asked reply ∷ []) (λ _. own number h ≡ before) in
+    let O : List EntryData → Type 0 = λ h. MatchResult response (λ reply. own number h ≡ before ++ entry_by number asked reply ∷ []) (λ _. own number h ≡ before) in
     let S : TurnSeatView → Type 0 = λ s. let now = own number c.hand_on.new.chair.me.0.seen.history in
-    MatchResult response (λ reply. now ≡ own_of s ++ event_by s.number asked reply ∷ []) (λ _. now ≡ own_of s) in
-    subst S c.seat.view_is (subst O (seen g c) (owns c.seat.inside.chair.me.0 c.take_turn.new.chair.me.0 c.take_turn.ensures.later c.enter-result.new.chair.me.0 asked number response
-    c.seat.invariant.number c.enter-result.ensures.entered c.enter-result.ensures.kept))
+    MatchResult response (λ reply. now ≡ own_of s ++ entry_by s.number asked reply ∷ []) (λ _. now ≡ own_of s) in
+    subst S c.seat.view_is (subst O (seen g c) (owns c.seat.inside.chair.me.0 c.take_turn.new.chair.me.0 c.take_turn.ensures.later c.ask_and_count-result.new.chair.me.0 asked number response
+    c.seat.invariant.number c.ask_and_count-result.ensures.entered c.ask_and_count-result.ensures.kept))

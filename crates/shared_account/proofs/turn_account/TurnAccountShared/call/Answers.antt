@@ -1,8 +1,8 @@
-use Rattle.account_core.specs.Events.{asked_of}
+use Rattle.account_core.specs.Entries.{asked_of}
 use Rattle.shared_account.proofs.Calls.{ends_kindly}
-use Rattle.account_core.specs.Ledger.{event_by}
+use Rattle.account_core.specs.Ledger.{entry_by}
 use Rattle.shared_account.specs.TurnViews.{own_of}
-use Rattle.shared_account.proofs.Seeing.{closes_alone}
+use Rattle.shared_account.proofs.Seeing.{owed_alone}
 use Rattle.shared_account.proofs.Refusing.{returned_by}
 use Rattle.shared_account.proofs.turn_account.TurnAccountShared.call.Goals as goal
 
@@ -10,8 +10,8 @@ pub returns-clause-kind : goal.returns-clause-kind
 returns-clause-kind g c = ends_kindly _ _ _ _ _ (asked_of c.args.op) c.call.result c.call.ensures.legal c.call.ensures.ends
 
 pub returns-clause-returning : goal.returns-clause-returning
-returns-clause-returning g c return closing = returned_by c.call.new.seat.view (asked_of c.args.op) c.call.result c.call.ensures.refused c.call.ensures.closing return
+returns-clause-returning g c return is_owed = returned_by c.call.new.seat.view (asked_of c.args.op) c.call.result c.call.ensures.refused c.call.ensures.owed return
 
-pub returns-clause-closing : goal.returns-clause-closing
-returns-clause-closing g c alone closes =
-    closes_alone c.call.new.seat (own_of c.args.seat.now) (event_by c.args.seat.now.number (asked_of c.args.op)) (asked_of c.args.op) c.call.result c.call.ensures.own c.call.ensures.closing alone closes
+pub returns-clause-owed : goal.returns-clause-owed
+returns-clause-owed g c alone closes =
+    owed_alone c.call.new.seat (own_of c.args.seat.now) (entry_by c.args.seat.now.number (asked_of c.args.op)) (asked_of c.args.op) c.call.result c.call.ensures.own c.call.ensures.owed alone closes

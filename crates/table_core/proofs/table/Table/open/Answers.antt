@@ -22,7 +22,7 @@ returns-clause-opens g c = if_known (g.R.Read.remaining c.args.reader) _ (λ tex
     let (rest, rows, left) = rw c.if-not-branch.false at c.in_ok-next_row.ensures.takes (rows_of text) has in
     let found = rw c.in_ok-header.was at c.ok_or.ensures.ok_part in
     let which = which_is c.args.headers.now (fields_of c.row.result.now) ∙ sym c.which_header.ensures ∙ found in
-    opens_at g.R.Read.remaining (headers_of c.args.headers.now) (record { rows = c.next_row.new.self; header = c.in_ok-header.header; width = c.len.result; limit = c.args.limit; number = 1; fault = None; within = omega arith; counted = c.requires }) (rows_of text) rest (fields_of c.next_row.new.self.row) rows (rw c.row.ensures at which)
+    opens_at g.R.Read.remaining (headers_of c.args.headers.now) (record { rows = c.next_row.new.self; header = c.in_ok-header.header; width = c.len.result; most_rows = c.args.most_rows; number = 1; fault = None; within = omega arith; counted = c.requires }) (rows_of text) rest (fields_of c.next_row.new.self.row) rows (rw c.row.ensures at which)
     (rw c.row-2.ensures at c.len.ensures) refl left)
 
 pub returns-clause-first : goal.returns-clause-first
@@ -30,7 +30,7 @@ returns-clause-first g c =
     let found = rw c.in_ok-header.was at c.ok_or.ensures.ok_part in
     let which = which_is c.args.headers.now (fields_of c.row.result.now) ∙ sym c.which_header.ensures ∙ found in
     record {
-      limit = refl;
+      most_rows = refl;
       number = refl;
       header = header_there (headers_of c.args.headers.now) (fields_of c.row.result.now) c.in_ok-header.header which;
       width = c.len.ensures ∙ rw (c.row-2.ensures, ← c.row.ensures) (width_of_header (headers_of c.args.headers.now) _ _ which);

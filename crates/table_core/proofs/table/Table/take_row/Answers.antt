@@ -9,12 +9,12 @@ returns-then-not-branch-clause-steps g c = λ left has. rw c.if-not-branch.true 
 pub returns-then-len-self-clause-steps : goal.returns-then-len-self-clause-steps
 returns-then-len-self-clause-steps g c = λ left has.
     let (rest, left_are, more) = rw c.if-not-branch.false at c.in_ok-next_row.ensures.takes left has.1 in
-    record { fields = _; rest = rest; left_are = left_are; row_is = refl; has = wrong_width c.args.self.now.limit c.args.self.now.width _ _ (λ same. c.if-len-self.true (c.len.ensures ∙ ap (λ row. length (fields_of row)) c.row.ensures ∙ same)) }
+    record { fields = _; rest = rest; left_are = left_are; row_is = refl; has = wrong_width c.args.self.now.most_rows c.args.self.now.width _ _ (λ same. c.if-len-self.true (c.len.ensures ∙ ap (λ row. length (fields_of row)) c.row.ensures ∙ same)) }
 
 pub returns-then-self-clause-steps : goal.returns-then-self-clause-steps
 returns-then-self-clause-steps g c = λ left has.
     let (rest, left_are, more) = rw c.if-not-branch.false at c.in_ok-next_row.ensures.takes left has.1 in
-    record { fields = _; rest = rest; left_are = left_are; row_is = refl; has = too_many c.args.self.now.limit c.args.self.now.width _ _ (rw (c.len.ensures, c.row.ensures) at c.if-len-self.false) (omega (arith, c.if-self.true)) }
+    record { fields = _; rest = rest; left_are = left_are; row_is = refl; has = too_many c.args.self.now.most_rows c.args.self.now.width _ _ (rw (c.len.ensures, c.row.ensures) at c.if-len-self.false) (omega (arith, c.if-self.true)) }
 
 pub returns-clause-steps : goal.returns-clause-steps
 returns-clause-steps g c = λ left has.

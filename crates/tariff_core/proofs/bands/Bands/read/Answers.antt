@@ -7,7 +7,7 @@ use Rattle.table_core.specs.Rows.{rows_of}
 use Rattle.table_core.proofs.TableLemmas.{ended, header_stays, not_opened, opened, refused, row_columns, stopped, taken}
 use Rattle.tariff_core.specs.Bands.{Band}
 use Rattle.tariff_core.specs.Tariff.{Indexes, band_of}
-use Rattle.tariff_core.specs.declared.place.Place.{Place}
+use Rattle.tariff_core.specs.declared.band_key.BandKey.{BandKey}
 use Rattle.tariff_core.specs.declared.row.Row.{Row}
 use Rattle.tariff_core.specs.TariffTable.{GivesBands, bands_of, tariff_form}
 use Rattle.tariff_core.specs.declared.tariff_fault.TariffKind.TheVariants as kind
@@ -49,7 +49,7 @@ judge-requires g c =
     (row_columns tariff_form g.R.Read.remaining _ c.loop-found.table c.next_row.new.self _ c.loop-found.invariant.so_far next))
 
 -- the index, by the header of the row
-by_header : (by_days : Bool) (kept row header : ℕ) (index : BTreeMap Place Row) (bands : List Band) → by_days ≡ nat_le 3 kept → row ≡ kept → header ≡ row
+by_header : (by_days : Bool) (kept row header : ℕ) (index : BTreeMap BandKey Row) (bands : List Band) → by_days ≡ nat_le 3 kept → row ≡ kept → header ≡ row
     → Indexes by_days index bands → Indexes (nat_le 3 header) index bands
 by_header by_days kept row header index bands has_days same is indexed =
     let days = has_days ∙ ap (λ h. nat_le 3 h) (sym (is ∙ same)) in subst (λ by_days. Indexes by_days index bands) days indexed
@@ -84,7 +84,7 @@ loop-found-preserved g c =
     (by_header _ _ _ _ c.loop-found.index _ c.loop-found.invariant.has_days next.same.header c.header.ensures c.loop-found.invariant.indexed)) in
     record {
       counted = omega (arith, next.number, c.loop-found.invariant.counted, count_more _ _ c.in-Ok-judge.row kept.rows);
-      within = omega (arith, next.within, next.same.limit, c.loop-found.invariant.so_far.limit);
+      within = omega (arith, next.within, next.same.most_rows, c.loop-found.invariant.so_far.most_rows);
       has_days = c.loop-found.invariant.has_days ∙ ap (λ header. nat_le 3 header) (sym next.same.header);
       indexed = keeps_indexed _ _ _ _ _ c.in-Ok-judge.row c.loop-found.invariant.indexed kept
           (taken_band (header_of c.loop-found.table) _ (fields_of (row_of_table c.next_row.new.self)) (band_of c.in-Ok-judge.row) read).1;

@@ -3,7 +3,7 @@ use Rattle.std.specs.Prelude.{All}
 use Rattle.std.proofs.lemmas.Bool.{cases_lt}
 use Rattle.tariff_core.specs.Bands.{counts_on, weekday}
 use Rattle.tariff_core.specs.Digits.{text_of_digits}
-use Rattle.tariff_core.specs.declared.place.Place.{Place}
+use Rattle.tariff_core.specs.declared.band_key.BandKey.{BandKey}
 use Rattle.tariff_core.specs.declared.row.Row.{Row}
 use Rattle.tariff_core.specs.declared.times.TheConstants.{DAY}
 use Rattle.tariff_core.proofs.PrefixLemmas.{keyed_at}
@@ -27,7 +27,7 @@ returns-in_err-row-clause-none c =
 
 pub returns-clause-row : goal.returns-clause-row
 returns-clause-row c =
-    let e : Place × Row = (c.in_ok-row.field-0-0.now, c.in_ok-row.row.now) in
+    let e : BandKey × Row = (c.in_ok-row.field-0-0.now, c.in_ok-row.row.now) in
     let entry = first_is c.self.inside.by_days (weekday c.args.now) c.key_of-day.result (keyed_at _ c.args.now _ _ c.weekday.ensures.value c.key_of-day.ensures) c.args.prefix (c.since_midnight-start.result + 1) 864000 c.self.inside.index c.self.inside.rows.items c.range.result
     c.self.invariant.indexed (c.range.ensures.in_range tt) e c.next.new.self c.in_ok-row.ensures.steps in
     let soonest = first_soonest c.self.inside.by_days (weekday c.args.now) c.key_of-day.result (keyed_at _ c.args.now _ _ c.weekday.ensures.value c.key_of-day.ensures) c.args.prefix (c.since_midnight-start.result + 1) 864000 c.self.inside.index c.self.inside.rows.items c.range.result

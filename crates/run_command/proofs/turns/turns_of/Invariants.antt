@@ -1,7 +1,0 @@
-use Rattle.std.proofs.Common.{◌≡◌, ◌++◌, map}
-use Rattle.std.specs.Vec.Iter.{into_iter_items}
-use Rattle.run_command.proofs.turns.turns_of.Given as goal
-
--- the turns so far have the scripts before those that are left
-abbrev pub invariant-loop-script : goal.invariant-loop-script
-invariant-loop-script l = map (λ turn. turn.script) l.turns.items ++ into_iter_items l.script-iterator ≡ l.fn.scripts.items
