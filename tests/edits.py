@@ -317,13 +317,17 @@ def rows_of(path):
         return {row[1]: row[0] for row in re.finditer(r"^\| `(\w+)` \|.*\n", it.read(), re.M)}
 
 
+def changed(crate, name):
+    """Returns the functions that an edit changes, as its row on the page of its crate has them."""
+    return ", ".join(sorted(f"`{it.name}`" for it in crate.functions.get(name, ())))
+
+
 def page(crate, given, rows):
     """The page of a crate: these rows, and for each edit that was refused, the functions that it changes and the goal that stays open."""
     for name, (_, why) in (it for it in given.items() if it[1][0]):
-        changed = ", ".join(sorted(f"`{it.name}`" for it in crate.functions.get(name, ())))
         goal = re.search(r"`(\w+(?:-\w+)+)`", why)
         clause = goal and re.search(r"-clause-(\w+)$", goal[1])
-        rows[name] = f"| `{name}` | {changed} | {f'clause `{clause[1]}`' if clause else f'goal `{goal[1]}`' if goal else 'its proof'} |\n"
+        rows[name] = f"| `{name}` | {changed(crate, name)} | {f'clause `{clause[1]}`' if clause else f'goal `{goal[1]}`' if goal else 'its proof'} |\n"
     head = f"# What refuses the edits of {crate.name}\n\n`tests/edits.py --pages {crate.name}` has tried them and written this page. "
     head += "A goal that is no clause is on the way to one.\n\n"
     return head + "| Edit | Changes | Refused by |\n|---|---|---|\n" + "".join(rows[it] for it in sorted(rows))

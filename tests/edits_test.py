@@ -1,10 +1,10 @@
 #!/usr/bin/env python3
-"""Tells of edits that went stale, and tries the program that tries edits.
+"""Names edits that went stale, and tries the program that tries edits.
 
 Each edit of must-fail/ and edits/, in each crate, names files that are there, and each of its old texts is in its file
 once; no two edits of a crate have the same name; must-fail/ has one edit of a function, and one at least for a crate
-whose code is edited; and each row of docs/edits is of an edit that is there. Then the program is tried on a crate with
-edits of each kind: it names those that the prover lets through.
+whose code is edited; and each row of docs/edits is of an edit that is there, and names the functions that it changes.
+Then the program is tried on a crate with edits of each kind: it names those that the prover lets through.
 """
 import os
 import re
@@ -58,10 +58,11 @@ EDITS = [
     ("has_a_bare_line", "    x + 1\r    y", "    x", "NOT REFUSED: BAD EDIT: a line begins with none of file:, old: and new:"),
     ("changes_nothing", "    x + 1", "    x + 1", "NOT REFUSED: BAD EDIT: an old text is its new one"),
 ]
-# An edit of two lines, and a page of two rows.
+# An edit of two lines, and a page of three rows.
 TWO_LINES = "file: src/lib.rt\nold: {\nold:     x + 1\nnew: {\nnew:     x + 2\n"
 PAGE = """| Edit | Changes | Refused by |
 |---|---|---|
+| `adds_one` | `after` | clause `value` |
 | `adds_two` | `after` | clause `value` |
 | `is_gone` | `after` | clause `value` |
 """
@@ -76,6 +77,7 @@ STALE = [
     "sample/adds_two: two edits have this name",
     "sample: must-fail/ has two edits of after",
     "docs/edits/sample.md: no edit is named is_gone",
+    "docs/edits/sample.md: adds_one changes `second_after`",
 ]
 LAST = """not refused: sample/answers_another
 not refused: sample/changes_nothing
@@ -104,7 +106,10 @@ def stale(root):
         said += [f"{name}/{it}: two edits have this name" for it in sorted(set(names)) if names.count(it) > 1]
         said += twins(root, crate)
         page = f"docs/edits/{name}.md"
-        said += [f"{page}: no edit is named {it}" for it in edits.rows_of(f"{root}/{page}") if it not in names]
+        rows = edits.rows_of(f"{root}/{page}")
+        said += [f"{page}: no edit is named {it}" for it in rows if it not in names]
+        changed = {it: edits.changed(crate, it) for it in rows if it in names}
+        said += [f"{page}: {it} changes {changed[it]}" for it in changed if rows[it].split(" | ")[1] != changed[it]]
     return said
 
 
