@@ -12,7 +12,7 @@ SOURCES := crates.txt $(shell find crates -path '*/out' -prune -o -name '*.rt' -
 all: bin/prepaid
 
 bin/prepaid: $(SOURCES)
-	cd crates/prepaid && rt all check --jobs $(JOBS)
+	cd crates/prepaid_command && rt all check --jobs $(JOBS)
 	cd crates/prepaid && rt run --jobs $(JOBS) -- --help > /dev/null
 	mkdir -p bin out/proved
 	rt version > out/proved/prepaid
