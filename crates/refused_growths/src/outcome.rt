@@ -19,8 +19,8 @@ pub(crate) enum Outcome {
     Answered = 0,
     /// An answer, or what a call has left, was another than it has to be.
     Wrong = 1,
-    /// Want of memory was reported and nothing was changed; where it was made again, it answered as
-    /// with memory.
+    /// Out of memory was reported and nothing was changed; where the call was made again, it answered
+    /// as with memory.
     Refused = 2,
     /// The same, but when it was made again it found no memory once more.
     RefusedAgain = 3,
@@ -43,7 +43,7 @@ pub(crate) fn worse_of(one: Outcome, other: Outcome) -> Outcome {
     if one == Outcome::Answered { other } else { one }
 }
 
-/// Want of memory, or a fault that has no place here.
+/// Out of memory, or a fault that has no place here.
 fn refused_if(is_memory: bool) -> Outcome {
     if is_memory {
         Outcome::Refused
