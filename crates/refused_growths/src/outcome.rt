@@ -19,8 +19,8 @@ pub(crate) enum Outcome {
     Answered = 0,
     /// An answer, or what a call has left, was another than it has to be.
     Wrong = 1,
-    /// Out of memory was reported and nothing was changed; where the call was made again, it answered
-    /// as with memory.
+    /// Out of memory was reported and nothing was changed; where the call was made again, it
+    /// answered as with memory.
     Refused = 2,
     /// The same, but when it was made again it found no memory once more.
     RefusedAgain = 3,
