@@ -21,8 +21,6 @@ mod lengths;
 #[cfg(test)]
 mod looking;
 #[cfg(test)]
-mod prices;
-#[cfg(test)]
 mod program;
 #[cfg(test)]
 mod quotes;
