@@ -1,8 +1,6 @@
 """Worked prices of reports, and the first fault of their table."""
-from rows import Row, refused
+from rows import PRICE, Row, refused
 
-# What `price` takes in most rows.
-PRICE = "price --fee 50 --before 1000"
 # A rate without a fee.
 SINGLE = "price --fee 0 --before 1000"
 

@@ -1,7 +1,6 @@
 //! Readers and writers that fail.
 
 use crate::program::{PRICE, expect_refusal, run};
-use crate::runs::input_of;
 use std::alloc::Global;
 use std::io::{self, ErrorKind, Read, Write};
 use std::test::Fail;
@@ -163,7 +162,8 @@ fn a_failed_error_writer_has_a_front_of_the_line(rt: HostRuntime) -> Result<(), 
 
 #[test]
 fn prints_refusals_behind_a_whole_output_alone(rt: HostRuntime) -> Result<(), Fail> {
-    let input = input_of(rt.alloc(), "", "account,7,5\n", "0,,recharge,7,0\n")?;
+    let input = "prefix,from,fee,rate\n%%\nkind,key,value\naccount,7,5\n%%\nmoment,call,what,x,y\n\
+                 0,,recharge,7,0\n";
     let text = b"account 7 opening 5 available 5 entries 0\n";
     let line = b"prepaid: refused: 1 OutOfRange\n";
     for room in 0..=text.len() {

@@ -1,28 +1,22 @@
-//! Quotes: worked rows of a tariff, and what `quote` refuses.
+"""Quotes: worked rows of a tariff, and what `quote` refuses."""
+from rows import BAND, Row, refused
 
-use crate::program::{expect, expect_fault};
-use std::test::Fail;
+# One band, all day.
+FLAT = f"prefix,from,fee,rate\n{BAND}"
+# A band from midnight on and one from 08:00 on.
+TWO_BANDS = "prefix,from,fee,rate\n49,00:00,50,1000\n49,08:00,60,400\n"
+# A minute free, and calls to all other numbers.
+FREE = "prefix,from,fee,rate,free\n49,00:00,50,1000,600\n,00:00,0,1,0\n,12:34,1,2,3\n"
 
-/// One band, all day.
-const FLAT: &str = "prefix,from,fee,rate\n49,00:00,50,1000\n";
+# Dear by day, less at night, and at the weekend.
+WEEKEND = (
+    "prefix,from,fee,rate,free,first,step,days\n49,00:00,50,400,0,0,1,12345\n"
+    "49,08:00,60,1000,0,0,1,12345\n49,00:00,70,300,0,0,1,67\n"
+)
 
-/// A band from midnight on and one from 08:00 on.
-const TWO_BANDS: &str = "prefix,from,fee,rate\n49,00:00,50,1000\n49,08:00,60,400\n";
-
-/// A minute free, and calls to all other numbers.
-const FREE: &str = "prefix,from,fee,rate,free\n49,00:00,50,1000,600\n,00:00,0,1,0\n,12:34,1,2,3\n";
-
-/// Dear by day, less at night, and at the weekend.
-const WEEKEND: &str = "prefix,from,fee,rate,free,first,step,days\n49,00:00,50,400,0,0,1,12345\n\
-    49,08:00,60,1000,0,0,1,12345\n49,00:00,70,300,0,0,1,67\n";
-
-/// Words, a tariff, and the lines of the quote.
-const QUOTED: [(&str, &str, &str); 22] = [
-    (
-        "quote --called 49 --at 08:00",
-        WEEKEND,
-        "prefix 49 from 08:00 fee 60 rate 1000 free 0\nswitch 864000 rate 400\n",
-    ),
+# Words, a tariff, and the lines of the quote.
+QUOTED = [
+    ("quote --called 49 --at 08:00", WEEKEND, "prefix 49 from 08:00 fee 60 rate 1000 free 0\nswitch 864000 rate 400\n"),
     (
         "quote --called 49 --at 1970-01-02T23:59:59 --for 610 --clock",
         WEEKEND,
@@ -43,11 +37,7 @@ const QUOTED: [(&str, &str, &str); 22] = [
         WEEKEND,
         "prefix 49 from 00:00 fee 50 rate 400 free 0\nswitch 1970-01-05T08:00:00.0 rate 1000\n",
     ),
-    (
-        "quote --called 4930 --at 0",
-        FLAT,
-        "prefix 49 from 00:00 fee 50 rate 1000 free 0\n",
-    ),
+    ("quote --called 4930 --at 0", FLAT, "prefix 49 from 00:00 fee 50 rate 1000 free 0\n"),
     (
         "quote --called 4930 --at 1000000000000 --for 300 --credit 1500",
         FLAT,
@@ -68,11 +58,7 @@ const QUOTED: [(&str, &str, &str); 22] = [
         TWO_BANDS,
         "prefix 49 from 00:00 fee 50 rate 1000 free 0\nswitch 288000 rate 400\nprice 1050\n",
     ),
-    (
-        "quote --called 49 --at 5138-11-16T09:46:40",
-        FLAT,
-        "prefix 49 from 00:00 fee 50 rate 1000 free 0\n",
-    ),
+    ("quote --called 49 --at 5138-11-16T09:46:40", FLAT, "prefix 49 from 00:00 fee 50 rate 1000 free 0\n"),
     (
         "quote --clock --called 4930 --at 07:59 --for 900 --credit 1500",
         TWO_BANDS,
@@ -93,45 +79,21 @@ const QUOTED: [(&str, &str, &str); 22] = [
         TWO_BANDS,
         "prefix 49 from 08:00 fee 60 rate 400 free 0\nswitch 864000 rate 1000\nprice 1061\n",
     ),
-    (
-        "quote --called 491 --at 0 --for 0",
-        FREE,
-        "prefix 49 from 00:00 fee 50 rate 1000 free 600\nprice 0\n",
-    ),
+    ("quote --called 491 --at 0 --for 0", FREE, "prefix 49 from 00:00 fee 50 rate 1000 free 600\nprice 0\n"),
     (
         "quote --called 491 --at 0 --for 300 --credit 49",
         FREE,
         "prefix 49 from 00:00 fee 50 rate 1000 free 600\nprice 50\nafford 0\n",
     ),
-    (
-        "quote --credit 50 --at 0 --called 491",
-        FREE,
-        "prefix 49 from 00:00 fee 50 rate 1000 free 600\nafford 600\n",
-    ),
-    (
-        "quote --called 33 --at 12:33",
-        FREE,
-        "prefix - from 00:00 fee 0 rate 1 free 0\nswitch 452400 rate 2\n",
-    ),
-    (
-        "quote --called 123456789012345 --at 23:59",
-        FREE,
-        "prefix - from 12:34 fee 1 rate 2 free 3\nswitch 864000 rate 1\n",
-    ),
-    (
-        "quote --called 33 --at 0 --for 300 --credit 1500",
-        FLAT,
-        "no route\n",
-    ),
-    (
-        "quote --called 33 --at 0",
-        "prefix,from,fee,rate\n",
-        "no route\n",
-    ),
-];
+    ("quote --credit 50 --at 0 --called 491", FREE, "prefix 49 from 00:00 fee 50 rate 1000 free 600\nafford 600\n"),
+    ("quote --called 33 --at 12:33", FREE, "prefix - from 00:00 fee 0 rate 1 free 0\nswitch 452400 rate 2\n"),
+    ("quote --called 123456789012345 --at 23:59", FREE, "prefix - from 12:34 fee 1 rate 2 free 3\nswitch 864000 rate 1\n"),
+    ("quote --called 33 --at 0 --for 300 --credit 1500", FLAT, "no route\n"),
+    ("quote --called 33 --at 0", "prefix,from,fee,rate\n", "no route\n"),
+]
 
-/// Words that ask for no quote.
-const REFUSED: [&str; 19] = [
+# Words that ask for no quote.
+REFUSED = [
     "quote",
     "quote --called 49",
     "quote --at 0",
@@ -151,41 +113,22 @@ const REFUSED: [&str; 19] = [
     "quote --called 49 --at 0 --at 0",
     "quote --called 49 --at 0 60s",
     "quote --called 49 --at 0 --clock --clock",
-];
+]
 
-/// Tariffs that are refused, and their first fault.
-const FAULTS: [(&str, &str); 5] = [
-    (
-        "prefix,from,fee,rate,free,first,step,days\n49,00:00,0,0,0,0,1,76\n",
-        "tariff row 2: Days",
-    ),
+# Tariffs that are refused, and their first fault.
+FAULTS = [
+    ("prefix,from,fee,rate,free,first,step,days\n49,00:00,0,0,0,0,1,76\n", "tariff row 2: Days"),
     ("", "tariff row 1: Header"),
-    (
-        "prefix,from,fee,rate\n4x,00:00,0,0\n",
-        "tariff row 2: Digits",
-    ),
-    (
-        "prefix,from,fee,rate\n49,00:01,0,0\n",
-        "tariff row 2: NoMidnightBand",
-    ),
+    ("prefix,from,fee,rate\n4x,00:00,0,0\n", "tariff row 2: Digits"),
+    ("prefix,from,fee,rate\n49,00:01,0,0\n", "tariff row 2: NoMidnightBand"),
     ("prefix,from,fee,rate\n49,00:00,0\n", "tariff row 2: Csv"),
-];
+]
 
-#[test]
-fn quotes_calls(rt: HostRuntime) -> Result<(), Fail> {
-    for (words, tariff, lines) in QUOTED {
-        expect(&rt, words, tariff, (0, lines, ""))?;
-    }
-    Ok(())
-}
 
-#[test]
-fn refuses_quotes(rt: HostRuntime) -> Result<(), Fail> {
-    for words in REFUSED {
-        expect(&rt, words, FLAT, (1, "", "prepaid: arguments\n"))?;
-    }
-    for (tariff, fault) in FAULTS {
-        expect_fault(&rt, "quote --called 49 --at 0", tariff, fault)?;
-    }
-    Ok(())
-}
+def rows():
+    for words, tariff, lines in QUOTED:
+        yield Row(words, tariff, lines)
+    for words in REFUSED:
+        yield refused(words, FLAT, "arguments")
+    for tariff, fault in FAULTS:
+        yield refused("quote --called 49 --at 0", tariff, fault)

@@ -1,17 +1,14 @@
-//! Words that are refused, each option at the ends of its range, and help.
+"""Words that are refused, each option at the ends of its range, and help."""
+import re
 
-use crate::program::{expect, run};
-use crate::runs::{BAND, input_of};
-use std::test::Fail;
+from rows import BAND, Row, refused, run_input
 
-const ARGUMENTS: &str = "prepaid: arguments\n";
+ARGUMENTS = "prepaid: arguments\n"
+CONFIG = "prepaid: input: Config\n"
+WORKERS = "prepaid: run: Workers\n"
 
-const CONFIG: &str = "prepaid: input: Config\n";
-
-const WORKERS: &str = "prepaid: run: Workers\n";
-
-/// Words that are no request. Between two spaces is an empty word.
-const REFUSED: [&str; 24] = [
+# Words that are no request. Between two spaces is an empty word.
+REFUSED = [
     "",
     "prices",
     "price",
@@ -36,10 +33,10 @@ const REFUSED: [&str; 24] = [
     "audit --long yes",
     "audit --Long",
     "audit more",
-];
+]
 
-/// Words after `run`, the status, and the fault. An empty word is after a space at the end.
-const OPTIONS: [(&str, u8, &str); 52] = [
+# Words after `run`, the status, and the fault. An empty word is after a space at the end.
+OPTIONS = [
     ("run --workers 0", 2, WORKERS),
     ("run --workers 1", 0, ""),
     ("run --workers 17", 2, WORKERS),
@@ -92,48 +89,21 @@ const OPTIONS: [(&str, u8, &str); 52] = [
     ("run --book --book", 1, ARGUMENTS),
     ("run more", 1, ARGUMENTS),
     ("run --delay 2 --delay 2", 1, ARGUMENTS),
-];
+]
 
-#[test]
-fn judges_words(rt: HostRuntime) -> Result<(), Fail> {
-    for words in REFUSED {
-        expect(&rt, words, "before,after\n", (1, "", ARGUMENTS))?;
-    }
-    let input = input_of(rt.alloc(), BAND, "", "")?;
-    for (words, status, fault) in OPTIONS {
-        expect(&rt, words, input.as_str(), (status, "", fault))?;
-    }
-    Ok(())
-}
+# Words that ask for a help.
+HELPS = ["--help", "help", "price --help", "replay --help", "run --help", "audit --help", "quote --help", "help run"]
 
-#[test]
-fn prints_help(rt: HostRuntime) -> Result<(), Fail> {
-    for words in [
-        "--help",
-        "help",
-        "price --help",
-        "replay --help",
-        "run --help",
-        "audit --help",
-        "quote --help",
-        "help run",
-    ] {
-        let mut output = Vec::new(rt.alloc());
-        let mut faults = Vec::new(rt.alloc());
-        let nothing: &[u8] = b"";
-        let status = run(&rt, words, nothing, &mut output, &mut faults)?;
-        assert_eq!(rt; (status, faults.len()), (0, 0), "of {words:?}");
-        assert!(rt; output.ends_with(b"\n".as_slice()), "of {words:?}");
-        assert!(rt; output.len() > 50, "of {words:?}");
-    }
-    Ok(())
-}
+# A text of more than 50 bytes, which ends with a line end.
+HELP = re.compile(rb"(?s).{50,}\n")
 
-#[test]
-fn prints_version(rt: HostRuntime) -> Result<(), Fail> {
-    let version = "prepaid 2026-11-26\n";
-    for words in ["--version", "-V"] {
-        expect(&rt, words, "", (0, version, ""))?;
-    }
-    Ok(())
-}
+
+def rows():
+    for words in REFUSED:
+        yield refused(words, "before,after\n", "arguments")
+    for words, status, fault in OPTIONS:
+        yield Row(words, run_input(BAND, "", ""), "", fault, status)
+    for words in HELPS:
+        yield Row(words, "", HELP)
+    for words in ["--version", "-V"]:
+        yield Row(words, "", "prepaid 2026-11-26\n")

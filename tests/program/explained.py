@@ -1,0 +1,131 @@
+"""What is said of a fault behind its line, where that is asked for."""
+from rows import PRICE, Row
+
+# Reports, and what is said of their fault: its line, where it is, and what is wrong there.
+PRICES = [
+    ("before,after\n600\n", "reports row 2: Csv\nline 2 of the input: 600\n", "1 field, and the header has 2: before,after\n"),
+    (
+        "before;after\n",
+        "reports row 1: Header\nline 1 of the input: before;after\n",
+        "wanted: before,after\nfound: before;after\nthe separator is a comma\n",
+    ),
+    ("", "reports row 1: Header\n", "wanted: before,after\nfound: no row\n"),
+    (
+        "before,after\n600,x",
+        "reports row 2: Number\nline 2 of the input: 600,x\n",
+        "column after: x is no decimal of 1 to 20 digits\n",
+    ),
+    (
+        "before,after\r\n\r\n864001,0\r\n",
+        "reports row 2: Number\nline 3 of the input: 864001,0\n",
+        "column before: 864001 is above 864000\n",
+    ),
+    (
+        "before,after\n600,0\n500,0\n",
+        "reports row 3: Order\nline 3 of the input: 500,0\n",
+        "times 500,0 may not follow 600,0 in row 2\n",
+    ),
+    (
+        "before,after\n1\0\x7f,0",
+        "reports row 2: Number\nline 2 of the input: 1\\x00\\x7f,0\n",
+        "column before: 1\\x00\\x7f is no decimal of 1 to 20 digits\n",
+    ),
+    (
+        'before,after\n600,0\n"700,0\n800,0\n',
+        'reports row 3: Csv\nline 3 of the input: "700,0\n',
+        "1 field, and the header has 2: before,after\na quote is open since line 3\n",
+    ),
+]
+
+# A setup of a run, from its third row on, with the tariff in front of it.
+ACCOUNT = "prefix,from,fee,rate\n49,00:00,50,1000\n%%\nkind,key,value\naccount,7,5000\n"
+# The rest of an input behind that setup, up to the second row of the script.
+SCRIPT = "%%\nmoment,call,what,x,y\n10,1,start,491700001,4930\n"
+
+# Rows of a setup or of a script, and what is said of the last.
+RUNS = [
+    (
+        "",
+        "20,1,hangup,,\n",
+        "script row 3: What\n"
+        "line 9 of the input: 20,1,hangup,,\n"
+        "column what: hangup; one of start, answer, busy, noanswer, routefail, abandon, disconnect, recharge\n",
+    ),
+    (
+        "",
+        "20,1,answered,,\n",
+        "script row 3: What\n"
+        "line 9 of the input: 20,1,answered,,\n"
+        "column what: answered; one of start, answer, busy, noanswer, routefail, abandon, disconnect, recharge\n"
+        "the nearest is answer\n",
+    ),
+    (
+        "",
+        "20,1,answer,5,\n",
+        "script row 3: Empty\nline 9 of the input: 20,1,answer,5,\ncolumn x: 5, where answer takes nothing\n",
+    ),
+    ("", "5,1,answer,,\n", "script row 3: Order\nline 9 of the input: 5,1,answer,,\nmoment 5 lies below 10 in row 2\n"),
+    (
+        "",
+        "20,1,start,491700001,4930\n",
+        "script row 3: Repeated\nline 9 of the input: 20,1,start,491700001,4930\ncall 1 is in row 2 already\n",
+    ),
+    (
+        "",
+        "20,2,answer,,\n",
+        "script row 3: Unknown\nline 9 of the input: 20,2,answer,,\ncall 2 isn't started in an earlier row\n",
+    ),
+    ("", "20,,recharge,8,1\n", "script row 3: Unknown\nline 9 of the input: 20,,recharge,8,1\naccount 8 isn't in the setup\n"),
+    ("account,007,1\n", "", "setup row 3: Repeated\nline 6 of the input: account,007,1\naccount 007 is in row 2 already\n"),
+    (
+        "subscriber,491700001,8\n",
+        "",
+        "setup row 3: Unknown\nline 6 of the input: subscriber,491700001,8\naccount 8 isn't above this row\n",
+    ),
+    (
+        "account,8,1000000000000001\n",
+        "",
+        "setup row 3: Number\n"
+        "line 6 of the input: account,8,1000000000000001\n"
+        "column value: 1000000000000001 is above 1000000000000000\n",
+    ),
+]
+
+# Tariffs, and what `quote` says of them.
+TARIFFS = [
+    (
+        "prefix,from,fee,rate\n49,08:00,50,1000\n49,20:00,0,500\n",
+        "tariff row 2: NoMidnightBand\nline 2 of the input: 49,08:00,50,1000\n",
+        "prefix 49 counts from 08:00 and 20:00, and nothing from 00:00: add 49,00:00,.. with what counts at midnight, "
+        "mostly the row of 20:00\n",
+    ),
+    (
+        "prefix,from,fee,rate\n49,00:00,20.00,1000\n",
+        "tariff row 2: Money\nline 2 of the input: 49,00:00,20.00,1000\n",
+        "column fee: 20.00 is no decimal of 1 to 20 digits\n",
+    ),
+    (
+        "prefix,from,fee,rate\n49,24:00,50,1000\n",
+        "tariff row 2: From\nline 2 of the input: 49,24:00,50,1000\n",
+        "column from: 24:00 is no time of day from 00:00 to 23:59\n",
+    ),
+    (
+        "prefix,from,fee,rate\n49,00:00,50,1000\n49,00:00,60,1000\n",
+        "tariff row 3: Repeated\nline 3 of the input: 49,00:00,60,1000\n",
+        "prefix 49 from 00:00 is in row 2 already\n",
+    ),
+]
+
+
+def explained(words, text, faults):
+    """A row whose fault is named as without the word in front of the command, and is explained behind that."""
+    return Row(f"--explain {words}", text, faults=f"prepaid: {faults}", status=1)
+
+
+def rows():
+    for text, line, more in PRICES:
+        yield explained(PRICE, text, line + more)
+    for setup, script, slip in RUNS:
+        yield explained("run", ACCOUNT + setup + SCRIPT + script, slip)
+    for text, line, more in TARIFFS:
+        yield explained("quote --called 4930 --at 0", text, line + more)
