@@ -4,16 +4,14 @@
 #![tactic(auto)]
 
 #[cfg(test)]
-mod broken;
-#[cfg(test)]
 mod devices;
 #[cfg(test)]
-mod lengths;
+mod inputs;
 #[cfg(test)]
-mod looking;
+mod outputs;
 #[cfg(test)]
 mod program;
 #[cfg(test)]
-mod ratings;
-#[cfg(test)]
 mod served;
+#[cfg(test)]
+mod texts;

@@ -12,9 +12,6 @@ use std::test::Fail;
 use std::thread::Threads;
 use table_commands::Noting;
 
-/// What `price` takes in most tests.
-pub(crate) const PRICE: &str = "price --fee 50 --before 1000";
-
 /// The words of a line, which single spaces part.
 fn words_of(alloc: Global, line: &str) -> Result<Vec<&str>, AllocError> {
     let mut words = Vec::new(alloc);

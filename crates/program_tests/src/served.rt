@@ -1,8 +1,8 @@
 //! The service on a pipe that fails.
 
-use crate::devices::{Failing, Full};
+use crate::devices::Failing;
+use crate::outputs::expect_fronts;
 use crate::program::run;
-use std::alloc::{AllocError, Global};
 use std::io::ErrorKind;
 use std::test::Fail;
 
@@ -46,36 +46,11 @@ const ANSWERED: &str = "\
 const LINES: &str =
     "%%\naccount 7 opening 1500 available 950 entries 3\ncall 1 account 7 paid 550 returned\n";
 
-/// Behind the head, the header and these rows.
-fn input_of(alloc: Global, rows: &str) -> Result<String, AllocError> {
-    format!(in alloc; "{HEAD}{HEADER}{rows}")
-}
-
 #[test]
-fn a_failed_output_has_a_front_of_what_is_printed(rt: HostRuntime) -> Result<(), Fail> {
-    let input = input_of(rt.alloc(), CALL)?;
+fn a_failed_output_has_a_front_of_what_is_answered(rt: HostRuntime) -> Result<(), Fail> {
+    let input = format!(in rt.alloc(); "{HEAD}{HEADER}{CALL}")?;
     let text = format!(in rt.alloc(); "{HEADER}{ANSWERED}{LINES}")?;
-    for step in [usize::MAX, 7] {
-        for room in 0..=text.len() {
-            let mut output = Full::new(rt.alloc(), room);
-            output.step = step;
-            let mut faults = Vec::new(rt.alloc());
-            let status = run(
-                &rt,
-                "serve --lines",
-                input.as_bytes(),
-                &mut output,
-                &mut faults,
-            )?;
-            let wanted = if room < text.len() { 2 } else { 0 };
-            assert_eq!(rt; (status, faults.len()), (wanted, 0), "with room for {room}");
-            assert_eq!(rt;
-                output.taken.as_slice(),
-                text.as_bytes().get(..room).unwrap_or(&[])
-            );
-        }
-    }
-    Ok(())
+    expect_fronts(&rt, ("serve --lines", input.as_str(), text.as_str(), 0, ""))
 }
 
 /// How much is printed of the rows of the messages that came whole.
@@ -101,7 +76,7 @@ fn answered(rows: &str) -> usize {
 
 #[test]
 fn a_failed_input_ends_the_run_with_its_books(rt: HostRuntime) -> Result<(), Fail> {
-    let input = input_of(rt.alloc(), CALL)?;
+    let input = format!(in rt.alloc(); "{HEAD}{HEADER}{CALL}")?;
     let above = HEAD.len() + HEADER.len();
     for length in 0..=input.len() {
         let bytes = input.as_bytes().get(..length).unwrap_or(&[]);
