@@ -90,6 +90,11 @@ def altered_in_a_row(trial):
         ([rows[0], rows[2], rows[1]], 4, "Repeated"),
         ([rows[0], rows[2].replace(b",,", b",2,", 1)], 3, "Order"),
         ([*rows[:5], rows[0], b"x\n"], 7, "Order"),
+        ([b"0,,2,switch,Ended,,,,\n", b"\n"], 3, "Csv"),
+        ([b"0,,2,switch,Ended,,,,\n", b"0,,1,service,Continue,,,,\n"], 3, "What"),
+        ([b"0,1,2,switch,Ended,,,,\n"], 2, "Order"),
+        ([b"5,,2,switch,Ended,,,,\n", b"4,,2,switch,Ended,,,,\n", b"x\n"], 3, "Order"),
+        ([b"5,,2,switch,Ended,,,,\n", b"5,0,2,switch,Ended,,,,\n"], 3, "Repeated"),
     ]
     for lines, row, kind in cases:
         path = trial.new(log + b"".join(lines))
@@ -107,6 +112,7 @@ def begun_otherwise(trial):
     cases = [(talk.text().replace(*it, 1), []) for it in altered]
     cases += [(talk.text(), it) for it in (["--wanted", "601"], ["--least", "51"], ["--tccd", "49"])]
     begins = [b"x", b"\n", b"\x00", b"log,1,600,50,50\r\n", b"log,2,600,50,50\n", b"log,1,600,50,500\n", HEAD]
+    begins += [b"log,1,601,50,50\n", b"log,1,600,50,50\nprefix,from,rate,fee\n"]
     tries = [(log, *it) for log in (talk.logged(4), talk.log) for it in cases]
     tries += [(log, talk.text(), []) for log in (*begins, talk.log[:-1] + b",")]
     for log, text, words in tries:
