@@ -1,7 +1,7 @@
 # The three commands of the README are `make run`, `make` and `make test`.
 SHELL := bash
 PREFIX ?= /usr/local
-# How many crates are proved at once.
+# How many processors prove.
 JOBS = $(shell nproc)
 SOURCES := crates.txt $(shell find crates -path '*/out' -prune -o -name '*.rt' -print -o -name '*.antt' -print)
 
@@ -12,7 +12,7 @@ SOURCES := crates.txt $(shell find crates -path '*/out' -prune -o -name '*.rt' -
 all: bin/prepaid
 
 bin/prepaid: $(SOURCES)
-	cd crates/prepaid_command && rt all check --jobs $(JOBS)
+	JOBS=$(JOBS) tests/prove.py prepaid
 	cd crates/prepaid && rt run --jobs $(JOBS) -- --help > /dev/null
 	mkdir -p bin out/proved
 	rt version > out/proved/prepaid
