@@ -2,8 +2,8 @@
 """Names edits that went stale, and tries the program that tries edits.
 
 Each edit of must-fail/ and edits/, in each crate, names files that are there, and each of its old texts is in its file
-once; no two edits of a crate have the same name; must-fail/ has one edit of a function, and one at least for a crate
-whose code is edited; and each row of docs/edits is of an edit that is there, and names the functions that it changes.
+once; no two edits of a crate have the same name; must-fail/ has one edit of a function; and each row of docs/edits is
+of an edit that is there, and names the functions that it changes.
 Then the program is tried on a crate with edits of each kind: it names those that the prover lets through.
 """
 import os
@@ -114,13 +114,10 @@ def stale(root):
 
 
 def twins(root, crate):
-    """Returns what must-fail/ has too much or too little of: one edit a function, and one at least where code is edited."""
+    """Returns the functions of which must-fail/ has two edits."""
     tried = edits.Crate(root, crate.name, "", edits.FOLDERS[:1])
     functions = [function for it in tried.functions.values() for function in it]
-    said = [f"{crate.name}: must-fail/ has two edits of {it}" for it in sorted({it.name for it in functions if functions.count(it) > 1})]
-    if any(crate.functions.values()) and not tried.edits:
-        said.append(f"{crate.name}: must-fail/ has no edit")
-    return said
+    return [f"{crate.name}: must-fail/ has two edits of {it}" for it in sorted({it.name for it in functions if functions.count(it) > 1})]
 
 
 def lay(root):
@@ -155,7 +152,6 @@ def main():
     with tempfile.TemporaryDirectory(prefix="edits-test-") as root:
         lay(root)
         ran, few = tries(root), tries(root, "sample", "adds_two").stdout
-        bare = stale(root)
         lay_stale(root)
         said = stale(root)
     lost = [name for name, _, _, told in EDITS if f"sample/{name}: {told}" not in ran.stdout]
@@ -163,8 +159,8 @@ def main():
         sys.exit(f"{ran.stdout}edits: FAILED: {' '.join(lost) or 'its last lines or its status'}")
     if "sample/adds_two: refused" not in few or not few.endswith("\n1 refused, 0 not refused\n"):
         sys.exit(f"{few}edits: FAILED: tries more than the edit that it was given")
-    if said != STALE or "sample: must-fail/ has no edit" not in bare:
-        sys.exit("\n".join([*bare, *said, "edits: FAILED: says this of edits that no longer fit"]))
+    if said != STALE:
+        sys.exit("\n".join([*said, "edits: FAILED: says this of edits that no longer fit"]))
     print("edits: all fit; what the prover lets through is named, and what can't be tried: ok")
 
 
