@@ -1,4 +1,5 @@
 pub mod ArgumentLemmas
 pub mod CappedLemmas
 pub mod CommandLemmas
+pub mod RunLemmas
 pub mod WordLemmas

@@ -1,10 +1,12 @@
 -- From what clap says of the words to what they ask for.
 use Rattle.std.proofs.Common.{◌≡◌, true, List, [], Option, Result, Ok, Err, refl, ap, sym, ◌∙◌, subst, inl, inr}
-use Rattle.std.specs.Prelude.{◌⊎◌}
+use Rattle.std.specs.Prelude.{◌⊎◌, IfOk}
 use Rattle.clap.proofs.OnLiterals.{clap_on_literals}
-use Rattle.clap.specs.Words.{App, HasMatchesOf, IsAmong, Row, Text, fault_of, is_simple, is_simple_and_free, subcommand_rows_of}
+use Rattle.std.proofs.lemmas.Result.{IfOk-weaker}
+use Rattle.clap.specs.Words.{App, FailsBy, HasMatchesOf, IsAmong, Row, Text, fault_of, is_simple, is_simple_and_free, subcommand_rows_of}
 use Rattle.clap.specs.declared.error.kind.ErrorKind.{ErrorKind}
 use Rattle.clap.specs.declared.error.kind.ErrorKind.TheVariants as kind
+use Rattle.clap.specs.declared.error.Error.{Error}
 use Rattle.clap.specs.declared.parser.matches.ArgMatches.{ArgMatches}
 use Rattle.command_words.specs.Arguments.{IsRead, IsClapRefusal, IsRequestOf, wish_in}
 use Rattle.command_words.specs.CommandLine.{audit_app, command_in, errors_in, price_app, program_app, quote_app, rate_app, replay_app, run_app, serve_app}
@@ -53,40 +55,34 @@ refused_for_memory words error (Err fault.Arguments) memory is = absurd (is.1 me
 refused_for_memory words error (Err fault.OutOfMemory) memory is = tt
 refused_for_memory words error (Err fault.Config) memory is = absurd is
 
--- `app` is the program's command line, of which clap says its errors and its matches
-pub refusal_read : (app : App) (words : List Text) (error : ErrorKind) (read : Result Request WordsFault) → app ≡ program_app
-    → (is_simple_and_free app ≡ true → (error ≡ kind.OutOfMemory) ⊎ IsAmong error (fault_of app words)) → IsClapRefusal error read → IsRead words read
-unfolding errors_in
-refusal_read app words error read app_is kinds is =
-    let Kinds : App → Type 0 = λ a. is_simple_and_free a ≡ true → (error ≡ kind.OutOfMemory) ⊎ IsAmong error (fault_of a words) in
-    by_kind (subst Kinds app_is kinds program_is_free)
-  where
-    by_kind : (error ≡ kind.OutOfMemory) ⊎ IsAmong error (errors_in words) → IsRead words read
-    by_kind (inl memory) = refused_for_memory words error read memory is
-    by_kind (inr among) = refused_by words error read among is
+pub refusal_read : (words : List Text) (error : ErrorKind) (read : Result Request WordsFault) → (error ≡ kind.OutOfMemory) ⊎ IsAmong error (errors_in words) → IsClapRefusal error read
+    → IsRead words read
+refusal_read words error read (inl memory) is = refused_for_memory words error read memory is
+refusal_read words error read (inr among) is = refused_by words error read among is
 
 -- words that clap takes ask for what their command says, if its options say it
-asked_by : (words : List Text) (command : Option (Text × List Row)) (asked : Result Request WordsFault) → errors_in words ≡ [] → command ≡ command_in words
+pub asked_read : (words : List Text) (command : Option (Text × List Row)) (asked : Result Request WordsFault) → errors_in words ≡ [] → command ≡ command_in words
     → IsRequestOf (wish_in command) asked → IsRead words asked
-asked_by words command (Ok (request.Help text)) parsed command_is is = absurd is
-asked_by words command (Ok (request.Version text)) parsed command_is is = absurd is
-asked_by words command (Ok (request.Price plan)) parsed command_is is = record { parsed = parsed; wish_is = sym (ap wish_in command_is) ∙ is }
-asked_by words command (Ok (request.Replay account)) parsed command_is is = record { parsed = parsed; wish_is = sym (ap wish_in command_is) ∙ is }
-asked_by words command (Ok (request.Run options)) parsed command_is is = record { parsed = parsed; wish_is = sym (ap wish_in command_is) ∙ is }
-asked_by words command (Ok (request.RunInto options folder)) parsed command_is is = record { parsed = parsed; wish_is = sym (ap wish_in command_is) ∙ is }
-asked_by words command (Ok (request.Audit size)) parsed command_is is = record { parsed = parsed; wish_is = sym (ap wish_in command_is) ∙ is }
-asked_by words command (Ok (request.Quote ask)) parsed command_is is = record { parsed = parsed; wish_is = sym (ap wish_in command_is) ∙ is }
-asked_by words command (Ok (request.Rate ask)) parsed command_is is = record { parsed = parsed; wish_is = sym (ap wish_in command_is) ∙ is }
-asked_by words command (Ok (request.Serve options log)) parsed command_is is = record { parsed = parsed; wish_is = sym (ap wish_in command_is) ∙ is }
-asked_by words command (Err fault.Arguments) parsed command_is is = inr (record { parsed = parsed; refused = sym (ap wish_in command_is) ∙ is })
-asked_by words command (Err fault.OutOfMemory) parsed command_is is = absurd is
-asked_by words command (Err fault.Config) parsed command_is is = record { parsed = parsed; refused = sym (ap wish_in command_is) ∙ is }
+asked_read words command (Ok (request.Help text)) parsed command_is is = absurd is
+asked_read words command (Ok (request.Version text)) parsed command_is is = absurd is
+asked_read words command (Ok (request.Price plan)) parsed command_is is = record { parsed = parsed; wish_is = sym (ap wish_in command_is) ∙ is }
+asked_read words command (Ok (request.Replay account)) parsed command_is is = record { parsed = parsed; wish_is = sym (ap wish_in command_is) ∙ is }
+asked_read words command (Ok (request.Run options)) parsed command_is is = record { parsed = parsed; wish_is = sym (ap wish_in command_is) ∙ is }
+asked_read words command (Ok (request.RunInto options folder)) parsed command_is is = record { parsed = parsed; wish_is = sym (ap wish_in command_is) ∙ is }
+asked_read words command (Ok (request.Audit size)) parsed command_is is = record { parsed = parsed; wish_is = sym (ap wish_in command_is) ∙ is }
+asked_read words command (Ok (request.Quote ask)) parsed command_is is = record { parsed = parsed; wish_is = sym (ap wish_in command_is) ∙ is }
+asked_read words command (Ok (request.Rate ask)) parsed command_is is = record { parsed = parsed; wish_is = sym (ap wish_in command_is) ∙ is }
+asked_read words command (Ok (request.Serve options log)) parsed command_is is = record { parsed = parsed; wish_is = sym (ap wish_in command_is) ∙ is }
+asked_read words command (Err fault.Arguments) parsed command_is is = inr (record { parsed = parsed; refused = sym (ap wish_in command_is) ∙ is })
+asked_read words command (Err fault.OutOfMemory) parsed command_is is = absurd is
+asked_read words command (Err fault.Config) parsed command_is is = record { parsed = parsed; refused = sym (ap wish_in command_is) ∙ is }
 
-pub asked_read : (app : App) (words : List Text) (matches : ArgMatches) (asked : Result Request WordsFault) → app ≡ program_app
-    → (is_simple_and_free app ≡ true → fault_of app words ≡ []) → HasMatchesOf app words matches
-    → IsRequestOf (wish_in (subcommand_rows_of matches)) asked → IsRead words asked
-unfolding errors_in command_in
-asked_read app words matches asked app_is kinds has is =
-    let Kinds : App → Type 0 = λ a. is_simple_and_free a ≡ true → fault_of a words ≡ [] in
-    let Has : App → Type 0 = λ a. HasMatchesOf a words matches in
-    asked_by words (subcommand_rows_of matches) asked (subst Kinds app_is kinds program_is_free) (subst Has app_is has program_is_simple).1 is
+-- `app` is the program's command line, of which clap says its errors and its matches
+module _ (app : App) (words : List Text) (parsed : Result ArgMatches Error) where
+  pub command_parsed : app ≡ program_app → IfOk parsed (HasMatchesOf app words) → IfOk parsed (λ matches. subcommand_rows_of matches ≡ command_in words)
+  unfolding command_in
+  command_parsed app_is = IfOk-weaker parsed _ _ (λ matches has. (subst (λ (a : App). HasMatchesOf a words matches) app_is has program_is_simple).1)
+
+  pub kinds_parsed : app ≡ program_app → (is_simple_and_free app ≡ true → FailsBy (fault_of app words) parsed) → FailsBy (errors_in words) parsed
+  unfolding errors_in
+  kinds_parsed app_is fails = subst (λ (a : App). is_simple_and_free a ≡ true → FailsBy (fault_of a words) parsed) app_is fails program_is_free

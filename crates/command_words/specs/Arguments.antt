@@ -1,5 +1,5 @@
 -- What words ask of the program.
-use Rattle.std.specs.Prelude.{◌≡◌, ◌≢◌, ◌⊎◌, Bool, false, List, [], ◌∷◌, Option, Some, None, Result, Ok, Err, ⊤, codes, if◌then◌else◌, ok_or, option_map}
+use Rattle.std.specs.Prelude.{◌≡◌, ◌≢◌, ◌⊎◌, Bool, false, List, [], ◌∷◌, Option, Some, None, Result, Ok, Err, ⊤, codes, if◌then◌else◌, option_map}
 use Rattle.std.specs.Str.{bytes_eq}
 use Rattle.clap.specs.Words.{IsAmong, Row, Text}
 use Rattle.clap.specs.declared.error.kind.ErrorKind.{ErrorKind}
@@ -9,7 +9,7 @@ use Rattle.run_options.specs.Options.{ask_of, live_ask_of}
 use Rattle.tariff_core.specs.RatesOf.{rates_of}
 use Rattle.command_words.specs.AuditWords.{audit_in}
 use Rattle.command_words.specs.CommandLine.{command_in, errors_in}
-use Rattle.command_words.specs.Options.{wished_plan, replay_in}
+use Rattle.command_words.specs.Options.{price_in, replay_in}
 use Rattle.command_words.specs.RunWords.{run_in}
 use Rattle.command_words.specs.ServeWords.{serve_in}
 use Rattle.command_words.specs.QuoteWishes.{quote_wish_of}
@@ -26,12 +26,12 @@ use Rattle.command_words.specs.declared.fault.WordsFault.TheVariants as fault
 abbrev pub wish_in : Option (Text × List Row) → Result Wish WordsFault
 wish_in None = Err fault.Arguments
 wish_in (Some command) =
-    if bytes_eq command.0 (codes "price") then ok_or (option_map (λ plan. Prices plan) (wished_plan command.1)) fault.Arguments
-    else if bytes_eq command.0 (codes "replay") then ok_or (replay_in command.1) fault.Arguments
+    if bytes_eq command.0 (codes "price") then price_in command.1
+    else if bytes_eq command.0 (codes "replay") then replay_in command.1
     else if bytes_eq command.0 (codes "run") then run_in command.1
     else if bytes_eq command.0 (codes "audit") then Ok (Audits (audit_in command.1))
-    else if bytes_eq command.0 (codes "quote") then ok_or (option_map (λ quote. Quotes quote) (quote_in command.1)) fault.Arguments
-    else if bytes_eq command.0 (codes "rate") then ok_or (option_map (λ rate. RatesRecords rate) (rate_in command.1)) fault.Arguments
+    else if bytes_eq command.0 (codes "quote") then quote_in command.1
+    else if bytes_eq command.0 (codes "rate") then rate_in command.1
     else if bytes_eq command.0 (codes "serve") then serve_in command.1
     else Err fault.Arguments
 

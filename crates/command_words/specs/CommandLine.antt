@@ -21,81 +21,41 @@ flag_rule name = record (new_rule name) { long = Some name; action = Some SetTru
 abbrev pub with_rules : App → List Rule → App
 with_rules app rules = fold with_rule app rules
 
--- which units are charged for
-abbrev pub unit_rules : List Rule
-unit_rules = option_rule (codes "free") ∷ option_rule (codes "first") ∷ option_rule (codes "step") ∷ []
-
 -- `price --fee N --before N [--after N] [--free N] [--first N] [--step N]`
 unfoldable pub price_app : App
-price_app = with_rules (with_rules (new_app (codes "price")) (required_rule (codes "fee") ∷ required_rule (codes "before") ∷ option_rule (codes "after") ∷ [])) unit_rules
+price_app = with_rules (new_app (codes "price")) (required_rule (codes "fee") ∷ required_rule (codes "before") ∷ option_rule (codes "after")
+    ∷ option_rule (codes "free") ∷ option_rule (codes "first") ∷ option_rule (codes "step") ∷ [])
 
 -- `replay --opening N [--limit N]`
 unfoldable pub replay_app : App
 replay_app = with_rules (new_app (codes "replay")) (required_rule (codes "opening") ∷ option_rule (codes "limit") ∷ [])
 
--- the options of the service
-abbrev pub service_rules : List Rule
-service_rules = option_rule (codes "wanted") ∷ option_rule (codes "least") ∷ []
-
--- the options of the switch
-abbrev pub switch_rules : List Rule
-switch_rules = option_rule (codes "tssf") ∷ option_rule (codes "tccd") ∷ option_rule (codes "delay") ∷ []
-
--- the other options of a run
-abbrev pub other_rules : List Rule
-other_rules = option_rule (codes "workers") ∷ option_rule (codes "parts") ∷ option_rule (codes "threads") ∷ option_rule (codes "default") ∷ []
-
--- what it prints
-abbrev pub output_rules : List Rule
-output_rules = flag_rule (codes "book") ∷ flag_rule (codes "calls") ∷ flag_rule (codes "trace") ∷ flag_rule (codes "clock") ∷ []
-
--- what it prints, or the folder that all of it goes into
-abbrev pub with_outputs : App → App
-with_outputs app = with_rule (with_rules app output_rules) (option_rule (codes "into"))
-
 -- `run [--wanted N] [--least N] [--tssf N] [--tccd N] [--delay N] [--workers N] [--parts N] [--threads N] [--default N] [--book] [--calls] [--trace] [--clock] [--into N]`
 unfoldable pub run_app : App
-run_app = with_outputs (with_rules (with_rules (with_rules (new_app (codes "run")) service_rules) switch_rules) other_rules)
+run_app = with_rules (new_app (codes "run")) (option_rule (codes "wanted") ∷ option_rule (codes "least")
+    ∷ option_rule (codes "tssf") ∷ option_rule (codes "tccd") ∷ option_rule (codes "delay")
+    ∷ option_rule (codes "workers") ∷ option_rule (codes "parts") ∷ option_rule (codes "threads") ∷ option_rule (codes "default")
+    ∷ flag_rule (codes "book") ∷ flag_rule (codes "calls") ∷ flag_rule (codes "trace") ∷ flag_rule (codes "clock") ∷ option_rule (codes "into") ∷ [])
 
 -- `audit [--long] [--rows] [--lines]`
 unfoldable pub audit_app : App
 audit_app = with_rules (new_app (codes "audit")) (flag_rule (codes "long") ∷ flag_rule (codes "rows") ∷ flag_rule (codes "lines") ∷ [])
 
--- what is asked of a number at a moment
-abbrev pub question_rules : List Rule
-question_rules = option_rule (codes "for") ∷ option_rule (codes "credit") ∷ flag_rule (codes "clock") ∷ []
-
 -- `quote --called N --at N [--for N] [--credit N] [--clock]`
 unfoldable pub quote_app : App
-quote_app = with_rules (with_rules (new_app (codes "quote")) (required_rule (codes "called") ∷ required_rule (codes "at") ∷ [])) question_rules
-
--- the names of the columns of `rate`
-abbrev pub name_rules : List Rule
-name_rules = option_rule (codes "called") ∷ option_rule (codes "answer") ∷ option_rule (codes "paid") ∷ []
-
--- those of its times
-abbrev pub time_rules : List Rule
-time_rules = option_rule (codes "time") ∷ option_rule (codes "end") ∷ option_rule (codes "before") ∷ option_rule (codes "after") ∷ []
-
--- what it prints
-abbrev pub rate_rules : List Rule
-rate_rules = flag_rule (codes "differing") ∷ flag_rule (codes "summary") ∷ []
+quote_app = with_rules (new_app (codes "quote")) (required_rule (codes "called") ∷ required_rule (codes "at")
+    ∷ option_rule (codes "for") ∷ option_rule (codes "credit") ∷ flag_rule (codes "clock") ∷ [])
 
 -- `rate [--called NAME] [--answer NAME] [--paid NAME] [--time NAME] [--end NAME] [--before NAME] [--after NAME] [--differing] [--summary]`
 unfoldable pub rate_app : App
-rate_app = with_rules (with_rules (with_rules (new_app (codes "rate")) name_rules) time_rules) rate_rules
-
--- the log, and what of it is printed again
-abbrev pub log_rules : List Rule
-log_rules = option_rule (codes "log") ∷ option_rule (codes "again") ∷ []
-
--- what is printed at the end
-abbrev pub end_rules : List Rule
-end_rules = flag_rule (codes "lines") ∷ flag_rule (codes "book") ∷ flag_rule (codes "calls") ∷ []
+rate_app = with_rules (new_app (codes "rate")) (option_rule (codes "called") ∷ option_rule (codes "answer") ∷ option_rule (codes "paid")
+    ∷ option_rule (codes "time") ∷ option_rule (codes "end") ∷ option_rule (codes "before") ∷ option_rule (codes "after")
+    ∷ flag_rule (codes "differing") ∷ flag_rule (codes "summary") ∷ [])
 
 -- `serve [--wanted N] [--least N] [--tccd N] [--log N] [--again N] [--lines] [--book] [--calls]`
 unfoldable pub serve_app : App
-serve_app = with_rules (with_rules (with_rule (with_rules (new_app (codes "serve")) service_rules) (option_rule (codes "tccd"))) log_rules) end_rules
+serve_app = with_rules (new_app (codes "serve")) (option_rule (codes "wanted") ∷ option_rule (codes "least") ∷ option_rule (codes "tccd")
+    ∷ option_rule (codes "log") ∷ option_rule (codes "again") ∷ flag_rule (codes "lines") ∷ flag_rule (codes "book") ∷ flag_rule (codes "calls") ∷ [])
 
 -- the program itself, `[--explain] [--plain]`, which has its version and commands besides
 abbrev pub bare_app : App
@@ -105,9 +65,8 @@ bare_app =
 
 -- the program, with its commands
 unfoldable pub program_app : App
-program_app =
-    with_subcommand (with_subcommand (with_subcommand (with_subcommand (with_subcommand (with_subcommand (with_subcommand bare_app price_app.top) replay_app.top) run_app.top) audit_app.top)
-    quote_app.top) rate_app.top) serve_app.top
+program_app = fold (λ (program command : App). with_subcommand program command.top) bare_app
+    (price_app ∷ replay_app ∷ run_app ∷ audit_app ∷ quote_app ∷ rate_app ∷ serve_app ∷ [])
 
 -- the kinds of error that clap has for the words; none where they parse
 unfoldable pub errors_in : List Text → List ErrorKind

@@ -2,6 +2,7 @@ pub mod Arguments
 pub mod AuditWords
 pub mod Capped
 pub mod CommandLine
+pub mod Commands
 pub mod Options
 pub mod QuoteWishes
 pub mod QuoteWords

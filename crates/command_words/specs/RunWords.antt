@@ -74,11 +74,10 @@ abbrev pub output_in : List Row → Option RunOutput
 output_in options =
     output_of (is_some (first_of (codes "into") options)) (has_flag options (codes "book")) (has_flag options (codes "calls")) (has_flag options (codes "trace")) (has_flag options (codes "clock"))
 
--- what the options ask for, where each has a number or a word of its own
-unfoldable pub ask_in : List Row → Option RunAsk
-ask_in options =
-    option_and_then (λ workers. option_and_then (λ wanted. option_and_then (λ least. option_and_then (λ tssf. option_and_then (λ tccd. option_and_then (λ delay.
-    option_and_then (λ default. option_and_then (λ output. option_map (λ parts. record {
+-- a run that is asked for, where each of these is known: its workers, its times, what a switch does without orders, what is printed, and its parts
+abbrev pub asked_run : Option ℕ → Option ℕ → Option ℕ → Option ℕ → Option ℕ → Option ℕ → Option DefaultHandling → Option RunOutput → (ℕ → RunOutput → Option (Option PartsAsk)) → Option RunAsk
+asked_run (Some workers) (Some wanted) (Some least) (Some tssf) (Some tccd) (Some delay) (Some default) (Some output) parts_by =
+    option_map (λ parts. record {
       workers = workers;
       wanted = wanted;
       least = least;
@@ -89,8 +88,14 @@ ask_in options =
       output = output;
       parts = parts;
     })
-    (parts_in options workers output)) (output_in options)) (handling_in options)) (setting_in options (codes "delay") 2)) (setting_in options (codes "tccd") 50)) (setting_in options (codes "tssf") 100))
-    (setting_in options (codes "least") 50)) (setting_in options (codes "wanted") 600)) (workers_in options)
+    (parts_by workers output)
+asked_run _ _ _ _ _ _ _ _ _ = None
+
+-- what the options ask for, where each has a number or a word of its own
+unfoldable pub ask_in : List Row → Option RunAsk
+ask_in options =
+    asked_run (workers_in options) (setting_in options (codes "wanted") 600) (setting_in options (codes "least") 50) (setting_in options (codes "tssf") 100)
+    (setting_in options (codes "tccd") 50) (setting_in options (codes "delay") 2) (handling_in options) (output_in options) (parts_in options)
 
 -- a run that is printed, or that goes into a folder
 abbrev pub run_wish : RunAsk → Option Text → Wish

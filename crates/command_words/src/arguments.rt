@@ -1,15 +1,16 @@
 //! The words of a command line.
 
-ghost use Rattle.std.specs.Prelude.{◌≡◌, map};
-ghost use Rattle.clap.specs.Words.{kind_of, subcommand_rows_of};
+ghost use Rattle.std.specs.Prelude.{◌≡◌, Some, map, IfOk};
+ghost use Rattle.clap.specs.Words.{FailsBy, found_of, kind_of, rows_of, subcommand_rows_of};
 ghost use Rattle.command_words.specs.Arguments.{IsRead, IsClapRefusal, IsRequestOf, explains, wish_in};
+ghost use Rattle.command_words.specs.CommandLine.{command_in, errors_in};
 
 use crate::audit_words::audit_ask;
 use crate::command_line::program_command;
 use crate::fault::WordsFault;
-use crate::options::{price_plan, replay_opening};
-use crate::quote_words::quote_ask;
-use crate::rate_words::rate_ask;
+use crate::options::{price_request, replay_request};
+use crate::quote_words::quote_request;
+use crate::rate_words::rate_request;
 use crate::request::Request;
 use crate::run_words::{run_ask, run_request};
 use crate::serve_words::{live_ask, serve_request};
@@ -25,11 +26,19 @@ use std::convert::AsStr;
 pub fn read_words<'a, S: AsStr>(alloc: Global, words: &'a [S]) -> Result<Request<'a>, WordsFault>
     ensures { IsRead (map S.text words.now) result }
 {
-    let matches = match program_command(alloc)?.try_get_matches_from(words) {
-        Ok(matches) => matches,
-        Err(error) => return refusal(alloc, &error),
-    };
-    asked(&matches)
+    match parse(alloc, words) {
+        Ok(matches) => asked(&matches),
+        Err(error) => refusal(alloc, &error),
+    }
+}
+
+/// What `clap` makes of words.
+fn parse<'a, S: AsStr>(alloc: Global, words: &'a [S]) -> Result<ArgMatches<'a>, Error>
+    ensures command { IfOk result (λ matches. subcommand_rows_of matches
+        ≡ command_in (map S.text words.now)) }
+    ensures kinds { FailsBy (errors_in (map S.text words.now)) result }
+{
+    program_command(alloc)?.try_get_matches_from(words)
 }
 
 /// Whether a fault is to be explained: the word `--explain` is in front of the others.
@@ -45,7 +54,7 @@ pub fn explains<S: AsStr>(words: &[S]) -> bool
 /// What `clap` says of words that it doesn't take. Of words that it takes, which time of `run` or
 /// `serve` is out of its range; empty where none is.
 pub fn explain_words<S: AsStr>(alloc: Global, words: &[S]) -> Result<String, AllocError> {
-    match program_command(alloc)?.try_get_matches_from(words) {
+    match parse(alloc, words) {
         Ok(matches) => explain_options(alloc, &matches),
         Err(error) => error.to_string(alloc),
     }
@@ -71,26 +80,24 @@ fn asked<'a>(matches: &ArgMatches<'a>) -> Result<Request<'a>, WordsFault>
     ensures { IsRequestOf (wish_in (subcommand_rows_of matches.now)) result }
 {
     match matches.subcommand() {
-        Some(("price", options)) => match price_plan(options) {
-            Some(plan) => Ok(Request::Price(plan)),
-            None => Err(WordsFault::Arguments),
-        },
-        Some(("replay", options)) => match replay_opening(options) {
-            Some(account) => Ok(Request::Replay(account)),
-            None => Err(WordsFault::Arguments),
-        },
-        Some(("run", options)) => run_request(options),
-        Some(("audit", options)) => Ok(Request::Audit(audit_ask(options))),
-        Some(("quote", options)) => match quote_ask(options) {
-            Some(ask) => Ok(Request::Quote(ask)),
-            None => Err(WordsFault::Arguments),
-        },
-        Some(("rate", options)) => match rate_ask(options) {
-            Some(ask) => Ok(Request::Rate(ask)),
-            None => Err(WordsFault::Arguments),
-        },
-        Some(("serve", options)) => serve_request(options),
-        Some(_) | None => Err(WordsFault::Arguments),
+        Some((name, options)) => request_of(name, options),
+        None => Err(WordsFault::Arguments),
+    }
+}
+
+/// What the command of a name asks for.
+fn request_of<'a>(name: &str, options: &ArgMatches<'a>) -> Result<Request<'a>, WordsFault>
+    ensures { IsRequestOf (wish_in (Some (name.now, rows_of (found_of options.now)))) result }
+{
+    match name {
+        "price" => price_request(options),
+        "replay" => replay_request(options),
+        "run" => run_request(options),
+        "audit" => Ok(Request::Audit(audit_ask(options))),
+        "quote" => quote_request(options),
+        "rate" => rate_request(options),
+        "serve" => serve_request(options),
+        _ => Err(WordsFault::Arguments),
     }
 }
 

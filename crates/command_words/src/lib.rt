@@ -4,6 +4,7 @@
 mod arguments;
 mod audit_words;
 mod command_line;
+mod commands;
 mod fault;
 mod help;
 mod options;

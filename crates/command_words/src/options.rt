@@ -3,36 +3,66 @@
 ghost use Rattle.std.specs.Prelude.{◌≡◌, ◌≤◌, option_map, unwrap_or, IfSome};
 ghost use Rattle.clap.specs.Words.{first_of, found_of, rows_of};
 ghost use Rattle.tariff_core.specs.RatesOf.{rates_of};
-ghost use Rattle.command_words.specs.Options.{clock_by, has_flag, wished_number, optional_number_in, wished_plan, replay_in};
+ghost use Rattle.command_words.specs.Options.{clock_by, has_flag, optional_number_in, plan_of, price_in, replay_in, wished_account, wished_number, wished_plan};
+ghost use Rattle.command_words.specs.Arguments.{IsRequestOf};
 ghost use Rattle.command_words.specs.Wishes.{Replays};
 
-use crate::request::Opening;
+use crate::fault::WordsFault;
+use crate::request::{Opening, Request};
 use account_core::{MAX_LIMIT, MIN_LIMIT};
 use clap::ArgMatches;
 use moment_texts::Clock;
 use table_core::decimal;
 use tariff_core::{DAY, MAX_MONEY, MAX_RATE, Plan};
 
+/// What `price` is asked for.
+pub(crate) fn price_request<'a>(options: &ArgMatches<'a>) -> Result<Request<'a>, WordsFault>
+    ensures { IsRequestOf (price_in (rows_of (found_of options.now))) result }
+{
+    match price_plan(options) {
+        Some(plan) => Ok(Request::Price(plan)),
+        None => Err(WordsFault::Arguments),
+    }
+}
+
 /// The plan that the options of `price` give.
-pub(crate) fn price_plan(options: &ArgMatches<'_>) -> Option<Plan>
+fn price_plan(options: &ArgMatches<'_>) -> Option<Plan>
     ensures { option_map rates_of result ≡ wished_plan (rows_of (found_of options.now)) }
 {
     let fee = number(options, "fee", MAX_RATE)?;
     let before = number(options, "before", MAX_RATE)?;
     let after = optional_number(options, "after", MAX_RATE)?;
+    let plan = Plan::new(fee, before, after).ok()?;
+    with_units(options, plan)
+}
+
+/// The plan with the units that the options of `price` give.
+fn with_units(options: &ArgMatches<'_>, plan: Plan) -> Option<Plan>
+    ensures { option_map rates_of result ≡ plan_of (rows_of (found_of options.now))
+        (rates_of plan).fee (rates_of plan).before (rates_of plan).after }
+{
     let free = optional_number(options, "free", u64::from(DAY))?;
     let first = optional_number(options, "first", u64::from(DAY))?;
     let step = optional_number(options, "step", u64::from(DAY))?;
-    let plan = Plan::new(fee, before, after).ok()?;
     let plan = plan.with_free(free.unwrap_or(0) as u32).ok()?;
     plan.with_steps(first.unwrap_or(0) as u32, step.unwrap_or(1) as u32)
         .ok()
 }
 
+/// What `replay` is asked for.
+pub(crate) fn replay_request<'a>(options: &ArgMatches<'a>) -> Result<Request<'a>, WordsFault>
+    ensures { IsRequestOf (replay_in (rows_of (found_of options.now))) result }
+{
+    match replay_opening(options) {
+        Some(account) => Ok(Request::Replay(account)),
+        None => Err(WordsFault::Arguments),
+    }
+}
+
 /// The account that the options of `replay` open.
-pub(crate) fn replay_opening(options: &ArgMatches<'_>) -> Option<Opening>
+fn replay_opening(options: &ArgMatches<'_>) -> Option<Opening>
     ensures { option_map (λ account. Replays account.opening account.limit) result
-        ≡ replay_in (rows_of (found_of options.now)) }
+        ≡ wished_account (rows_of (found_of options.now)) }
 {
     let opening = number(options, "opening", MAX_MONEY)?;
     let limit = optional_number(options, "limit", u64::from(MAX_LIMIT))?;
@@ -73,7 +103,10 @@ fn number(options: &ArgMatches<'_>, name: &str, most: u64) -> Option<u64>
     ensures value { result ≡ wished_number (rows_of (found_of options.now)) name.now most }
     ensures within { IfSome result (λ number. number ≤ most) }
 {
-    decimal(options.get_str(name)?.as_bytes(), most)
+    match option_text(options, name) {
+        Some(text) => decimal(text.as_bytes(), most),
+        None => None,
+    }
 }
 
 /// The same of an option that may be left out.
@@ -85,7 +118,7 @@ pub(crate) fn optional_number(
     ensures value { result ≡ optional_number_in (rows_of (found_of options.now)) name.now most }
     ensures within { IfSome result (λ number. unwrap_or number 0 ≤ most) }
 {
-    match options.get_str(name) {
+    match option_text(options, name) {
         Some(text) => Some(Some(decimal(text.as_bytes(), most)?)),
         None => Some(None),
     }

@@ -3,20 +3,32 @@
 ghost use Rattle.std.specs.Prelude.{◌≡◌, ◌≤◌, option_map, IfSome};
 ghost use Rattle.cap_values.specs.NumberDigits.{digits_of_number};
 ghost use Rattle.clap.specs.Words.{found_of, rows_of};
+ghost use Rattle.command_words.specs.Arguments.{IsRequestOf};
 ghost use Rattle.command_words.specs.QuoteWishes.{quote_wish_of};
-ghost use Rattle.command_words.specs.QuoteWords.{called_of, moment_asked, quote_in};
+ghost use Rattle.command_words.specs.QuoteWords.{called_of, moment_asked, quote_in, wished_quote};
 
+use crate::fault::WordsFault;
 use crate::options::{clock_by, has_flag, option_text, optional_number};
-use crate::request::QuoteAsk;
+use crate::request::{QuoteAsk, Request};
 use cap_values::Number;
 use clap::ArgMatches;
 use moment_texts::moment;
 use tariff_core::{DAY, MAX_MOMENT, MAX_MONEY, time_of_day};
 
+/// What `quote` is asked for.
+pub(crate) fn quote_request<'a>(options: &ArgMatches<'a>) -> Result<Request<'a>, WordsFault>
+    ensures { IsRequestOf (quote_in (rows_of (found_of options.now))) result }
+{
+    match quote_ask(options) {
+        Some(ask) => Ok(Request::Quote(ask)),
+        None => Err(WordsFault::Arguments),
+    }
+}
+
 /// What the options ask for.
-#[tactic(auto, unfolding(crate::specs::QuoteWords::quote_in))]
-pub(crate) fn quote_ask(options: &ArgMatches<'_>) -> Option<QuoteAsk>
-    ensures { option_map quote_wish_of result ≡ quote_in (rows_of (found_of options.now)) }
+#[tactic(auto, unfolding(crate::specs::QuoteWords::wished_quote))]
+fn quote_ask(options: &ArgMatches<'_>) -> Option<QuoteAsk>
+    ensures { option_map quote_wish_of result ≡ wished_quote (rows_of (found_of options.now)) }
 {
     let called = called(option_text(options, "called")?)?;
     let at = moment_asked(option_text(options, "at")?)?;

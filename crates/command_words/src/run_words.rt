@@ -4,7 +4,7 @@ ghost use Rattle.std.specs.Prelude.{◌≡◌, ◌≤◌, ◌<◌, option_map, u
 ghost use Rattle.clap.specs.Words.{found_of, rows_of};
 ghost use Rattle.command_words.specs.Arguments.{IsRequestOf};
 ghost use Rattle.command_words.specs.Capped.{capped, capped_ask};
-ghost use Rattle.command_words.specs.RunWords.{ask_in, handling_of, number_written, number_or, output_in, output_of, parts_in, wished_parts, run_in, workers_in};
+ghost use Rattle.command_words.specs.RunWords.{ask_in, handling_in, number_written, output_in, output_of, parts_in, wished_parts, run_in, setting_in, workers_in};
 
 use crate::fault::WordsFault;
 use crate::options::{clock_by, has_flag, option_text, optional_number};
@@ -39,17 +39,16 @@ pub(crate) fn run_request<'a>(options: &ArgMatches<'a>) -> Result<Request<'a>, W
 }
 
 /// What the options say.
-#[tactic(auto, unfolding(crate::specs::RunWords::ask_in))]
 pub(crate) fn run_ask(options: &ArgMatches<'_>) -> Option<RunAsk>
     ensures { result ≡ option_map capped_ask (ask_in (rows_of (found_of options.now))) }
 {
     let workers = workers(options)?;
-    let wanted = setting(option_text(options, "wanted"), 600)?;
-    let least = setting(option_text(options, "least"), 50)?;
-    let tssf = setting(option_text(options, "tssf"), 100)?;
-    let tccd = setting(option_text(options, "tccd"), 50)?;
-    let delay = setting(option_text(options, "delay"), 2)?;
-    let default_handling = handling(option_text(options, "default"))?;
+    let wanted = setting(options, "wanted", 600)?;
+    let least = setting(options, "least", 50)?;
+    let tssf = setting(options, "tssf", 100)?;
+    let tccd = setting(options, "tccd", 50)?;
+    let delay = setting(options, "delay", 2)?;
+    let default_handling = handling(options)?;
     let output = output(options)?;
     let parts = parts(options, workers, output)?;
     Some(RunAsk {
@@ -112,12 +111,13 @@ fn parts_of(
     }))
 }
 
-/// The number that a text writes, `default` where there is none; `u32::MAX` stands for all above.
-pub(crate) fn setting(text: Option<&str>, default: u32) -> Option<u32>
+/// The number of an option, `default` where it is left out; `u32::MAX` stands for all above.
+pub(crate) fn setting(options: &ArgMatches<'_>, name: &str, default: u32) -> Option<u32>
     requires { default < 1000 }
-    ensures { result ≡ option_map capped (number_or default (option_map (λ t. t.now) text.entry)) }
+    ensures { result
+        ≡ option_map capped (setting_in (rows_of (found_of options.now)) name.now default) }
 {
-    match text {
+    match option_text(options, name) {
         Some(text) => number(text.as_bytes()),
         None => Some(default),
     }
@@ -135,10 +135,10 @@ fn number(text: &[u8]) -> Option<u32>
 }
 
 /// What is to become of a call without instructions.
-fn handling(text: Option<&str>) -> Option<DefaultHandling>
-    ensures { result ≡ handling_of (option_map (λ t. t.now) text.entry) }
+fn handling(options: &ArgMatches<'_>) -> Option<DefaultHandling>
+    ensures { result ≡ handling_in (rows_of (found_of options.now)) }
 {
-    match text {
+    match option_text(options, "default") {
         None => Some(DefaultHandling::Release),
         Some("release") => Some(DefaultHandling::Release),
         Some("proceed") => Some(DefaultHandling::Proceed),

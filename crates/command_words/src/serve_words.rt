@@ -47,9 +47,9 @@ fn log_ask<'a>(options: &ArgMatches<'a>) -> Option<Option<LogAsk<'a>>>
 pub(crate) fn live_ask(options: &ArgMatches<'_>) -> Option<LiveAsk>
     ensures { result ≡ option_map capped_live_ask (live_ask_in (rows_of (found_of options.now))) }
 {
-    let wanted = setting(option_text(options, "wanted"), 600)?;
-    let least = setting(option_text(options, "least"), 50)?;
-    let tccd = setting(option_text(options, "tccd"), 50)?;
+    let wanted = setting(options, "wanted", 600)?;
+    let least = setting(options, "least", 50)?;
+    let tccd = setting(options, "tccd", 50)?;
     let output = end(options)?;
     Some(LiveAsk {
         wanted,
