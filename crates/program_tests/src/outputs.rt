@@ -137,13 +137,13 @@ fn a_failed_output_has_a_front_of_what_is_printed(rt: HostRuntime) -> Result<(),
 fn a_failed_error_writer_has_a_front_of_the_line(rt: HostRuntime) -> Result<(), Fail> {
     for (words, input, text, wanted, line) in PRINTED {
         for step in STEPS {
-            for room in 0..=line.len() + 1 {
+            for room in 0..=line.len().saturating_add(1) {
                 let mut output = Vec::new(rt.alloc());
                 let mut faults = Full::new(rt.alloc(), room, step);
                 let status = run(&rt, words, input.as_bytes(), &mut output, &mut faults)?;
                 assert_eq!(rt; status, wanted, "of {words:?} with room for {room}");
                 assert_eq!(rt; output.as_slice(), text.as_bytes(), "of {words:?}");
-                let front = &line.as_bytes()[..room.min(line.len())];
+                let front = line.as_bytes().get(..room).unwrap_or(line.as_bytes());
                 assert_eq!(rt; faults.taken.as_slice(), front, "of {words:?}");
             }
         }
