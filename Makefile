@@ -46,11 +46,11 @@ TREE = $(shell git rev-parse HEAD) $(if $(shell git status --porcelain),changed,
 # Looks whether each edit fits its file, compares the page of definitions with their comments and the names on the
 # page of proofs with the code, proves everything from nothing, tries the edits that must fail, and runs the tests and
 # the programs; then holds the words of the man page and the completions against the formats, runs the program over
-# worked rows and the commands of the pages as they are, makes packages and uses them, compares reports with their tables, runs in parts with whole ones
-# and the files of a run with what runs print, drives the service over a pipe, compares what is said of faults with a
-# table, on a terminal too, cuts and kills a service with a log, refuses memory to each call that takes any, and
-# compares the program with its model. Once all has passed, out/passed.txt says so of the commit; make expands TREE
-# before the first line.
+# worked rows and the commands of the pages as they are, makes packages and uses them, compares reports with their
+# tables, runs in parts with whole ones and the files of a run with what runs print, drives the service over a pipe,
+# compares what is said of faults with a table, on a terminal too, cuts and kills a service with a log, refuses memory
+# to each call that takes any, and compares the program with its model. Once all has passed, out/passed.txt says so of
+# the commit; make expands TREE before the first line.
 test:
 	mkdir -p out
 	rm -f out/passed.txt
