@@ -3,9 +3,9 @@
 #![tactic(auto)]
 
 #[cfg(test)]
-mod files;
-#[cfg(test)]
 mod groups;
+#[cfg(test)]
+mod lines;
 #[cfg(test)]
 mod logs;
 #[cfg(test)]

@@ -3,34 +3,16 @@
 ghost use Rattle.std.specs.Prelude.{◌≡◌, ◌≤◌, IfOk};
 
 use account_core::{AccountFault, Op, Reply};
-use shared_account::{Book, CloseFault, Seat, Shared, SharedAccount, TurnAccount, TurnSeat};
+use shared_account::{Book, CloseFault, Shared};
 use std::alloc::{AllocError, Global};
 use std::process::Abort;
 use std::test::Fail;
-use tariff_core::{MAX_MONEY, Plan, PlanRange};
+use tariff_core::{MAX_MONEY, Plan, TimeInfo};
 
 pub(crate) type Answer = Result<Reply, AccountFault>;
 
-/// A form of shared account.
-pub(crate) trait Form: Shared {
-    /// The number of a seat.
-    fn number(seat: &Self::Seat) -> u32;
-}
-
-impl Form for SharedAccount {
-    fn number(seat: &Seat) -> u32 {
-        seat.number()
-    }
-}
-
-impl Form for TurnAccount {
-    fn number(seat: &TurnSeat) -> u32 {
-        seat.number()
-    }
-}
-
 /// An account with two seats, and room for 100 entries.
-pub(crate) fn two_seats<S: Form, R: Abort>(
+pub(crate) fn two_seats<S: Shared, R: Abort>(
     rt: &R,
     alloc: Global,
     number: u32,
@@ -45,7 +27,7 @@ pub(crate) fn two_seats<S: Form, R: Abort>(
 }
 
 /// An account with two seats, and room for so many entries.
-pub(crate) fn two_seats_within<S: Form, R: Abort>(
+pub(crate) fn two_seats_within<S: Shared, R: Abort>(
     rt: &R,
     alloc: Global,
     number: u32,
@@ -60,12 +42,11 @@ pub(crate) fn two_seats_within<S: Form, R: Abort>(
     let (account, mut seats) = S::new(rt, alloc, number, opening, until, limit, 2)?;
     let second = seats.pop().expect(rt, "two seats");
     let first = seats.pop().expect(rt, "two seats");
-    assert_eq!(rt; (S::number(&first), S::number(&second)), (0, 1));
     Ok((account, first, second))
 }
 
 /// Closes an account whose two seats are handed in, in this order.
-pub(crate) fn close<S: Form>(
+pub(crate) fn close<S: Shared>(
     alloc: Global,
     account: S,
     first: S::Seat,
@@ -95,50 +76,75 @@ fn entries_of(book: &Book, seat: u32) -> usize {
 }
 
 /// Two rates, the second cheaper.
-pub(crate) fn plan() -> Result<Plan, PlanRange> {
-    Plan::new(50, 1000, Some(400))
+const TWO_RATES: Plan = Plan {
+    fee: 50,
+    before: 1000,
+    after: Some(400),
+    free: 0,
+    first: 0,
+    step: 1,
+};
+
+/// What is asked, in short.
+#[derive(Clone, Copy)]
+pub(crate) enum Ask {
+    /// A call wants 600 units and takes 50, at a moment.
+    Reserve(u64, u64),
+    /// A call has talked so many units.
+    Settle(u64, u32),
+    Return(u64),
+    /// An amount, and the last moment from then on.
+    Credit(u64, Option<u64>),
 }
 
-/// A call reserves at moment 0.
-pub(crate) fn reserve(call: u64, plan: Plan) -> Op {
-    reserve_at(call, plan, 0)
-}
-
-pub(crate) fn reserve_at(call: u64, plan: Plan, at: u64) -> Op {
-    Op::Reserve {
-        call,
-        plan,
-        wanted: 600,
-        least: 50,
-        at,
+/// The operation that asks it.
+pub(crate) fn op_of(ask: Ask) -> Op {
+    match ask {
+        Ask::Reserve(call, at) => Op::Reserve {
+            call,
+            plan: TWO_RATES,
+            wanted: 600,
+            least: 50,
+            at,
+        },
+        Ask::Settle(call, t) => Op::Settle {
+            call,
+            number: 7,
+            info: TimeInfo::NoSwitch { t },
+        },
+        Ask::Return(call) => Op::Return { call },
+        Ask::Credit(amount, until) => Op::Credit { amount, until },
     }
 }
 
-/// An amount is credited, with no other last moment.
-pub(crate) fn credit(amount: u64) -> Op {
-    credit_until(amount, None)
+/// What is answered, in short: units, whether they are the last, what was paid, and at the end what
+/// is available.
+#[derive(Clone, Copy)]
+pub(crate) enum Said {
+    Granted(u32, bool, u64),
+    Denied(u64),
+    Settled(u64, u64),
+    Forfeit(u64, u64),
+    Returned(u64, u64),
+    Credited(u64),
+    Over(u64),
+    Refused(AccountFault),
 }
 
-pub(crate) fn credit_until(amount: u64, until: Option<u64>) -> Op {
-    Op::Credit { amount, until }
-}
-
-pub(crate) fn granted(units: u32, last: bool, available: u64) -> Answer {
-    Ok(Reply::Granted {
-        units,
-        last,
-        available,
+/// The answer that says it.
+pub(crate) fn answer_of(said: Said) -> Answer {
+    Ok(match said {
+        Said::Granted(units, last, available) => Reply::Granted {
+            units,
+            last,
+            available,
+        },
+        Said::Denied(available) => Reply::Denied { available },
+        Said::Settled(paid, available) => Reply::Settled { paid, available },
+        Said::Forfeit(paid, available) => Reply::Forfeit { paid, available },
+        Said::Returned(paid, available) => Reply::Returned { paid, available },
+        Said::Credited(available) => Reply::Credited { available },
+        Said::Over(available) => Reply::CreditOver { available },
+        Said::Refused(fault) => return Err(fault),
     })
-}
-
-pub(crate) fn settled(paid: u64, available: u64) -> Answer {
-    Ok(Reply::Settled { paid, available })
-}
-
-pub(crate) fn returned(paid: u64, available: u64) -> Answer {
-    Ok(Reply::Returned { paid, available })
-}
-
-pub(crate) fn credited(available: u64) -> Answer {
-    Ok(Reply::Credited { available })
 }

@@ -7,6 +7,8 @@ mod books;
 #[cfg(test)]
 mod forms;
 #[cfg(test)]
+mod histories;
+#[cfg(test)]
 mod threads;
 #[cfg(test)]
 mod turns;

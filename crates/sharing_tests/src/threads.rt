@@ -2,7 +2,7 @@
 
 ghost use Rattle.std.specs.Prelude.{◌≡◌};
 
-use crate::forms::{Answer, Form, close, credit, credited, granted, plan, reserve, two_seats};
+use crate::forms::{Answer, Ask, Said, answer_of, close, op_of, two_seats};
 use account_core::{AccountFault, Op};
 use shared_account::{Gate, OpenGate, Shared, SharedAccount, TurnAccount};
 use std::alloc::Global;
@@ -103,7 +103,7 @@ fn ask<S: Shared, R: Wait, G: Gate>(
 }
 
 /// Asks two accounts, or one from two seats, in two threads at the same time.
-fn ask_both<S: Form, R: Threads + Wait + Sync, G: Gate + Sync>(
+fn ask_both<S: Shared, R: Threads + Wait + Sync, G: Gate + Sync>(
     rt: &R,
     accounts: (&S, &S),
     seats: (S::Seat, S::Seat),
@@ -133,7 +133,7 @@ fn ask_both<S: Form, R: Threads + Wait + Sync, G: Gate + Sync>(
 
 /// Asks account 1, which opened with 1500, from two seats at the same time, closes it, and gives
 /// the answers and how many entries its book has.
-fn ask_one_account<S: Form, R: Abort + Threads + Wait + Sync, G: Gate + Sync>(
+fn ask_one_account<S: Shared, R: Abort + Threads + Wait + Sync, G: Gate + Sync>(
     rt: &R,
     alloc: Global,
     ops: (Ops, Ops),
@@ -152,44 +152,59 @@ fn ask_one_account<S: Form, R: Abort + Threads + Wait + Sync, G: Gate + Sync>(
 }
 
 /// Two threads are granted what there is, whoever comes first.
-fn grants_what_there_is<S: Form, R: Abort + Threads + Wait + Sync>(
+fn grants_what_there_is<S: Shared, R: Abort + Threads + Wait + Sync>(
     rt: &R,
     alloc: Global,
 ) -> Result<(), Fail> {
-    let x = plan()?;
-    let ops = ((reserve(1, x), None), (reserve(2, x), None));
+    let ops = (
+        (op_of(Ask::Reserve(1, 0)), None),
+        (op_of(Ask::Reserve(2, 0)), None),
+    );
     let ((one, _), (other, _), entries) = ask_one_account::<S, R, _>(rt, alloc, ops, &OpenGate)?;
-    let whole = granted(600, false, 450);
-    let rest = granted(240, true, 0);
+    let whole = answer_of(Said::Granted(600, false, 450));
+    let rest = answer_of(Said::Granted(240, true, 0));
     assert!(rt; (one == whole && other == rest) || (one == rest && other == whole));
     assert_eq!(rt; entries, 2);
     Ok(())
 }
 
 /// A thread that waits for a credit in another is granted more.
-fn grants_more_later<S: Form, R: Abort + Threads + Wait + Sync>(
+fn grants_more_later<S: Shared, R: Abort + Threads + Wait + Sync>(
     rt: &R,
     alloc: Global,
 ) -> Result<(), Fail> {
-    let x = plan()?;
-    let ops = ((reserve(1, x), Some(credit(600))), (reserve(2, x), None));
+    let ops = (
+        (
+            op_of(Ask::Reserve(1, 0)),
+            Some(op_of(Ask::Credit(600, None))),
+        ),
+        (op_of(Ask::Reserve(2, 0)), None),
+    );
     let gate = Holds::new(2, 0, 1);
     let (one, other, entries) = ask_one_account::<S, R, _>(rt, alloc, ops, &gate)?;
-    assert_eq!(rt; one, (granted(600, false, 450), Some(credited(1050))));
-    assert_eq!(rt; other, (granted(600, false, 0), None));
+    assert_eq!(rt;
+        one,
+        (
+            answer_of(Said::Granted(600, false, 450)),
+            Some(answer_of(Said::Credited(1050)))
+        )
+    );
+    assert_eq!(rt; other, (answer_of(Said::Granted(600, false, 0)), None));
     assert_eq!(rt; entries, 3);
     Ok(())
 }
 
 /// A call that is held inside an account keeps none from another account.
-fn holds_one_alone<S: Form, R: Abort + Threads + Wait + Sync>(
+fn holds_one_alone<S: Shared, R: Abort + Threads + Wait + Sync>(
     rt: &R,
     alloc: Global,
 ) -> Result<(), Fail> {
-    let x = plan()?;
     let (account, first, _) = two_seats::<S, R>(rt, alloc, 1, 1500, None)?;
     let (other_account, second, _) = two_seats::<S, R>(rt, alloc, 2, 1500, None)?;
-    let ops = ((reserve(1, x), None), (reserve(2, x), None));
+    let ops = (
+        (op_of(Ask::Reserve(1, 0)), None),
+        (op_of(Ask::Reserve(2, 0)), None),
+    );
     let gate = Holds::new(0, 1, 2);
     let ((_, one), (_, other)) = ask_both(
         rt,
@@ -198,13 +213,13 @@ fn holds_one_alone<S: Form, R: Abort + Threads + Wait + Sync>(
         ops,
         &gate,
     );
-    assert_eq!(rt; one, (granted(600, false, 450), None));
-    assert_eq!(rt; other, (granted(600, false, 450), None));
+    assert_eq!(rt; one, (answer_of(Said::Granted(600, false, 450)), None));
+    assert_eq!(rt; other, (answer_of(Said::Granted(600, false, 450)), None));
     Ok(())
 }
 
 /// Asks accounts of a form in two threads at the same time.
-fn asks_in_two_threads<S: Form, R: Abort + Threads + Wait + Sync>(
+fn asks_in_two_threads<S: Shared, R: Abort + Threads + Wait + Sync>(
     rt: &R,
     alloc: Global,
 ) -> Result<(), Fail> {

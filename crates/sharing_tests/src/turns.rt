@@ -2,7 +2,7 @@
 
 ghost use Rattle.std.specs.Prelude.{◌≡◌};
 
-use crate::forms::{close, credit, credited, entries_of_each, granted, plan, reserve, two_seats};
+use crate::forms::{Ask, Said, answer_of, close, entries_of_each, op_of, two_seats};
 use shared_account::{Book, Gate, OpenGate, TurnAccount, TurnSeat};
 use std::alloc::Global;
 use std::process::Abort;
@@ -13,17 +13,18 @@ use std::thread::Threads;
 
 /// The book of an account whose two seats met, and credited once more or not.
 fn book_of_met<R: Abort + Wait>(rt: &R, alloc: Global, more: bool) -> Result<Book, Fail> {
-    let x = plan()?;
+    let reserve = op_of(Ask::Reserve(1, 0));
     let (account, mut first, mut second) = two_seats::<TurnAccount, R>(rt, alloc, 1, 0, None)?;
-    let answer = account.call(rt, &mut first, credit(600), &OpenGate);
-    assert_eq!(rt; answer, credited(600));
+    let answer = account.call(rt, &mut first, op_of(Ask::Credit(600, None)), &OpenGate);
+    assert_eq!(rt; answer, answer_of(Said::Credited(600)));
+    assert_eq!(rt; (first.number(), second.number()), (0, 1));
     account.meet(&mut first, &mut second);
-    let answer = account.call(rt, &mut second, reserve(1, x), &OpenGate);
-    assert_eq!(rt; answer, granted(330, true, 0));
+    let answer = account.call(rt, &mut second, reserve, &OpenGate);
+    assert_eq!(rt; answer, answer_of(Said::Granted(330, true, 0)));
     if more {
         account.meet(&mut second, &mut first);
-        let answer = account.call(rt, &mut first, credit(1), &OpenGate);
-        assert_eq!(rt; answer, credited(1));
+        let answer = account.call(rt, &mut first, op_of(Ask::Credit(1, None)), &OpenGate);
+        assert_eq!(rt; answer, answer_of(Said::Credited(1)));
     }
     Ok(close(alloc, account, first, second)??)
 }
@@ -70,7 +71,7 @@ fn credit_often<R: Wait, G: Gate>(
     ensures { result.table ≡ account.now.table }
 {
     for _ in 0..times {
-        let _ = account.call(rt, &mut seat, credit(1), gate);
+        let _ = account.call(rt, &mut seat, op_of(Ask::Credit(1, None)), gate);
     }
     seat
 }
