@@ -2,6 +2,9 @@
 
 use run_values::SetupFault;
 use runs_core::RunFault;
+use std::alloc::Global;
+use std::fmt::Display;
+use std::process::Abort;
 use std::test::Fail;
 use workers_core::WorkerFault;
 
@@ -26,19 +29,30 @@ const RUN_FAULTS: [(RunFault, u8, &str); 6] = [
     (RunFault::Thread, 6, "Thread"),
 ];
 
+/// Compares the number and the name of a fault.
+fn expect<T: Display>(
+    rt: &impl Abort,
+    alloc: Global,
+    fault: &T,
+    found: u8,
+    number: u8,
+    name: &str,
+) -> Result<(), Fail> {
+    let text = format!(in alloc; "{fault}")?;
+    assert_eq!(rt; (found, text.as_str()), (number, name));
+    Ok(())
+}
+
 #[test]
 fn faults_have_names_and_numbers(rt: HostRuntime) -> Result<(), Fail> {
     for (fault, number, name) in SETUP_FAULTS {
-        assert_eq!(rt; fault as u8, number);
-        assert_eq!(rt; format!(in rt.alloc(); "{fault}")?.as_str(), name);
+        expect(&rt, rt.alloc(), &fault, fault as u8, number, name)?;
     }
     for (fault, number, name) in WORKER_FAULTS {
-        assert_eq!(rt; fault as u8, number);
-        assert_eq!(rt; format!(in rt.alloc(); "{fault}")?.as_str(), name);
+        expect(&rt, rt.alloc(), &fault, fault as u8, number, name)?;
     }
     for (fault, number, name) in RUN_FAULTS {
-        assert_eq!(rt; fault as u8, number);
-        assert_eq!(rt; format!(in rt.alloc(); "{fault}")?.as_str(), name);
+        expect(&rt, rt.alloc(), &fault, fault as u8, number, name)?;
     }
     Ok(())
 }

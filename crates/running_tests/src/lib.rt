@@ -1,25 +1,15 @@
-//! The tests of the public calls of runs, from the workers to the texts of their books: they are
+//! The tests of the public calls of runs, from the workers to the records of their calls: they are
 //! apart so that no crate under them is proved a second time for its tests.
 #![tactic(auto)]
 
 #[cfg(test)]
-mod books;
-#[cfg(test)]
 mod faults;
-#[cfg(test)]
-mod heard;
-#[cfg(test)]
-mod lines;
 #[cfg(test)]
 mod mailboxes;
 #[cfg(test)]
 mod meeting;
 #[cfg(test)]
 mod messages;
-#[cfg(test)]
-mod players;
-#[cfg(test)]
-mod records;
 #[cfg(test)]
 mod refusals;
 #[cfg(test)]
@@ -32,8 +22,6 @@ mod scripts;
 mod setups;
 #[cfg(test)]
 mod shutting;
-#[cfg(test)]
-mod text_faults;
 #[cfg(test)]
 mod texts;
 #[cfg(test)]

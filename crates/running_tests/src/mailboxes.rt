@@ -2,6 +2,9 @@
 
 use crate::messages::recharge;
 use run_values::Post;
+use std::alloc::Global;
+use std::process::Abort;
+use std::sync::Wait;
 use std::test::Fail;
 use workers_core::{Gone, Mail, compare_ends, mailbox};
 
@@ -13,25 +16,39 @@ fn work(number: u64) -> Mail<Post> {
     })
 }
 
+/// Mails come in the order in which they were sent, up to the last, behind which none is sent.
+fn come_in_order<R: Abort + Wait>(rt: &R, alloc: Global) -> Result<(), Fail> {
+    let (mut outbox, mut inbox) = mailbox::<Post>(alloc, 2)?;
+    assert_eq!(rt; outbox.send_mail(rt, work(0)), Ok(()));
+    assert_eq!(rt; outbox.send_mail(rt, Mail::Close), Ok(()));
+    assert_eq!(rt; outbox.send_mail(rt, work(1)), Err(work(1)));
+    assert_eq!(rt; inbox.take_mail(rt), Ok(work(0)));
+    assert_eq!(rt; inbox.take_mail(rt), Ok(Mail::Close));
+    compare_ends(outbox, inbox);
+    Ok(())
+}
+
+/// A mail whose taker is gone comes back.
+fn come_back<R: Abort + Wait>(rt: &R, alloc: Global) -> Result<(), Fail> {
+    let (mut outbox, inbox) = mailbox::<Post>(alloc, 1)?;
+    drop(inbox);
+    assert_eq!(rt; outbox.send_mail(rt, work(0)), Err(work(0)));
+    Ok(())
+}
+
+/// What was sent is taken once its sender is gone, and no more.
+fn are_left<R: Abort + Wait>(rt: &R, alloc: Global) -> Result<(), Fail> {
+    let (mut outbox, mut inbox) = mailbox::<Post>(alloc, 1024)?;
+    assert_eq!(rt; outbox.send_mail(rt, work(0)), Ok(()));
+    drop(outbox);
+    assert_eq!(rt; inbox.take_mail(rt), Ok(work(0)));
+    assert_eq!(rt; inbox.take_mail(rt), Err(Gone));
+    Ok(())
+}
+
 #[test]
 fn mails_come_in_order_until_the_last(rt: HostRuntime) -> Result<(), Fail> {
-    let (mut outbox, mut inbox) = mailbox::<Post>(rt.alloc(), 2)?;
-    assert_eq!(rt; outbox.send_mail(&rt, work(0)), Ok(()));
-    assert_eq!(rt; outbox.send_mail(&rt, Mail::Close), Ok(()));
-    assert_eq!(rt; outbox.send_mail(&rt, work(1)), Err(work(1)));
-    assert_eq!(rt; inbox.take_mail(&rt), Ok(work(0)));
-    assert_eq!(rt; inbox.take_mail(&rt), Ok(Mail::Close));
-    compare_ends(outbox, inbox);
-
-    // An end that is left alone says so.
-    let (mut outbox, inbox) = mailbox::<Post>(rt.alloc(), 1)?;
-    drop(inbox);
-    assert_eq!(rt; outbox.send_mail(&rt, work(0)), Err(work(0)));
-
-    let (mut outbox, mut inbox) = mailbox::<Post>(rt.alloc(), 1024)?;
-    assert_eq!(rt; outbox.send_mail(&rt, work(0)), Ok(()));
-    drop(outbox);
-    assert_eq!(rt; inbox.take_mail(&rt), Ok(work(0)));
-    assert_eq!(rt; inbox.take_mail(&rt), Err(Gone));
-    Ok(())
+    come_in_order(&rt, rt.alloc())?;
+    come_back(&rt, rt.alloc())?;
+    are_left(&rt, rt.alloc())
 }

@@ -1,14 +1,16 @@
-//! The refusals of a run, beside the posts that they are of.
+//! The refusals of a run, beside the posts that they are of, and the records of calls that were
+//! refused.
 
-use crate::messages::{begun, of_call, recharge, report};
+use crate::messages::{Round, Say, bodies_of};
 use crate::rounds::{Heard, Rounds};
-use crate::setups::{BAND, set_up};
-use account_core::AccountFault;
+use crate::runs::{ONE, play, set_up_two};
+use account_core::{AccountFault, MIN_LIMIT};
 use arrayvec::ArrayVec;
-use cap_values::{Number, SsfMsg};
-use run_values::{Answer, Body};
-use runs_core::{Driver, handled, refusals, serve};
-use shared_account::OpenGate;
+use call_records::{call_table, records};
+use moment_texts::Clock;
+use run_values::{Answer, Body, RunSetup};
+use runs_core::{Driver, RunFault, handled, refusals};
+use shared_account::{Book, OpenGate, TurnAccount};
 use std::alloc::{AllocError, Global};
 use std::process::Abort;
 use std::sync::Wait;
@@ -17,12 +19,58 @@ use std::thread::Threads;
 
 /// The limit of the accounts' histories, the posts, one in each round, and the refusals of the
 /// posts of worker 0, and of those of worker 1.
-type Row<'a> = (
+type Row = (
     u32,
-    &'a [Body],
-    &'a [Option<AccountFault>],
-    &'a [Option<AccountFault>],
+    &'static [Round],
+    &'static [Option<AccountFault>],
+    &'static [Option<AccountFault>],
 );
+
+const RANGE: Option<AccountFault> = Some(AccountFault::OutOfRange);
+
+const FULL: Option<AccountFault> = Some(AccountFault::HistoryFull);
+
+const ENDED: [Round; 3] = [
+    (Say::Begins(1, ONE), None),
+    (Say::Reports(1, false, 300), None),
+    (Say::Ends(1), None),
+];
+
+const NOT_RECHARGED: [Round; 2] = [(Say::Recharges(7, 0), None), (Say::Begins(1, ONE), None)];
+
+const RECHARGED: [Round; 3] = [
+    (Say::Recharges(7, 5), None),
+    (Say::Recharges(8, 0), None),
+    (Say::Recharges(7, 0), None),
+];
+
+const STRAYS: [Round; 3] = [
+    (Say::Recharges(9, 5), None),
+    (Say::Begins(3, "999"), None),
+    (Say::Ends(1), None),
+];
+
+const FILLS: [Round; 3] = [
+    (Say::Begins(1, ONE), None),
+    (Say::Reports(1, true, 600), None),
+    (Say::Ends(1), None),
+];
+
+const FITS: [Round; 2] = [
+    (Say::Begins(1, ONE), None),
+    (Say::Reports(1, true, 600), None),
+];
+
+/// Call 1 and accounts 7 and 9 are worker 1's, account 8 is worker 0's.
+const ROWS: [Row; 7] = [
+    (1000, &[], &[], &[]),
+    (1000, &ENDED, &[], &[None, None, None]),
+    (1000, &NOT_RECHARGED, &[], &[RANGE, None]),
+    (1000, &RECHARGED, &[RANGE], &[None, RANGE]),
+    (1000, &STRAYS, &[], &[None, None, None]),
+    (4, &FILLS, &[], &[None, FULL, None]),
+    (5, &FITS, &[], &[None, None]),
+];
 
 /// Answers that say what was heard.
 fn answers_of(alloc: Global, heard: &[Heard]) -> Result<Vec<Answer>, AllocError> {
@@ -38,29 +86,23 @@ fn answers_of(alloc: Global, heard: &[Heard]) -> Result<Vec<Answer>, AllocError>
     Ok(answers)
 }
 
-/// Serves posts by two workers over accounts 7 and 8 of 1500 each, with a subscriber of account 7,
-/// and compares the refusals that the answers say.
-fn expect_refusals<R: Abort + Threads + Wait + Sync>(
-    rt: &R,
+/// Compares the refusals of two workers with those that the answers say.
+fn expect_refusals(
+    rt: &impl Abort,
     alloc: Global,
-    row: Row<'_>,
+    driver: &Rounds<'_>,
+    of_first: &[Option<AccountFault>],
+    of_second: &[Option<AccountFault>],
 ) -> Result<(), Fail> {
-    let (limit, posts, of_first, of_second) = row;
-    let subscribers = [(Number::new("491700001")?, 7)];
-    let setup = set_up(alloc, BAND, &[(7, 1500), (8, 1500)], &subscribers, limit)??;
-    let mut rounds = Vec::new(alloc);
-    for body in posts {
-        rounds.push((*body, None))?;
-    }
-    let mut driver = Rounds::new(alloc, rounds.as_slice());
-    serve(rt, alloc, &setup, &mut driver, 2, &OpenGate)?;
     let answers = answers_of(alloc, driver.heard())?;
-    assert!(rt; answers.len() == driver.given().len(), "of {posts:?}");
+    assert!(rt; answers.len() == driver.given().len());
     let found = refusals(alloc, 2, driver.given(), answers.as_slice())?;
     let shares = handled(alloc, 2, driver.given())?;
     assert_eq!(rt; (found.len(), shares.len()), (2, 2));
-    assert_eq!(rt; found[0].as_slice(), of_first, "of {posts:?}");
-    assert_eq!(rt; found[1].as_slice(), of_second, "of {posts:?}");
+    assert_eq!(rt;
+        (found[0].as_slice(), found[1].as_slice()),
+        (of_first, of_second)
+    );
     assert_eq!(rt;
         (shares[0].len(), shares[1].len()),
         (of_first.len(), of_second.len())
@@ -68,37 +110,77 @@ fn expect_refusals<R: Abort + Threads + Wait + Sync>(
     Ok(())
 }
 
+/// The driver of a run that has ended.
+fn driver_of<'a, R: Threads + Wait + Sync>(
+    rt: &R,
+    alloc: Global,
+    setup: &RunSetup,
+    bodies: &'a [(Body, Option<Body>)],
+) -> Result<Rounds<'a>, RunFault> {
+    let (books, driver) = play::<TurnAccount, _, _>(rt, alloc, setup, bodies, &OpenGate);
+    books?;
+    Ok(driver)
+}
+
+/// Serves posts by two workers, and compares their refusals.
+fn expect_row<R: Abort + Threads + Wait + Sync>(
+    rt: &R,
+    alloc: Global,
+    row: Row,
+) -> Result<(), Fail> {
+    let (limit, rounds, of_first, of_second) = row;
+    let setup = set_up_two(alloc, 7, limit)?;
+    let bodies = bodies_of(alloc, rounds)?;
+    let driver = driver_of(rt, alloc, &setup, bodies.as_slice())?;
+    expect_refusals(rt, alloc, &driver, of_first, of_second)
+}
+
 #[test]
 fn refusals_stand_beside_the_posts(rt: HostRuntime) -> Result<(), Fail> {
-    let begins = begun(1, "491700001", "4930")?;
-    let unknown = begun(3, "999", "4930")?;
-    let minute = of_call(1, report(true, 600));
-    let last = of_call(1, report(false, 300));
-    let ends = of_call(1, SsfMsg::Ended);
-    let range = Some(AccountFault::OutOfRange);
-    let full = Some(AccountFault::HistoryFull);
-    // Call 1 and accounts 7 and 9 are worker 1's, account 8 is worker 0's.
-    let rows: [Row<'_>; 7] = [
-        (1000, &[], &[], &[]),
-        (1000, &[begins, last, ends], &[], &[None, None, None]),
-        (1000, &[recharge(7, 0), begins], &[], &[range, None]),
-        (
-            1000,
-            &[recharge(7, 5), recharge(8, 0), recharge(7, 0)],
-            &[range],
-            &[None, range],
-        ),
-        (
-            1000,
-            &[recharge(9, 5), unknown, ends],
-            &[],
-            &[None, None, None],
-        ),
-        (4, &[begins, minute, ends], &[], &[None, full, None]),
-        (5, &[begins, minute], &[], &[None, None]),
-    ];
-    for row in rows {
-        expect_refusals(&rt, rt.alloc(), row)?;
+    for row in ROWS {
+        expect_row(&rt, rt.alloc(), row)?;
     }
     Ok(())
+}
+
+/// Two calls, of which the second finds no place in the history.
+const CALLS: [Round; 3] = [
+    (Say::Begins(2, ONE), None),
+    (Say::Begins(1, ONE), None),
+    (Say::Ends(1), None),
+];
+
+const RECORDS: &str = "\
+call,calling,called,account,prefix,start,answer,end,before,after,paid,outcome
+1,491700001,4930,7,49,0,,0,0,0,0,refused
+2,491700001,4930,7,49,0,,,0,0,0,open
+";
+
+/// Compares the table of the calls of a run.
+fn expect_records(
+    rt: &impl Abort,
+    alloc: Global,
+    setup: &RunSetup,
+    driver: &Rounds<'_>,
+    books: &[Book],
+) -> Result<(), Fail> {
+    let calls = records(alloc, setup, driver.given(), books)?;
+    let table = call_table(alloc, Clock::Digits, calls.as_slice())?;
+    assert_eq!(rt; table.as_str(), RECORDS);
+    Ok(())
+}
+
+#[test]
+fn records_say_what_no_script_makes(rt: HostRuntime) -> Result<(), Fail> {
+    let alloc = rt.alloc();
+    let setup = set_up_two(alloc, 7, MIN_LIMIT)?;
+    let bodies = bodies_of(alloc, &CALLS)?;
+    let (books, driver) = play::<TurnAccount, _, _>(
+        &rt,
+        alloc,
+        &setup,
+        bodies.as_slice(),
+        &OpenGate,
+    );
+    expect_records(&rt, alloc, &setup, &driver, books?.as_slice())
 }

@@ -11,7 +11,7 @@ use std::alloc::{AllocError, Global};
 use tariff_core::HORIZON;
 
 /// What an answer says.
-#[derive(Clone, Copy, Debug, PartialEq, Eq)]
+#[derive(Clone, Copy)]
 pub(crate) struct Heard {
     /// Whether its post was a stray.
     pub stray: bool,
@@ -50,11 +50,6 @@ impl<'a> Rounds<'a> {
     /// What the answers said that it has got.
     pub(crate) fn heard(&self) -> &[Heard] {
         self.heard.as_slice()
-    }
-
-    /// How many of these were of strays.
-    pub(crate) fn strays(&self) -> usize {
-        self.heard.iter().filter(|heard| heard.stray).count()
     }
 
     fn give(&mut self, body: Body) -> Result<(), AllocError>

@@ -1,15 +1,15 @@
-//! Runs of a few posts over two accounts of 1500.
+//! Runs of a few posts over two accounts of 1500, of either form.
 
 use crate::meeting::{Meeting, Of};
-use crate::messages::{begun, notified, of_call, recharge, report};
-use crate::rounds::Rounds;
+use crate::messages::{Round, Say, Sends, bodies_of, last_of};
+use crate::rounds::{Heard, Rounds};
 use crate::setups::set_up;
 use crate::shutting::Holding;
-use account_core::{Entry, Reply};
-use cap_values::{Event, Number};
+use account_core::{AccountFault, Entry, Reply};
+use cap_values::Number;
 use run_values::{Body, RunSetup};
-use runs_core::{RunFault, serve, serve_over};
-use shared_account::{Book, Gate, OpenGate, SharedAccount};
+use runs_core::{Driver, RunFault, serve_over};
+use shared_account::{Book, Gate, OpenGate, Shared, SharedAccount, TurnAccount};
 use std::alloc::Global;
 use std::process::Abort;
 use std::sync::Wait;
@@ -18,80 +18,32 @@ use std::thread::Threads;
 
 const TABLE: &[u8] = b"prefix,from,fee,rate\n49,00:00,50,1000\n49,00:01,0,400\n";
 
-/// Accounts 7 and 8, a subscriber of account 7, and another one of the account `second`.
-fn set_up_two(alloc: Global, second: u32) -> Result<RunSetup, Fail> {
-    let subscribers = [
-        (Number::new("491700001")?, 7),
-        (Number::new("491700002")?, second),
-    ];
+pub(crate) const ONE: &str = "491700001";
+
+const TWO: &str = "491700002";
+
+/// Accounts 7 and 8 with histories of this limit, a subscriber of account 7, and another one of the
+/// account `second`.
+pub(crate) fn set_up_two(alloc: Global, second: u32, limit: u32) -> Result<RunSetup, Fail> {
+    let subscribers = [(Number::new(ONE)?, 7), (Number::new(TWO)?, second)];
     let accounts = [(7, 1500), (8, 1500)];
-    Ok(set_up(alloc, TABLE, &accounts, &subscribers, 1000)??)
+    Ok(set_up(alloc, TABLE, &accounts, &subscribers, limit)??)
 }
 
-/// A run that has ended: its books, or its fault, and what the driver heard of it.
-#[derive(Drop)]
-struct Played {
-    books: Result<Vec<Book>, RunFault>,
-    answered: usize,
-    strays: usize,
-}
+/// A run that has ended: its books, or its fault, and the driver, which has heard of it.
+pub(crate) type Played<'a> = (Result<Vec<Book>, RunFault>, Rounds<'a>);
 
-fn play<R: Wait + Threads + Sync, G: Gate + Sync>(
+/// Plays rounds by two workers over accounts of a form.
+pub(crate) fn play<'a, S: Shared, R: Wait + Threads + Sync, G: Gate + Sync>(
     rt: &R,
     alloc: Global,
-    second: u32,
-    rounds: &[(Body, Option<Body>)],
-    workers: u32,
+    setup: &RunSetup,
+    rounds: &'a [(Body, Option<Body>)],
     gate: &G,
-) -> Result<Played, Fail> {
-    let setup = set_up_two(alloc, second)?;
+) -> Played<'a> {
     let mut driver = Rounds::new(alloc, rounds);
-    let books = serve(rt, alloc, &setup, &mut driver, workers, gate);
-    Ok(Played {
-        books,
-        answered: driver.heard().len(),
-        strays: driver.strays(),
-    })
-}
-
-/// As `play`, by two workers, over accounts under locks.
-fn play_over_locks<R: Wait + Threads + Sync>(
-    rt: &R,
-    alloc: Global,
-    rounds: &[(Body, Option<Body>)],
-) -> Result<Played, Fail> {
-    let setup = set_up_two(alloc, 7)?;
-    let mut driver = Rounds::new(alloc, rounds);
-    let books = serve_over::<_, SharedAccount, _, _>(rt, alloc, &setup, &mut driver, 2, &OpenGate);
-    Ok(Played {
-        books,
-        answered: driver.heard().len(),
-        strays: driver.strays(),
-    })
-}
-
-/// Why so many workers serve no run, if they don't.
-fn fault_of<R: Wait + Threads + Sync>(
-    rt: &R,
-    alloc: Global,
-    workers: u32,
-) -> Result<Option<RunFault>, Fail> {
-    let played = play(rt, alloc, 7, &[], workers, &OpenGate)?;
-    Ok(played.books.err())
-}
-
-#[test]
-fn there_are_1_to_16_workers(rt: HostRuntime) -> Result<(), Fail> {
-    for workers in [0, 17] {
-        let fault = fault_of(&rt, rt.alloc(), workers)?;
-        assert_eq!(rt; fault, Some(RunFault::Workers), "of {workers}");
-    }
-    let books = play(&rt, rt.alloc(), 7, &[], 16, &OpenGate)?.books?;
-    assert_eq!(rt; books.len(), 2);
-    for book in &books {
-        assert_eq!(rt; (book.opening(), book.history().len()), (1500, 0));
-    }
-    Ok(())
+    let books = serve_over::<_, S, _, _>(rt, alloc, setup, &mut driver, 2, gate);
+    (books, driver)
 }
 
 /// The entries in the book of account 7.
@@ -102,11 +54,210 @@ pub(crate) fn entries_of(books: &[Book]) -> &[Entry] {
     }
 }
 
-pub(crate) fn granted(units: u32, last: bool, available: u64) -> Reply {
-    Reply::Granted {
-        units,
-        last,
-        available,
+/// The first grant of a call of account 7.
+pub(crate) const WHOLE: Reply = Reply::Granted {
+    units: 600,
+    last: false,
+    available: 450,
+};
+
+/// What is left is granted: to a call that has talked its first grant, and to another call.
+pub(crate) const REST: Reply = Reply::Granted {
+    units: 270,
+    last: true,
+    available: 0,
+};
+
+const OTHER_REST: Reply = Reply::Granted {
+    units: 240,
+    last: true,
+    available: 0,
+};
+
+const WHOLE_AGAIN: Reply = Reply::Granted {
+    units: 600,
+    last: false,
+    available: 0,
+};
+
+/// The first grant is talked, and then the rest.
+pub(crate) const SETTLED: Reply = Reply::Settled {
+    paid: 1050,
+    available: 450,
+};
+
+pub(crate) const ALL_SETTLED: Reply = Reply::Settled {
+    paid: 1500,
+    available: 0,
+};
+
+pub(crate) const RETURNED: Reply = Reply::Returned {
+    paid: 1050,
+    available: 450,
+};
+
+pub(crate) const ALL_RETURNED: Reply = Reply::Returned {
+    paid: 1500,
+    available: 0,
+};
+
+const UNPAID: Reply = Reply::Returned {
+    paid: 0,
+    available: 1500,
+};
+
+const FORFEIT: Reply = Reply::Forfeit {
+    paid: 1050,
+    available: 450,
+};
+
+const CREDITED: Reply = Reply::Credited { available: 1050 };
+
+/// What an answer sends last, whether its post was a stray, and the last fault that an ask got.
+type Answered = (Sends, bool, Option<AccountFault>);
+
+const STRAY: Answered = (Sends::Nothing, true, None);
+
+const NOTHING: Answered = (Sends::Nothing, false, None);
+
+/// The limit of the histories, the rounds, the answers, the replies that are entered, and whether
+/// the first two of these are of one call.
+type Row = (
+    u32,
+    &'static [Round],
+    &'static [Answered],
+    &'static [Reply],
+    bool,
+);
+
+const AT_ONCE: [Round; 1] = [(Say::Begins(1, ONE), Some(Say::Begins(2, TWO)))];
+
+const RECHARGED: [Round; 3] = [
+    (Say::Begins(1, ONE), None),
+    (Say::Recharges(7, 600), None),
+    (Say::Begins(2, TWO), None),
+];
+
+const BUSY: [Round; 3] = [
+    (Say::Begins(1, ONE), None),
+    (Say::Busy(1), None),
+    (Say::Reports(1, false, 300), None),
+];
+
+/// The switch says that more was talked than was granted.
+const LIES: [Round; 8] = [
+    (Say::Begins(1, ONE), None),
+    (Say::Answers(1), None),
+    (Say::Reports(1, true, 700), None),
+    (Say::Reports(1, true, 700), None),
+    (Say::HangsUp(1), None),
+    (Say::Ends(1), None),
+    (Say::Ends(1), None),
+    (Say::Begins(1, ONE), None),
+];
+
+const LIES_ANSWERED: [Answered; 8] = [
+    (Sends::Period, false, None),
+    NOTHING,
+    (Sends::Failure, false, None),
+    STRAY,
+    (Sends::Continue, false, None),
+    NOTHING,
+    STRAY,
+    STRAY,
+];
+
+/// The history is full when the first grant was talked.
+const FILLS: [Round; 4] = [
+    (Say::Begins(1, ONE), None),
+    (Say::Answers(1), None),
+    (Say::Reports(1, true, 600), None),
+    (Say::Ends(1), None),
+];
+
+const FILLS_ANSWERED: [Answered; 4] = [
+    (Sends::Period, false, None),
+    NOTHING,
+    (Sends::Failure, false, Some(AccountFault::HistoryFull)),
+    NOTHING,
+];
+
+const FITS: [Round; 5] = [
+    (Say::Begins(1, ONE), None),
+    (Say::Answers(1), None),
+    (Say::Reports(1, true, 600), None),
+    (Say::Reports(1, false, 870), None),
+    (Say::Ends(1), None),
+];
+
+const FITS_ANSWERED: [Answered; 5] = [
+    (Sends::Period, false, None),
+    NOTHING,
+    (Sends::Last, false, None),
+    NOTHING,
+    NOTHING,
+];
+
+const FITS_REPLIES: [Reply; 5] = [WHOLE, SETTLED, REST, ALL_SETTLED, ALL_RETURNED];
+
+const ROWS: [Row; 7] = [
+    (
+        1000,
+        &AT_ONCE,
+        &[(Sends::Period, false, None), (Sends::Period, false, None)],
+        &[WHOLE, OTHER_REST],
+        false,
+    ),
+    (
+        1000,
+        &RECHARGED,
+        &[
+            (Sends::Period, false, None),
+            NOTHING,
+            (Sends::Period, false, None),
+        ],
+        &[WHOLE, CREDITED, WHOLE_AGAIN],
+        false,
+    ),
+    (
+        1000,
+        &BUSY,
+        &[(Sends::Period, false, None), NOTHING, STRAY],
+        &[WHOLE, UNPAID],
+        true,
+    ),
+    (
+        1000,
+        &LIES,
+        &LIES_ANSWERED,
+        &[WHOLE, FORFEIT, RETURNED],
+        true,
+    ),
+    (
+        4,
+        &FILLS,
+        &FILLS_ANSWERED,
+        &[WHOLE, SETTLED, RETURNED],
+        true,
+    ),
+    (5, &FITS, &FITS_ANSWERED, &FITS_REPLIES, true),
+    (1000, &FITS, &FITS_ANSWERED, &FITS_REPLIES, true),
+];
+
+/// Compares what a driver heard.
+fn expect_heard(rt: &impl Abort, heard: &[Heard], answered: &[Answered], limit: u32) {
+    assert_eq!(rt; heard.len(), answered.len(), "with {limit}");
+    for (said, (sends, stray, refused)) in heard.iter().zip(answered) {
+        let found = (said.last, said.stray, said.refused);
+        assert_eq!(rt; found, (last_of(*sends), *stray, *refused), "with {limit}");
+    }
+}
+
+/// Whether the first two entries are of one call, where there are two.
+fn are_of_one_call(entries: &[Entry]) -> Option<bool> {
+    match entries {
+        [first, second, ..] => Some(first.op.call() == second.op.call()),
+        _ => None,
     }
 }
 
@@ -117,95 +268,92 @@ pub(crate) fn expect_entries(
     replies: &[Reply],
     is_one_call: bool,
 ) {
-    assert_eq!(rt; entries.len(), replies.len(), "of {entries:?}");
+    assert_eq!(rt; entries.len(), replies.len());
     for (entry, reply) in entries.iter().zip(replies) {
-        assert_eq!(rt; entry.reply, *reply, "of {entries:?}");
+        assert_eq!(rt; entry.reply, *reply);
     }
-    assert!(rt; entries.len() >= 2);
-    let is_same = entries[0].op.call() == entries[1].op.call();
-    assert_eq!(rt; is_same, is_one_call, "of {entries:?}");
+    assert_eq!(rt; are_of_one_call(entries), Some(is_one_call));
+}
+
+/// Plays the rounds of a row over accounts of a form, and compares what comes of them.
+fn expect_row<S: Shared, R: Abort + Wait + Threads + Sync>(
+    rt: &R,
+    alloc: Global,
+    row: Row,
+) -> Result<(), Fail> {
+    let (limit, rounds, answered, replies, is_one_call) = row;
+    let setup = set_up_two(alloc, 7, limit)?;
+    let bodies = bodies_of(alloc, rounds)?;
+    let (books, driver) = play::<S, _, _>(rt, alloc, &setup, bodies.as_slice(), &OpenGate);
+    expect_heard(rt, driver.heard(), answered, limit);
+    let books = books?;
+    expect_entries(rt, entries_of(books.as_slice()), replies, is_one_call);
+    Ok(())
 }
 
 #[test]
 fn posts_are_answered_and_entered(rt: HostRuntime) -> Result<(), Fail> {
-    let first = begun(1, "491700001", "4930")?;
-    let second = begun(2, "491700002", "4930")?;
-    let at_once = [(first, Some(second))];
-    let recharged = [(first, None), (recharge(7, 600), None), (second, None)];
-    let ended = [
-        (first, None),
-        (of_call(1, notified(Event::CalledPartyBusy)), None),
-        (of_call(1, report(false, 300)), None),
-    ];
-    let whole = granted(600, false, 450);
-    let credited = Reply::Credited { available: 1050 };
-    let returned = Reply::Returned {
-        paid: 0,
-        available: 1500,
-    };
-    // The rounds, the answers and the strays among them, the replies that are entered, and whether
-    // the first two of these are of one call.
-    let rows: [(&[(Body, Option<Body>)], (usize, usize), &[Reply], bool); 3] = [
-        (&at_once, (2, 0), &[whole, granted(240, true, 0)], false),
-        (
-            &recharged,
-            (3, 0),
-            &[whole, credited, granted(600, false, 0)],
-            false,
-        ),
-        (&ended, (3, 1), &[whole, returned], true),
-    ];
-    for (rounds, heard, replies, is_one_call) in rows {
-        for played in [
-            play(&rt, rt.alloc(), 7, rounds, 2, &OpenGate)?,
-            play_over_locks(&rt, rt.alloc(), rounds)?,
-        ] {
-            assert_eq!(rt; (played.answered, played.strays), heard, "of {rounds:?}");
-            let books = played.books?;
-            expect_entries(&rt, entries_of(books.as_slice()), replies, is_one_call);
-        }
+    for row in ROWS {
+        expect_row::<TurnAccount, _>(&rt, rt.alloc(), row)?;
+        expect_row::<SharedAccount, _>(&rt, rt.alloc(), row)?;
     }
     Ok(())
 }
 
-/// Plays the first messages of two calls past a gate, the second call of the account `second`, and
-/// counts the entries of both accounts.
-fn entries_past<R: Wait + Threads + Sync>(
+/// Plays a round of two calls past a gate; the second subscriber is of the account `second`.
+fn play_past<R: Wait + Threads + Sync, G: Gate + Sync>(
     rt: &R,
     alloc: Global,
     second: u32,
-    gate: &Meeting,
-) -> Result<Option<(usize, usize)>, Fail> {
-    let calls = [(
-        begun(1, "491700001", "4930")?,
-        Some(begun(2, "491700002", "4930")?),
-    )];
-    let books = play(rt, alloc, second, &calls, 2, gate)?.books?;
-    match books.as_slice() {
-        [one, other] => Ok(Some((one.history().len(), other.history().len()))),
-        _ => Ok(None),
+    rounds: &[Round],
+    gate: &G,
+) -> Result<Result<Vec<Book>, RunFault>, Fail> {
+    let setup = set_up_two(alloc, second, 1000)?;
+    let bodies = bodies_of(alloc, rounds)?;
+    Ok(play::<TurnAccount, _, _>(rt, alloc, &setup, bodies.as_slice(), gate).0)
+}
+
+/// How many entries each of two books has.
+fn counts_of(books: &[Book]) -> Option<(usize, usize)> {
+    match books {
+        [one, other] => Some((one.history().len(), other.history().len())),
+        _ => None,
     }
 }
 
+/// Calls that meet at a gate, or whose accounts do: how many entries each account has then.
+fn expect_met<R: Abort + Wait + Threads + Sync>(
+    rt: &R,
+    alloc: Global,
+    second: u32,
+    of: Of,
+    entries: (usize, usize),
+) -> Result<(), Fail> {
+    let gate = match of {
+        Of::Calls => Meeting::new(of, 1, 2),
+        Of::Accounts => Meeting::new(of, 7, 8),
+    };
+    let books = play_past(rt, alloc, second, &AT_ONCE, &gate)??;
+    assert_eq!(rt; counts_of(books.as_slice()), Some(entries));
+    Ok(())
+}
+
+const REFUSED_FIRST: [Round; 1] = [(Say::Begins(2, TWO), Some(Say::Begins(1, ONE)))];
+
 /// Where a worker has failed, the other one is waited for, though it is held.
 fn waits_for_all<R: Abort + Threads + Wait + Sync>(rt: &R, alloc: Global) -> Result<(), Fail> {
-    let refused = begun(2, "491700002", "4930")?;
-    let held = begun(1, "491700001", "4930")?;
     let gate = Holding::new(2);
-    let played = play(rt, alloc, 7, &[(refused, Some(held))], 2, &gate)?;
-    assert!(rt; gate.was_said());
-    assert_eq!(rt; played.books.err(), Some(RunFault::GateClosed));
+    let fault = play_past(rt, alloc, 7, &REFUSED_FIRST, &gate)?.err();
+    assert_eq!(rt;
+        (gate.was_said(), fault),
+        (true, Some(RunFault::GateClosed))
+    );
     Ok(())
 }
 
 #[test]
 fn calls_and_accounts_meet(rt: HostRuntime) -> Result<(), Fail> {
-    let of_calls = Meeting::new(Of::Calls, 1, 2);
-    assert_eq!(rt; entries_past(&rt, rt.alloc(), 7, &of_calls)?, Some((2, 0)));
-    let of_accounts = Meeting::new(Of::Accounts, 7, 8);
-    assert_eq!(rt;
-        entries_past(&rt, rt.alloc(), 8, &of_accounts)?,
-        Some((1, 1))
-    );
+    expect_met(&rt, rt.alloc(), 7, Of::Calls, (2, 0))?;
+    expect_met(&rt, rt.alloc(), 8, Of::Accounts, (1, 1))?;
     waits_for_all(&rt, rt.alloc())
 }

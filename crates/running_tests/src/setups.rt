@@ -1,11 +1,11 @@
 //! Setups that are made, and setups that aren't.
 
-use account_core::MIN_LIMIT;
 use cap_values::Number;
 use dialogue_core::ServiceConfig;
 use run_texts::read_setup;
 use run_values::{Directory, OpeningCredit, RunSetup, SetupFault};
 use std::alloc::Global;
+use std::process::Abort;
 use std::test::Fail;
 use tariff_core::{MAX_MOMENT, Tariff};
 
@@ -53,139 +53,179 @@ pub(crate) fn list(alloc: Global, accounts: &[(u32, u64)]) -> Result<Directory, 
     Ok(directory)
 }
 
+const MOST: u64 = 1_000_000_000_000_000;
+
+/// Accounts with their credit, the accounts of one subscriber, the limit, and the fault.
+type Row = (
+    &'static [(u32, u64)],
+    &'static [u32],
+    u32,
+    Option<SetupFault>,
+);
+
+const REPEATED: Option<SetupFault> = Some(SetupFault::Repeated);
+
+const UNKNOWN: Option<SetupFault> = Some(SetupFault::Unknown);
+
+const OUT_OF_RANGE: Option<SetupFault> = Some(SetupFault::OutOfRange);
+
+const ROWS: [Row; 14] = [
+    (&[], &[], 3, None),
+    (&[], &[], 1_000_000, None),
+    (&[], &[], 2, OUT_OF_RANGE),
+    (&[], &[], 1_000_001, OUT_OF_RANGE),
+    (&[(7, MOST)], &[], 3, None),
+    (&[(7, 1_000_000_000_000_001)], &[], 3, OUT_OF_RANGE),
+    (&[(7, 5), (7, 5)], &[], 3, REPEATED),
+    (&[(7, 5), (8, 5), (7, 6)], &[], 3, REPEATED),
+    (&[(7, 5), (7, 1_000_000_000_000_001)], &[], 3, OUT_OF_RANGE),
+    (&[(7, 5)], &[7], 3, None),
+    (&[(7, 5)], &[8], 3, UNKNOWN),
+    (&[(7, 5)], &[7, 8], 3, REPEATED),
+    (&[(7, 5), (7, 5)], &[8], 3, REPEATED),
+    (&[(7, 5), (7, 5)], &[], 2, OUT_OF_RANGE),
+];
+
+/// Why a setup isn't made, if it isn't.
+fn fault_of(
+    alloc: Global,
+    accounts: &[(u32, u64)],
+    payers: &[u32],
+    limit: u32,
+) -> Result<Option<SetupFault>, Fail> {
+    let one = Number::new("491700001")?;
+    let mut subscribers = Vec::new(alloc);
+    for account in payers {
+        subscribers.push((one, *account))?;
+    }
+    let made = set_up(alloc, BAND, accounts, subscribers.as_slice(), limit)?;
+    Ok(made.err())
+}
+
 #[test]
 fn faults_are_wanted(rt: HostRuntime) -> Result<(), Fail> {
-    let one = Number::new("491700001")?;
-    let most = 1_000_000_000_000_000;
-    let rows: [(&[(u32, u64)], &[(Number, u32)], u32, Option<SetupFault>); 14] = [
-        (&[], &[], 3, None),
-        (&[], &[], 1_000_000, None),
-        (&[], &[], 2, Some(SetupFault::OutOfRange)),
-        (&[], &[], 1_000_001, Some(SetupFault::OutOfRange)),
-        (&[(7, most)], &[], 3, None),
-        (&[(7, most + 1)], &[], 3, Some(SetupFault::OutOfRange)),
-        (&[(7, 5), (7, 5)], &[], 3, Some(SetupFault::Repeated)),
-        (
-            &[(7, 5), (8, 5), (7, 6)],
-            &[],
-            3,
-            Some(SetupFault::Repeated),
-        ),
-        (
-            &[(7, 5), (7, most + 1)],
-            &[],
-            3,
-            Some(SetupFault::OutOfRange),
-        ),
-        (&[(7, 5)], &[(one, 7)], 3, None),
-        (&[(7, 5)], &[(one, 8)], 3, Some(SetupFault::Unknown)),
-        (
-            &[(7, 5)],
-            &[(one, 7), (one, 8)],
-            3,
-            Some(SetupFault::Repeated),
-        ),
-        (
-            &[(7, 5), (7, 5)],
-            &[(one, 8)],
-            3,
-            Some(SetupFault::Repeated),
-        ),
-        (&[(7, 5), (7, 5)], &[], 2, Some(SetupFault::OutOfRange)),
-    ];
-    for (accounts, subscribers, limit, fault) in rows {
-        let made = set_up(rt.alloc(), BAND, accounts, subscribers, limit)?;
-        assert_eq!(rt;
-            made.err(),
-            fault,
-            "at {accounts:?}, {subscribers:?} and {limit}"
-        );
+    let mut place: usize = 0;
+    for (accounts, payers, limit, want) in ROWS {
+        let fault = fault_of(rt.alloc(), accounts, payers, limit)?;
+        assert_eq!(rt; fault, want, "row {place}");
+        place = place.saturating_add(1);
     }
     Ok(())
 }
 
-#[test]
-fn what_was_given_is_found(rt: HostRuntime) -> Result<(), Fail> {
-    let one = Number::new("491700001")?;
-    let two = Number::new("4917")?;
-    let accounts = [(9, 300), (2, 100), (7, 200)];
-    let setup = set_up(rt.alloc(), BAND, &accounts, &[(one, 7), (two, 2)], 30)??;
-    assert_eq!(rt; setup.account_count(), 3);
-    for (place, number, opening) in [(0, 2, 100), (1, 7, 200), (2, 9, 300)] {
-        assert_eq!(rt; setup.place_of(number), Some(place));
-        assert!(rt; place < setup.account_count());
-        assert_eq!(rt;
-            (setup.number(place), setup.opening(place)),
-            (number, lasting(opening))
-        );
+/// Accounts that a directory of accounts 9 and 2 is given one after another: the number, the
+/// credit, its last moment, and what is said.
+type Account = (u32, u64, Option<u64>, Result<(), SetupFault>);
+
+const ACCOUNTS: [Account; 6] = [
+    (7, 1_000_000_000_000_001, None, Err(SetupFault::OutOfRange)),
+    (2, 1_000_000_000_000_001, None, Err(SetupFault::OutOfRange)),
+    (7, 100, Some(1_000_000_000_001), Err(SetupFault::OutOfRange)),
+    (2, 100, Some(1_000_000_000_001), Err(SetupFault::OutOfRange)),
+    (2, 100, None, Err(SetupFault::Repeated)),
+    (7, MOST, Some(MAX_MOMENT), Ok(())),
+];
+
+/// The accounts of one subscriber, and what is said.
+const PAYERS: [(u32, Result<(), SetupFault>); 3] = [
+    (8, Err(SetupFault::Unknown)),
+    (7, Ok(())),
+    (8, Err(SetupFault::Repeated)),
+];
+
+/// Gives a directory those accounts.
+fn judge_accounts(rt: &impl Abort, directory: &mut Directory) {
+    for (number, amount, until, made) in ACCOUNTS {
+        let opening = OpeningCredit { amount, until };
+        assert_eq!(rt; directory.account(number, opening), made, "at {number}");
     }
-    assert_eq!(rt; setup.place_of(8), None);
-    let others = Number::new("49170")?;
-    for (calling, account) in [(one, Some(7)), (two, Some(2)), (others, None)] {
-        assert_eq!(rt; setup.account_of(calling), account);
+}
+
+/// Gives it those subscribers.
+fn judge_payers(rt: &impl Abort, directory: &mut Directory, one: Number) {
+    for (account, made) in PAYERS {
+        assert_eq!(rt; directory.subscriber(one, account), made, "of {account}");
     }
-    assert_eq!(rt; setup.limit(), 30);
-    assert_eq!(rt; setup.service(), ServiceConfig::new(600, 50, 50)?);
-    for (called, is_charged) in [(b"491700002", true), (b"331700002", false)] {
-        assert_eq!(rt; setup.tariff().plan(called, 0).is_some(), is_charged);
+}
+
+/// Compares the accounts that it has then.
+fn expect_listed(rt: &impl Abort, directory: &Directory) {
+    assert_eq!(rt; directory.account_count(), 3);
+    for (number, is_there) in [(2, true), (7, true), (8, false), (9, true)] {
+        assert_eq!(rt; directory.has_account(number), is_there, "at {number}");
     }
-    Ok(())
 }
 
 #[test]
 fn a_directory_judges_one_after_another(rt: HostRuntime) -> Result<(), Fail> {
     let one = Number::new("491700001")?;
-    let most = 1_000_000_000_000_000;
     let mut directory = list(rt.alloc(), &[(9, 300), (2, 100)])?;
-    let past = Some(MAX_MOMENT + 1);
-    let accounts = [
-        (7, most + 1, None, Err(SetupFault::OutOfRange)),
-        (2, most + 1, None, Err(SetupFault::OutOfRange)),
-        (7, 100, past, Err(SetupFault::OutOfRange)),
-        (2, 100, past, Err(SetupFault::OutOfRange)),
-        (2, 100, None, Err(SetupFault::Repeated)),
-        (7, most, Some(MAX_MOMENT), Ok(())),
-    ];
-    for (number, amount, until, made) in accounts {
+    judge_accounts(&rt, &mut directory);
+    judge_payers(&rt, &mut directory, one);
+    expect_listed(&rt, &directory);
+    Ok(())
+}
+
+const SETUP: &[u8] = b"kind,key,value,until\naccount,9,300,1000\nsubscriber,491700001,9,\n\
+account,2,100,\naccount,7,200,\nsubscriber,4917,2,\n";
+
+/// The accounts of that setup by their places.
+const PLACES: [(u32, u64, Option<u64>); 3] = [(2, 100, None), (7, 200, None), (9, 300, Some(1000))];
+
+/// Calling numbers, and the accounts of those that subscribe.
+const CALLING: [(&str, Option<u32>); 4] = [
+    ("491700001", Some(9)),
+    ("4917", Some(2)),
+    ("49170", None),
+    ("49170000", None),
+];
+
+/// Compares the accounts of a setup with those that were read.
+fn expect_places(rt: &impl Abort, setup: &RunSetup) {
+    assert_eq!(rt; setup.account_count(), PLACES.len());
+    let mut place: usize = 0;
+    for (number, amount, until) in PLACES {
         let opening = OpeningCredit { amount, until };
-        assert_eq!(rt; directory.account(number, opening), made, "at {number}");
+        assert!(rt; place < setup.account_count());
+        let found = (
+            setup.place_of(number),
+            setup.number(place),
+            setup.opening(place),
+        );
+        assert_eq!(rt; found, (Some(place), number, opening));
+        assert_eq!(rt; setup.accounts().get(place), Some(&(number, opening)));
+        place = place.saturating_add(1);
     }
-    let subscribers = [
-        (8, Err(SetupFault::Unknown)),
-        (7, Ok(())),
-        (8, Err(SetupFault::Repeated)),
-    ];
-    for (account, made) in subscribers {
-        assert_eq!(rt; directory.subscriber(one, account), made, "of {account}");
-    }
-    assert_eq!(rt; directory.account_count(), 3);
-    for (number, is_there) in [(2, true), (7, true), (8, false), (9, true)] {
-        assert_eq!(rt; directory.has_account(number), is_there, "at {number}");
+    assert_eq!(rt; setup.place_of(8), None);
+}
+
+/// Compares the account of each calling number.
+fn expect_payers(rt: &impl Abort, setup: &RunSetup) -> Result<(), Fail> {
+    for (calling, account) in CALLING {
+        assert_eq!(rt;
+            setup.account_of(Number::new(calling)?),
+            account,
+            "of {calling}"
+        );
     }
     Ok(())
 }
 
+/// Compares the limit, the service and the tariff of a setup.
+fn expect_terms(rt: &impl Abort, setup: &RunSetup, service: ServiceConfig) {
+    assert_eq!(rt; (setup.limit(), setup.service()), (30, service));
+    for (called, is_charged) in [(b"491700002", true), (b"331700002", false)] {
+        assert_eq!(rt; setup.tariff().plan(called, 0).is_some(), is_charged);
+    }
+}
+
 #[test]
 fn a_run_is_set_up_with_what_was_read(rt: HostRuntime) -> Result<(), Fail> {
-    let text =
-        b"kind,key,value,until\naccount,9,300,1000\nsubscriber,491700001,9,\naccount,2,100,\n".as_slice();
-    let directory = read_setup(rt.alloc(), text)?;
-    let tariff = Tariff::read(rt.alloc(), BAND)?;
     let service = ServiceConfig::new(600, 50, 50)?;
-    let setup = RunSetup::of(rt.alloc(), directory, tariff, service, MIN_LIMIT)?;
-    assert_eq!(rt; setup.account_count(), 2);
-    for (place, number, amount, until) in [(0, 2, 100, None), (1, 9, 300, Some(1000))] {
-        assert!(rt; place < setup.account_count());
-        assert_eq!(rt;
-            (setup.number(place), setup.opening(place)),
-            (number, OpeningCredit { amount, until })
-        );
-    }
-    let until = Some(1000);
-    let last = OpeningCredit { amount: 300, until };
-    assert_eq!(rt; setup.accounts(), [(2, lasting(100)), (9, last)].as_slice());
-    assert_eq!(rt; setup.account_of(Number::new("491700001")?), Some(9));
-    assert_eq!(rt; setup.account_of(Number::new("49170000")?), None);
-    assert_eq!(rt; setup.limit(), 3);
-    Ok(())
+    let tariff = Tariff::read(rt.alloc(), BAND)?;
+    let directory = read_setup(rt.alloc(), SETUP)?;
+    let setup = RunSetup::of(rt.alloc(), directory, tariff, service, 30)?;
+    expect_places(&rt, &setup);
+    expect_terms(&rt, &setup, service);
+    expect_payers(&rt, &setup)
 }

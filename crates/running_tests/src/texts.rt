@@ -1,150 +1,19 @@
-//! Inputs that are divided, and the tables of their sections that are read.
+//! Readers that fail: the tables of a setup and of a script keep that fault, unless a row in front
+//! of it has one. Each fault of their rows is tried in tests/program.
 
 use crate::setups::list;
-use cap_values::{Leg, Number};
-use run_texts::{Happening, ScriptRow, Sections, divide, read_script, read_setup};
-use ssf_core::BcsmEvent;
+use run_texts::{read_script, read_setup};
+use run_values::Directory;
+use std::alloc::Global;
 use std::io::{self, ErrorKind, Read};
+use std::process::Abort;
 use std::test::Fail;
-use table_core::TableFault;
-
-const INPUT: &[u8] = b"prefix,from,fee,rate\n49,00:00,50,1000\n%%\nkind,key,value\naccount,7,1500\n\
-subscriber,491700001,7\n%%\nmoment,call,what,x,y\n0,1,start,491700001,4930\n100,1,answer,,\n\
-400,1,disconnect,1,\n";
-
-/// Inputs, and their tariff, setup and script.
-const DIVIDED: [(&[u8], &[u8], &[u8], &[u8]); 7] = [
-    (b"a\n%%\nb\n%%\nc\n", b"a\n", b"b\n", b"c\n"),
-    (b"a\r\n%%\r\nb\r\n%%\r\nc", b"a\r\n", b"b\r\n", b"c"),
-    (b"%%\n%%\n", b"", b"", b""),
-    (b"%%\n%%", b"", b"", b""),
-    (b"a\n%%\n\n%%", b"a\n", b"\n", b""),
-    (b"\"a\n%%\n\"b\n%%\nc", b"\"a\n", b"\"b\n", b"c"),
-    (b"%%,\n%%\n %%\n%%\n", b"%%,\n", b" %%\n", b""),
-];
-
-/// Inputs that haven't three sections.
-const UNDIVIDED: [&[u8]; 11] = [
-    b"",
-    b"a\nb\n",
-    b"%%",
-    b"a\n%%\nb\n",
-    b"a\n%%\nb\n%%\r",
-    b"a%%\nb\n%%\nc\n",
-    b"a\n%%%\nb\n%%\nc\n",
-    b"a\r%%\nb\n%%\nc\n",
-    b"a\n%%\rb\n%%\nc\n",
-    b"a\n%%\nb\n%%\nc\n%%\n",
-    b"%%\n%%\n%%",
-];
-
-#[test]
-fn divides_an_input(rt: HostRuntime) {
-    for (input, tariff, setup, script) in DIVIDED {
-        let want = Sections {
-            tariff,
-            setup,
-            script,
-        };
-        assert_eq!(rt; divide(input), Some(want), "of {input:?}");
-    }
-    for input in UNDIVIDED {
-        assert_eq!(rt; divide(input), None, "of {input:?}");
-    }
-}
-
-fn row(at: u64, what: Happening) -> ScriptRow {
-    ScriptRow { at, what }
-}
-
-#[test]
-fn reads_a_whole_run(rt: HostRuntime) -> Result<(), Fail> {
-    let Some(
-        Sections {
-            tariff,
-            setup,
-            script,
-        },
-    ) = divide(INPUT)
-    else {
-        return Err(Fail::from("not divided"));
-    };
-    let band = b"prefix,from,fee,rate\n49,00:00,50,1000\n".as_slice();
-    assert_eq!(rt; tariff, band);
-    let calling = Number::new("491700001")?;
-    let called = Number::new("4930")?;
-    let directory = read_setup(rt.alloc(), setup)?;
-    assert_eq!(rt; directory.account_count(), 1);
-    assert!(rt; directory.has_account(7));
-    let rows = read_script(rt.alloc(), &directory, script)?;
-    let start = Happening::Start {
-        call: 1,
-        calling,
-        called,
-    };
-    let answer = Happening::Meets {
-        call: 1,
-        event: BcsmEvent::Answer,
-    };
-    let disconnect = Happening::Meets {
-        call: 1,
-        event: BcsmEvent::Disconnect(Leg::One),
-    };
-    let want = [row(0, start), row(100, answer), row(400, disconnect)];
-    assert_eq!(rt; rows.as_slice(), want.as_slice());
-    Ok(())
-}
-
-/// Words of a script after the call, and what a call meets by them.
-const WORDS: [(&str, BcsmEvent); 7] = [
-    ("answer,,", BcsmEvent::Answer),
-    ("busy,,", BcsmEvent::Busy),
-    ("noanswer,,", BcsmEvent::NoAnswer),
-    ("routefail,,", BcsmEvent::RouteSelectFailure),
-    ("abandon,,", BcsmEvent::Abandon),
-    ("disconnect,1,", BcsmEvent::Disconnect(Leg::One)),
-    ("disconnect,2,", BcsmEvent::Disconnect(Leg::Two)),
-];
-
-#[test]
-fn reads_each_word(rt: HostRuntime) -> Result<(), Fail> {
-    let script: &[u8] = b"moment,call,what,x,y,z\n0,18446744073709551615,start,0,123456789012345,\n\
-0,,recharge,4294967295,1000000000000000,1000000000000\n0,,recharge,007,0,\n";
-    let directory = list(rt.alloc(), &[(7, 0), (u32::MAX, 0)])?;
-    let rows = read_script(rt.alloc(), &directory, script)?;
-    let start = Happening::Start {
-        call: u64::MAX,
-        calling: Number::new("0")?,
-        called: Number::new("123456789012345")?,
-    };
-    let most = Happening::Recharge {
-        account: u32::MAX,
-        amount: 1_000_000_000_000_000,
-        until: Some(1_000_000_000_000),
-    };
-    let least = Happening::Recharge {
-        account: 7,
-        amount: 0,
-        until: None,
-    };
-    let want = [row(0, start), row(0, most), row(0, least)];
-    assert_eq!(rt; rows.as_slice(), want.as_slice());
-    for (word, event) in WORDS {
-        let text = format!(in rt.alloc();
-            "moment,call,what,x,y\r\n5,3,start,1,2\r\n1000000000000,3,{word}"
-        )?;
-        let rows = read_script(rt.alloc(), &directory, text.as_bytes())?;
-        let what = Happening::Meets { call: 3, event };
-        let last = rows.as_slice().last().copied();
-        assert_eq!(rt; last, Some(row(1_000_000_000_000, what)), "of {word}");
-    }
-    Ok(())
-}
+use table_core::{RowFault, RowKind, TableFault};
 
 /// A reader that gives some bytes and then fails.
 #[derive(Drop)]
-pub(crate) struct Failing<'a> {
-    pub bytes: &'a [u8],
+struct Failing<'a> {
+    bytes: &'a [u8],
 }
 
 impl Read for Failing<'_> {
@@ -156,20 +25,106 @@ impl Read for Failing<'_> {
     }
 }
 
+/// Setups whose last row has a fault, its number, and the fault.
+const SETUPS: [(&[u8], u32, RowKind); 7] = [
+    (b"kind,key\n", 1, RowKind::Header),
+    (b"kind,key,value\naccount,7\n", 2, RowKind::Csv),
+    (b"kind,key,value\naccounts,7,1\n", 2, RowKind::What),
+    (b"kind,key,value\naccount,7,x\n", 2, RowKind::Number),
+    (
+        b"kind,key,value,until\naccount,7,1,\nsubscriber,49,7,1\n",
+        3,
+        RowKind::Empty,
+    ),
+    (
+        b"kind,key,value\naccount,7,1\naccount,7,1\n",
+        3,
+        RowKind::Repeated,
+    ),
+    (
+        b"kind,key,value\naccount,7,1\nsubscriber,49,8\n",
+        3,
+        RowKind::Unknown,
+    ),
+];
+
+/// The same of scripts.
+const SCRIPTS: [(&[u8], u32, RowKind); 8] = [
+    (b"moment,call,what,x\n", 1, RowKind::Header),
+    (b"moment,call,what,x,y\n0,1,start,1\n", 2, RowKind::Csv),
+    (b"moment,call,what,x,y\n0,1,begin,1,2\n", 2, RowKind::What),
+    (b"moment,call,what,x,y\nx,1,start,1,2\n", 2, RowKind::Number),
+    (
+        b"moment,call,what,x,y\n0,1,recharge,7,1\n",
+        2,
+        RowKind::Empty,
+    ),
+    (
+        b"moment,call,what,x,y\n5,1,start,1,2\n4,2,start,1,2\n",
+        3,
+        RowKind::Order,
+    ),
+    (
+        b"moment,call,what,x,y\n5,1,start,1,2\n5,1,start,3,4\n",
+        3,
+        RowKind::Repeated,
+    ),
+    (
+        b"moment,call,what,x,y\n0,,recharge,7,1\n0,,recharge,8,1\n",
+        3,
+        RowKind::Unknown,
+    ),
+];
+
+/// The fault of such a table whose reader fails once it has given so many bytes.
+fn fault_at(length: usize, text: &[u8], row: u32, kind: RowKind) -> Option<TableFault> {
+    if length < text.len() {
+        return Some(TableFault::Device);
+    }
+    Some(TableFault::Row(RowFault { row, kind }))
+}
+
+/// Compares the fault of a setup whose reader fails behind each of its bytes.
+fn expect_of_setup(rt: &impl Abort, alloc: Global, text: &[u8], row: u32, kind: RowKind) {
+    for length in 0..=text.len() {
+        let bytes = &text[..length];
+        let fault = read_setup(alloc, Failing { bytes }).err();
+        assert_eq!(rt;
+            fault,
+            fault_at(length, text, row, kind),
+            "after {length} of {kind:?}"
+        );
+    }
+}
+
+/// The same of a script.
+fn expect_of_script(
+    rt: &impl Abort,
+    alloc: Global,
+    directory: &Directory,
+    text: &[u8],
+    row: u32,
+    kind: RowKind,
+) {
+    for length in 0..=text.len() {
+        let bytes = &text[..length];
+        let fault = read_script(alloc, directory, Failing { bytes }).err();
+        assert_eq!(rt;
+            fault,
+            fault_at(length, text, row, kind),
+            "after {length} of {kind:?}"
+        );
+    }
+}
+
 #[test]
 fn names_a_reader_that_fails(rt: HostRuntime) -> Result<(), Fail> {
-    let setup = b"kind,key,value\naccount,7,1\n";
-    for length in 0..setup.len() {
-        let bytes = &setup[..length];
-        let fault = read_setup(rt.alloc(), Failing { bytes }).err();
-        assert_eq!(rt; fault, Some(TableFault::Device), "after {length}");
+    for (text, row, kind) in SETUPS {
+        expect_of_setup(&rt, rt.alloc(), text, row, kind);
     }
     let directory = list(rt.alloc(), &[(7, 1500), (9, 0)])?;
-    let script = b"moment,call,what,x,y\n0,,recharge,7,1\n";
-    for length in 0..script.len() {
-        let bytes = &script[..length];
-        let fault = read_script(rt.alloc(), &directory, Failing { bytes }).err();
-        assert_eq!(rt; fault, Some(TableFault::Device), "after {length}");
+    for (text, row, kind) in SCRIPTS {
+        expect_of_script(&rt, rt.alloc(), &directory, text, row, kind);
     }
     Ok(())
 }
