@@ -1,9 +1,9 @@
 #!/usr/bin/env python3
 """Proves the libraries that a crate uses, several at once: tests/prove.py [CRATE], prepaid where no CRATE is named.
 
-`rt` proves the libraries below a crate one after another, or with `rt all` each by one process. This begins with the longest
-chain of crates, and gives the processors that no other crate waits for to those at work. What is proved is kept where `rt`
-keeps it, so `rt` finds it there. JOBS says how many processors there are.
+`rt` proves the libraries below a crate one after another. This begins with the longest chain of crates, and gives the
+processors that no other crate waits for to those at work that have few libraries to load. What is proved is kept where
+`rt` keeps it, so `rt` finds it there. JOBS says how many processors there are.
 """
 import copy
 import os
@@ -13,7 +13,9 @@ import tempfile
 from concurrent.futures import FIRST_COMPLETED, ThreadPoolExecutor, wait
 
 ROOT = os.path.dirname(os.path.dirname(os.path.abspath(__file__)))
-# More jobs on one crate cost processor time and gain nothing.
+# Each job on a crate loads the libraries below anew: more than one gain nothing where these are many, and more than four
+# nowhere.
+FEW_LIBRARIES = 2
 MOST_JOBS = 4
 sys.path.insert(0, os.path.dirname(os.path.realpath(shutil.which("rt") or sys.exit("rt isn't there"))))
 import rtlib
@@ -50,7 +52,8 @@ def prove(libraries, processors):
             for place, it in enumerate(ready):
                 idle = processors - sum(jobs for _, jobs in running.values())
                 if idle > 0:
-                    jobs = max(1, min(MOST_JOBS, idle // (len(ready) - place)))
+                    most = MOST_JOBS if len(it.below()) <= FEW_LIBRARIES else 1
+                    jobs = max(1, min(most, idle // (len(ready) - place)))
                     running[pool.submit(build, it, jobs)] = it, jobs
                     left.remove(it)
             for ended in wait(running, return_when=FIRST_COMPLETED).done:
