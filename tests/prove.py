@@ -32,7 +32,7 @@ def work_behind(libraries):
 
 
 def build(library, jobs):
-    """Proves a library, unless it is proved. Whether it is: then the last line of what the toolchain says is printed, else all."""
+    """Proves a library, unless it is proved, and prints what the toolchain says, all or its last line. Whether it is proved."""
     library = copy.copy(library)
     with tempfile.TemporaryFile("a+", errors="replace") as library.out:
         status = library.build_rlib(["--jobs", str(jobs)], anew=False)
