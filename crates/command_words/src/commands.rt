@@ -107,7 +107,9 @@ pub(crate) fn run() -> CommandWords
             option!(--calls "Prints the calls, in place of the lines"),
             option!(--trace "Prints what was said, in place of the lines"),
             option!(--clock "Prints the moments of calls or a trace as dates and times"),
-            option!([--into <FOLDER>] "Writes lines, book, calls and trace into files of this folder"),
+            option!(
+                [--into <FOLDER>] "Writes lines, book, calls and trace into files of this folder"
+            ),
         ],
     }
 }

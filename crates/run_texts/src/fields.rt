@@ -55,7 +55,8 @@ pub(crate) fn is_left_out(row: &ByteRecord, place: usize) -> bool
 /// The number of a party.
 pub fn party(row: &ByteRecord, place: usize) -> Result<Number, RowKind>
     requires { place < length (fields_of row.now) }
-    ensures { result_map_both digits_of_number (λ kind. kind) result ≡ party_in (fields_of row.now) place }
+    ensures { result_map_both digits_of_number (λ kind. kind) result
+        ≡ party_in (fields_of row.now) place }
 {
     let Ok(text) = str::from_utf8(field(row, place)) else {
         return Err(RowKind::Number);

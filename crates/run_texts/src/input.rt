@@ -144,7 +144,8 @@ fn split(text: &[u8]) -> Option<(&[u8], &[u8])>
 /// The length of the first line of a text, with the LF that ends it.
 fn line_length(text: &[u8]) -> usize
     requires { 0 < length text.now }
-    ensures line { lines_in_text text.now ≡ take result text.now ∷ lines_in_text (drop result text.now) }
+    ensures line { lines_in_text text.now
+        ≡ take result text.now ∷ lines_in_text (drop result text.now) }
     ensures some { 0 < result }
     ensures within { result ≤ length text.now }
 {

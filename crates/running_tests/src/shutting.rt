@@ -28,7 +28,8 @@ impl Door {
     }
 }
 
-/// A gate with a door before messages and one inside accounts, which counts the answers that it hears of.
+/// A gate with a door before messages and one inside accounts, which counts the answers that it
+/// hears of.
 #[derive(Drop)]
 pub(crate) struct Shutting {
     before: Door,
