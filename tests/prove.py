@@ -1,9 +1,10 @@
 #!/usr/bin/env python3
 """Proves the libraries that a crate uses, several at once: tests/prove.py [CRATE], prepaid where no CRATE is named.
 
-`rt` proves the libraries below a crate one after another. This begins with the longest chain of crates, and gives the
-processors that no other crate waits for to those at work that have few libraries to load. What is proved is kept where
-`rt` keeps it, so `rt` finds it there. JOBS says how many processors there are.
+`rt` proves the libraries below a crate one after another, and keeps their proofs, which each crate above loads again.
+This gives all processors to the longest chain of crates, what they leave to the other crates, and keeps of a library
+what crates above can name, its statements, as the gate does. A library is proved from nothing where its files or those
+of a library below have changed. `rt` finds each where it keeps its own. JOBS says how many processors there are.
 """
 import copy
 import os
@@ -13,12 +14,21 @@ import tempfile
 from concurrent.futures import FIRST_COMPLETED, ThreadPoolExecutor, wait
 
 ROOT = os.path.dirname(os.path.dirname(os.path.abspath(__file__)))
-# Each job on a crate loads the libraries below anew: more than one gain nothing where these are many, and more than four
-# nowhere.
-FEW_LIBRARIES = 2
+# More jobs on one crate than these take more time of the processors and end hardly sooner.
 MOST_JOBS = 4
+# How far behind the longest chain the other crates are.
+NICENESS = 10
 sys.path.insert(0, os.path.dirname(os.path.realpath(shutil.which("rt") or sys.exit("rt isn't there"))))
 import rtlib
+
+
+def lines_of(library):
+    """The lines of its code, definitions and proofs."""
+    count = 0
+    for file in rtlib.files_of(library.folder):
+        with open(file, "rb") as it:
+            count += it.read().count(b"\n")
+    return count
 
 
 def work_behind(libraries):
@@ -27,15 +37,45 @@ def work_behind(libraries):
     # Each library is behind those that it uses.
     for it in reversed(libraries):
         above = [behind[other] for other in libraries if it in other.deps]
-        behind[it] = it.count(rb"\n") + max(above, default=0)
+        behind[it] = lines_of(it) + max(above, default=0)
     return behind
 
 
-def build(library, jobs):
+def stamp_of(library):
+    """The file that says of which files a library was proved."""
+    return f"{library.folder}/out/rlib/stamp"
+
+
+def is_proved(library):
+    """Whether a library is proved as it is, over those below as they are."""
+    if not library.is_built():
+        return False
+    proved = os.stat(stamp_of(library)).st_mtime_ns
+    return all(os.path.exists(stamp_of(it)) and os.stat(stamp_of(it)).st_mtime_ns <= proved for it in library.below())
+
+
+def prove_alone(library, jobs, niceness):
+    """Proves a library over those below. The status of the toolchain, 0 where it is proved."""
+    stamp = library.stamp()
+    folder = os.path.dirname(stamp_of(library))
+    shutil.rmtree(folder, ignore_errors=True)
+    os.makedirs(folder)
+    words = library.words(["--jobs", str(jobs)], keeps=False)
+    status = library.call("nice", "-n", str(niceness), rtlib.RATTLE, "build", *words, "--statements", "-o", library.rlib)
+    # What was changed meanwhile is proved the next time.
+    if status == 0 and stamp == library.stamp():
+        with open(stamp_of(library), "w", encoding="utf-8") as it:
+            it.write(stamp)
+    return status
+
+
+def build(library, jobs, niceness):
     """Proves a library, unless it is proved, and prints what the toolchain says, all or its last line. Whether it is proved."""
+    if is_proved(library):
+        return True
     library = copy.copy(library)
-    with tempfile.TemporaryFile("a+", errors="replace") as library.out:
-        status = library.build_rlib(["--jobs", str(jobs)], anew=False)
+    with tempfile.TemporaryFile("w+", errors="replace") as library.out:
+        status = prove_alone(library, jobs, niceness)
         library.out.seek(0)
         said = library.out.read().splitlines()
     for line in said if status else said[-1:]:
@@ -48,16 +88,17 @@ def prove(libraries, processors):
     behind, left, running, proved = work_behind(libraries), list(libraries), {}, set()
     with ThreadPoolExecutor(processors) as pool:
         while left or running:
+            longest = max(behind[it] for it in [*left, *running.values()])
             ready = sorted((it for it in left if proved.issuperset(it.below())), key=behind.get, reverse=True)
-            for place, it in enumerate(ready):
-                idle = processors - sum(jobs for _, jobs in running.values())
-                if idle > 0:
-                    most = MOST_JOBS if len(it.below()) <= FEW_LIBRARIES else 1
-                    jobs = max(1, min(most, idle // (len(ready) - place)))
-                    running[pool.submit(build, it, jobs)] = it, jobs
-                    left.remove(it)
+            at_work = len(running) + len(ready)
+            for it in ready[: processors - len(running)]:
+                is_longest = behind[it] == longest
+                share = processors if is_longest else processors // at_work
+                jobs = max(1, min(MOST_JOBS, share))
+                running[pool.submit(build, it, jobs, 0 if is_longest else NICENESS)] = it
+                left.remove(it)
             for ended in wait(running, return_when=FIRST_COMPLETED).done:
-                library, _ = running.pop(ended)
+                library = running.pop(ended)
                 if not ended.result():
                     # What is running goes on to its end, and nothing more is begun.
                     left.clear()
@@ -72,10 +113,10 @@ def main():
     # The first call sets what ends the toolchain's processes, which only the main thread may.
     rtlib.guarded()
     held = rtlib.lock(libraries)
-    is_proved = prove(libraries, int(os.environ.get("JOBS") or os.cpu_count()))
+    is_whole = prove(libraries, int(os.environ.get("JOBS") or os.cpu_count()))
     for it in held:
         os.close(it)
-    return 0 if is_proved else 1
+    return 0 if is_whole else 1
 
 
 if __name__ == "__main__":
