@@ -16,8 +16,8 @@ from concurrent.futures import FIRST_COMPLETED, ThreadPoolExecutor, wait
 ROOT = os.path.dirname(os.path.dirname(os.path.abspath(__file__)))
 # More jobs on one crate than these take more time of the processors and end hardly sooner.
 MOST_JOBS = 4
-# How far behind the longest chain the other crates are.
-NICENESS = 10
+# How nice a crate is of which no other waits, so that the longest chain goes first.
+NICENESS = 19
 sys.path.insert(0, os.path.dirname(os.path.realpath(shutil.which("rt") or sys.exit("rt isn't there"))))
 import rtlib
 
@@ -92,10 +92,10 @@ def prove(libraries, processors):
             ready = sorted((it for it in left if proved.issuperset(it.below())), key=behind.get, reverse=True)
             at_work = len(running) + len(ready)
             for it in ready[: processors - len(running)]:
-                is_longest = behind[it] == longest
-                share = processors if is_longest else processors // at_work
+                share = processors if behind[it] == longest else processors // at_work
                 jobs = max(1, min(MOST_JOBS, share))
-                running[pool.submit(build, it, jobs, 0 if is_longest else NICENESS)] = it
+                niceness = NICENESS * (longest - behind[it]) // longest
+                running[pool.submit(build, it, jobs, niceness)] = it
                 left.remove(it)
             for ended in wait(running, return_when=FIRST_COMPLETED).done:
                 library = running.pop(ended)
