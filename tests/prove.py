@@ -16,7 +16,7 @@ from concurrent.futures import FIRST_COMPLETED, ThreadPoolExecutor, wait
 ROOT = os.path.dirname(os.path.dirname(os.path.abspath(__file__)))
 # More jobs on one crate than these take more time of the processors and end hardly sooner.
 MOST_JOBS = 4
-# How nice a crate is of which no other waits, so that the longest chain goes first.
+# The niceness of a crate with nothing behind it; those of the longest chain have none.
 NICENESS = 19
 sys.path.insert(0, os.path.dirname(os.path.realpath(shutil.which("rt") or sys.exit("rt isn't there"))))
 import rtlib
@@ -86,19 +86,21 @@ def build(library, jobs, niceness):
 def prove(libraries, processors):
     """Proves the libraries, each once those that it uses are proved. Whether all are."""
     behind, left, running, proved = work_behind(libraries), list(libraries), {}, set()
+    most = min(MOST_JOBS, processors)
     with ThreadPoolExecutor(processors) as pool:
         while left or running:
-            longest = max(behind[it] for it in [*left, *running.values()])
             ready = sorted((it for it in left if proved.issuperset(it.below())), key=behind.get, reverse=True)
-            at_work = len(running) + len(ready)
+            longest = max(map(behind.get, left), default=0)
+            share = max(1, min(most, processors // max(1, len(ready) + len(running))))
             for it in ready[: processors - len(running)]:
-                share = processors if behind[it] == longest else processors // at_work
-                jobs = max(1, min(MOST_JOBS, share))
-                niceness = NICENESS * (longest - behind[it]) // longest
-                running[pool.submit(build, it, jobs, niceness)] = it
+                # All processors are for the longest chain, unless one of its crates has them.
+                is_next = behind[it] == longest and all(jobs < most for _, jobs in running.values())
+                jobs = most if is_next else share
+                niceness = 0 if is_next else NICENESS * (longest - behind[it]) // longest
+                running[pool.submit(build, it, jobs, niceness)] = it, jobs
                 left.remove(it)
             for ended in wait(running, return_when=FIRST_COMPLETED).done:
-                library = running.pop(ended)
+                library, _ = running.pop(ended)
                 if not ended.result():
                     # What is running goes on to its end, and nothing more is begun.
                     left.clear()
