@@ -8,7 +8,7 @@ SOURCES := crates.txt $(shell find crates -path '*/out' -prune -o -name '*.rt' -
 .PHONY: all quick run report picture test edits install dist bench recipes
 
 # Proves what is below the program, several crates at once, and builds bin/prepaid; out/proved/prepaid says by which
-# toolchain. A process takes 0.7 to 3.5 GB.
+# toolchain. A process takes 0.7 to 3.5 GB; with four processors it takes 6 GB in all.
 all: bin/prepaid
 
 bin/prepaid: $(SOURCES)
