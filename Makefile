@@ -4,8 +4,12 @@ PREFIX ?= /usr/local
 # How many processors prove.
 JOBS = $(shell nproc)
 SOURCES := crates.txt $(shell find crates -path '*/out' -prune -o -name '*.rt' -print -o -name '*.antt' -print)
+# The program that `rt ci` builds, and what of it has a test of its own.
+BUILT := crates/prepaid/out/prepaid
+HELD := serve dist docs explain words report pipe into divide program
 
 .PHONY: all quick run report picture test edits install dist bench recipes
+.PHONY: test-growths test-random test-edits $(HELD:%=test-%)
 
 # Proves what is below the program, several crates at once, and builds bin/prepaid; out/proved/prepaid says by which
 # toolchain. A process takes 0.7 to 3.5 GB; with four processors it takes 6 GB in all.
@@ -13,7 +17,7 @@ all: bin/prepaid
 
 bin/prepaid: $(SOURCES)
 	JOBS=$(JOBS) tests/prove.py prepaid
-	cd crates/prepaid && rt run --jobs 1 -- --help > /dev/null
+	cd crates/prepaid && rt run --jobs $(JOBS) -- --help > /dev/null
 	mkdir -p bin out/proved
 	rt version > out/proved/prepaid
 	cp crates/prepaid/out/prepaid $@
@@ -44,13 +48,13 @@ picture: report
 TREE = $(shell git rev-parse HEAD) $(if $(shell git status --porcelain),changed,clean)
 
 # Looks whether each edit fits its file, compares the page of definitions with their comments and the names on the
-# page of proofs with the code, proves everything from nothing, tries the edits that must fail, and runs the tests and
-# the programs; then holds the words of the man page and the completions against the formats, runs the program over
-# worked rows and the commands of the pages as they are, makes packages and uses them, compares reports with their
-# tables, runs in parts with whole ones and the files of a run with what runs print, drives the service over a pipe,
-# compares what is said of faults with a table, on a terminal too, cuts and kills a service with a log, refuses memory
-# to each call that takes any, and compares the program with its model. Once all has passed, out/passed.txt says so of
-# the commit; make expands TREE before the first line.
+# page of proofs with the code, proves everything from nothing, and runs the tests and the programs. Then, several at
+# once: tries the edits of the gate; holds the words of the man page and the completions against the formats, runs the
+# program over worked rows and the commands of the pages as they are, makes packages and uses them, compares reports
+# with their tables, runs in parts with whole ones and the files of a run with what runs print, drives the service over
+# a pipe, compares what is said of faults with a table, on a terminal too, cuts and kills a service with a log, refuses
+# memory to each call that takes any, and compares the program with its model. Once all has passed, out/passed.txt says
+# so of the commit; make expands TREE before the first line.
 test:
 	mkdir -p out
 	rm -f out/passed.txt
@@ -58,22 +62,24 @@ test:
 	tests/definitions.py
 	tests/proofs_test.py
 	set -o pipefail; rt ci | tee out/gate.txt
-	tests/words_test.py --program crates/prepaid/out/prepaid
-	tests/program_test.py --program crates/prepaid/out/prepaid
-	tests/docs_test.py --program crates/prepaid/out/prepaid
-	tests/dist_test.py --program crates/prepaid/out/prepaid
-	tests/report_test.py --program crates/prepaid/out/prepaid
-	tests/divide_test.py --program crates/prepaid/out/prepaid
-	tests/into_test.py --program crates/prepaid/out/prepaid
-	tests/pipe_test.py --program crates/prepaid/out/prepaid
-	tests/explain_test.py --program crates/prepaid/out/prepaid
-	tests/serve_test.py --program crates/prepaid/out/prepaid
-	tests/refused_growths.sh
-	tests/random.sh --program crates/prepaid/out/prepaid
+	$(MAKE) --jobs=$(JOBS) --output-sync=target test-edits test-growths test-random $(HELD:%=test-%)
 	@printf '%s\n' '$(TREE)' "$$(tail -n 1 out/gate.txt)" > out/passed.txt
 	@tail -n 1 out/gate.txt
 
-# Tries the other edits in groups; of one crate by make edits CRATE=account_core.
+$(HELD:%=test-%): test-%:
+	tests/$*_test.py --program $(BUILT)
+
+test-growths:
+	tests/refused_growths.sh
+
+test-random:
+	tests/random.sh --program $(BUILT)
+
+# Nicer than the others, as it proves on all processors.
+test-edits:
+	nice tests/gate_edits.py
+
+# Tries all edits in groups; of one crate by make edits CRATE=account_core.
 edits:
 	tests/edits.py $(CRATE)
 

@@ -3,22 +3,19 @@
 
 usage: tests/edits.py [--root FOLDER] [--lanes N] [--pages] [CRATE [EDIT..]]..
 
-An edit has the form of those in must-fail/, which the gate tries one by one. Here one check tries
-many: it changes different functions of a copy of the crate at once. The prover judges each function
+One check tries many: it changes different functions of a copy of the crate at once. The prover judges each function
 by itself, so an edit is refused where the function that it changes has an open goal of its own, or
 an error of its own in its proof files. It isn't refused by what a caller of it lacks, nor where the
 function itself waits for another that isn't proved, nor where a proof file only lacks a name. What
 a check leaves undecided is tried in the next one, and at last alone.
 
-With --pages those of must-fail/ are tried too, and what refuses each edit is written to docs/edits/NAME.md. Where
-names of edits are behind a crate, those of must-fail/ among them, no others are tried, and the other rows of its page
-stay as they are.
+With --pages what refuses each edit is written to docs/edits/NAME.md. Where names of edits are behind a crate, no others
+are tried, and the other rows of its page stay as they are.
 
 The checks go over what `rt check` keeps in out/. The last line is 'N refused, M not refused', and
 the names of the M are above it. The status is 0 where M is 0.
 """
 import argparse
-import collections
 import dataclasses
 import os
 import re
@@ -30,10 +27,11 @@ import threading
 import time
 from concurrent.futures import ThreadPoolExecutor
 
+from functions import functions_of
+
 PARTS = ("src", "specs", "proofs")
-# The gate tries those of the first, this program those of the second.
-FOLDERS = ("must-fail", "edits")
-HEAD = re.compile(r"( *)(?:pub(?:\([^)]*\))? )?(?:const )?(?:unsafe )?fn (\w+)")
+# The gate tries those of the first (gate_edits.py).
+FOLDERS = ("edits/gate", "edits")
 # An error in a proof file that only says that a name is gone.
 LACKS_A_NAME = re.compile(r"has no field|is not in scope|has no `|was not admitted")
 # A text that the prover can't read says nothing of a contract.
@@ -41,33 +39,6 @@ UNREAD = re.compile(r"is not in scope|has no field|is no name|operand is missing
 # How many groups an edit is tried in before it is tried alone.
 GROUPS = 3
 PRINTING = threading.Lock()
-
-
-@dataclasses.dataclass(frozen=True)
-class Function:
-    """A function of a crate: its file, its lines there, its name, and the impl that it stands in."""
-
-    file: str
-    first: int
-    last: int
-    name: str
-    impl: str
-
-    def is_called(self, path, crate):
-        """Tells whether the prover calls it by this path: a method stands below its type, and its trait's name."""
-        *above, name = path.split("::")
-        if name != self.name:
-            return False
-        if not self.impl:
-            module = re.sub(r"^(lib|main)$", "", self.file[len("src/") : -len(".rt")])
-            return above == [crate, *module.split("/")] if module else above == [crate]
-        of_trait, _, of_type = self.impl.rpartition(" for ")
-        return above[-1] == "".join(last_words(of_type)[:1] + last_words(of_trait))
-
-
-def last_words(text):
-    """Returns the last word of each path in a type, but for type parameters of one letter."""
-    return [it.split("::")[-1] for it in re.findall(r"\w+(?:::\w+)*", text) if len(it) > 1]
 
 
 @dataclasses.dataclass
@@ -124,29 +95,11 @@ def read_edit(path, texts):
         return edit
     if not edit.changes:
         edit.fault = "it has no 'old:' and 'new:' pair"
-    elif "/must-fail/" in path and any("\n" in old + new for _, old, new in edit.changes):
-        edit.fault = "a text of must-fail/ is one line"
     elif any(old == new for _, old, new in edit.changes):
         edit.fault = "an old text is its new one"
     else:
         edit.fault = edit.apply(texts)[1]
     return edit
-
-
-def functions_of(file, text):
-    """Returns the functions of a file in the layout of rt fmt."""
-    lines, impl, found = text.split("\n"), "", []
-    for at, line in enumerate(lines):
-        if re.match(r"\S", line):
-            inside = re.match(r"impl\s*(?:<[^<>]*(?:<[^<>]*>[^<>]*)*>)?\s*(.*?)\s*\{?$", line)
-            impl = re.sub(r"'\w+", "", inside[1]) if inside else impl if line.startswith(("where", "{", "}")) else ""
-        head = HEAD.match(line)
-        if head:
-            end = at
-            while not line.rstrip().endswith("}") and lines[end] != head[1] + "}" and end + 1 < len(lines):
-                end += 1
-            found.append(Function(file, at + 1, end + 1, head[2], impl if head[1] else ""))
-    return found
 
 
 class Verdicts:
@@ -157,8 +110,9 @@ class Verdicts:
         self.of = dict(re.findall(r"^fn (\S+): (.*)$", said, re.M))
         self.notes = [(at[1], int(at[2]), at[0]) for at in re.finditer(r"^note: (src/\S+?):(\d+):\d+: it is not proved.*$", said, re.M)]
         self.errors = re.findall(r"^\./proofs/(\S+)/\w+\.antt:\d+:\d+: error: (.*)$", said, re.M)
-        self.is_proved = bool(re.search(r"^logic=proved", said, re.M))
-        self.is_refused = bool(re.search(r"^logic=not-proved", said, re.M))
+        # The last line is of the whole crate, or of the functions that were asked for.
+        self.is_proved = bool(re.search(r"^logic=proved|^only=(\d+) proved=\1$", said, re.M))
+        self.is_refused = bool(re.search(r"^logic=not-proved|^only=(\d+) proved=(?!\1$)", said, re.M))
 
     def unreadable(self):
         at = re.search(r"^(?:\./)?(?:src|specs)/\S+?:\d+:\d+: error: (?!`)(.*)$", self.said, re.M)
@@ -194,28 +148,31 @@ class Crate:
                     with open(path, encoding="utf-8") as text:
                         self.texts[os.path.relpath(path, self.folder)] = text.read()
         self.table = [it for file, text in self.texts.items() if file.startswith("src/") for it in functions_of(file, text)]
-        paths = [f"{it.path}/{name}" for it in os.scandir(self.folder) if it.name in folders for name in os.listdir(it.path)]
+        paths = [f"{self.folder}/{it}/{name}" for it in folders if os.path.isdir(f"{self.folder}/{it}") for name in os.listdir(f"{self.folder}/{it}")]
         self.edits = [read_edit(it, self.texts) for it in sorted(paths, key=os.path.basename) if it.endswith(".edit")]
         self.edits = [it for it in self.edits if not only or it.name in only]
         self.functions = {it.name: it.functions(self.texts, self.table) for it in self.edits if not it.fault}
         self.checks = 0
 
-    def check(self, edits):
-        """Checks a fresh copy of the crate with these edits."""
-        texts = self.texts
+    def lay(self, edits, parts):
+        """Makes a fresh copy of these parts of the crate with these edits, and returns its folder."""
+        texts, to = self.texts, f"{self.room}/crates/{self.name}"
         for it in edits:
             texts, _ = it.apply(texts)
-        to = f"{self.room}/crates/{self.name}"
-        shutil.rmtree(to, ignore_errors=True)
-        for part in (*PARTS, "out/incremental"):
+        for part in parts:
+            shutil.rmtree(f"{to}/{part}", ignore_errors=True)
             if os.path.isdir(f"{self.folder}/{part}"):
                 shutil.copytree(f"{self.folder}/{part}", f"{to}/{part}")
         for file, text in texts.items():
             if text != self.texts[file]:
                 with open(f"{to}/{file}", "w", encoding="utf-8") as it:
                     it.write(text)
+        return to
+
+    def check(self, edits):
+        """Checks the crate with these edits."""
         self.checks += 1
-        return Verdicts(rt_check(to, "--jobs", "1").stdout)
+        return Verdicts(rt_check(self.lay(edits, (*PARTS, "out/incremental")), "--jobs", "1").stdout)
 
     def group(self, left):
         """Returns edits of different functions, each of which fits beside those before it."""
@@ -335,11 +292,14 @@ def page(crate, given, rows):
 
 def try_crate(root, name, listed, pages, only):
     """Tries a crate's edits, all or these alone, and returns how many were refused and the names of the others."""
-    start = time.monotonic()
     with tempfile.TemporaryDirectory(prefix="edits-") as room:
         lay(root, name, listed, room)
-        crate = Crate(root, name, room, FOLDERS if pages or only else ("edits",), only)
-        given = crate.tried()
+        return told(Crate(root, name, room, FOLDERS, only), root, pages, only)
+
+
+def told(crate, root, pages=False, only=()):
+    """Tries a crate's edits and says what became of them. How many were refused, and the names of the others."""
+    start, name, given = time.monotonic(), crate.name, crate.tried()
     if pages:
         path = f"{root}/docs/edits/{name}.md"
         os.makedirs(os.path.dirname(path), exist_ok=True)
@@ -385,6 +345,11 @@ def main():
             sys.exit(f"{ran.stdout}edits: {it} isn't proved as it is")
     with ThreadPoolExecutor(words.lanes) as pool:
         tried = list(pool.map(lambda it: try_crate(words.root, it, listed, words.pages, only.get(it, ())), names))
+    return ended(tried)
+
+
+def ended(tried):
+    """Prints the last lines of all that was tried, and returns the status."""
     refused, others = sum(it for it, _ in tried), [it for _, names in tried for it in names]
     for it in others:
         print(f"not refused: {it}")

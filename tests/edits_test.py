@@ -1,13 +1,14 @@
 #!/usr/bin/env python3
 """Names edits that went stale, and tries the program that tries edits.
 
-Each edit of must-fail/ and edits/, in each crate, names files that are there, and each of its old texts is in its file
-once; no two edits of a crate have the same name; must-fail/ has one edit of a function; and each row of docs/edits is
+Each edit of edits/ and edits/gate/, in each crate, names files that are there, and each of its old texts is in its file
+once; no two edits of a crate have the same name; edits/gate/ has one edit of a function; and each row of docs/edits is
 of an edit that is there, and names the functions that it changes.
 Then the program is tried on a crate with edits of each kind: it names those that the prover lets through.
 """
 import os
 import re
+import shutil
 import subprocess
 import sys
 import tempfile
@@ -58,8 +59,13 @@ EDITS = [
     ("has_a_bare_line", "    x + 1\r    y", "    x", "NOT REFUSED: BAD EDIT: a line begins with none of file:, old: and new:"),
     ("changes_nothing", "    x + 1", "    x + 1", "NOT REFUSED: BAD EDIT: an old text is its new one"),
 ]
-# An edit of two lines, and a page of three rows.
-TWO_LINES = "file: src/lib.rt\nold: {\nold:     x + 1\nnew: {\nnew:     x + 2\n"
+# Those of edits/gate/.
+GATE = [
+    ("adds_four", "    x + 1", "    x + 4", "refused"),
+    ("adds_five", "after(after(x))", "after(x) + 4", "refused"),
+    ("answers_half", "    MOST", "    MOST / 2", "NOT REFUSED: what it changes is still proved with it"),
+]
+# A page of three rows.
 PAGE = """| Edit | Changes | Refused by |
 |---|---|---|
 | `adds_one` | `after` | clause `value` |
@@ -73,9 +79,8 @@ STALE = [
     "sample/fits_twice: src/lib.rt has its old text 4 times and not once: after(",
     "sample/has_a_bare_line: a line begins with none of file:, old: and new:     y",
     "sample/is_in_no_file: the crate has no src/gone.rt",
-    "sample/of_two_lines: a text of must-fail/ is one line",
     "sample/adds_two: two edits have this name",
-    "sample: must-fail/ has two edits of after",
+    "sample: edits/gate/ has two edits of after",
     "docs/edits/sample.md: no edit is named is_gone",
     "docs/edits/sample.md: adds_one changes `second_after`",
 ]
@@ -88,6 +93,7 @@ not refused: sample/has_another_most
 not refused: sample/names_what_is_not_there
 4 refused, 7 not refused
 """
+GATE_LAST = "not refused: sample/answers_half\n2 refused, 1 not refused\n"
 
 
 def write(path, text):
@@ -114,28 +120,30 @@ def stale(root):
 
 
 def twins(root, crate):
-    """Returns the functions of which must-fail/ has two edits."""
+    """Returns the functions of which edits/gate/ has two edits."""
     tried = edits.Crate(root, crate.name, "", edits.FOLDERS[:1])
     functions = [function for it in tried.functions.values() for function in it]
-    return [f"{crate.name}: must-fail/ has two edits of {it}" for it in sorted({it.name for it in functions if functions.count(it) > 1})]
+    return [f"{crate.name}: edits/gate/ has two edits of {it}" for it in sorted({it.name for it in functions if functions.count(it) > 1})]
 
 
 def lay(root):
-    """Makes the repository of the sample, with its edits."""
+    """Makes the repository of the sample."""
     write(f"{root}/crates.txt", "sample:\n")
     write(f"{root}/HANDLES", "Handles allowed: none.\n")
     write(f"{root}/crates/sample/src/lib.rt", LIBRARY)
-    for name, old, new, _ in EDITS:
+
+
+def lay_edits(root, folder, of_folder):
+    """Adds edits to a folder of the sample."""
+    for name, old, new, _ in of_folder:
         texts = [f"{word}: {line}\n" for word, text in (("old", old), ("new", new)) for line in text.split("\n")]
-        write(f"{root}/crates/sample/edits/{name}.edit", "".join(["file: src/lib.rt\n", *texts]).replace("\r", "\n"))
+        write(f"{root}/crates/sample/{folder}/{name}.edit", "".join(["file: src/lib.rt\n", *texts]).replace("\r", "\n"))
 
 
 def lay_stale(root):
     """Adds edits that the program doesn't try, and a page."""
     write(f"{root}/crates/sample/edits/is_in_no_file.edit", "file: src/gone.rt\nold: x\nnew: y\n")
-    write(f"{root}/crates/sample/must-fail/of_two_lines.edit", TWO_LINES)
-    for name, more in (("adds_two", 2), ("adds_four", 4)):
-        write(f"{root}/crates/sample/must-fail/{name}.edit", f"file: src/lib.rt\nold:     x + 1\nnew:     x + {more}\n")
+    write(f"{root}/crates/sample/edits/gate/adds_two.edit", "file: src/lib.rt\nold:     x + 1\nnew:     x + 2\n")
     write(f"{root}/docs/edits/sample.md", PAGE)
 
 
@@ -151,12 +159,18 @@ def main():
         sys.exit("\n".join([*said, f"edits: FAILED: {len(said)} no longer fit"]))
     with tempfile.TemporaryDirectory(prefix="edits-test-") as root:
         lay(root)
+        lay_edits(root, "edits/gate", GATE)
+        gate = tries(root, "--gate")
+        shutil.rmtree(f"{root}/crates/sample/edits")
+        lay_edits(root, "edits", EDITS)
         ran, few = tries(root), tries(root, "sample", "adds_two").stdout
+        lay_edits(root, "edits/gate", GATE)
         lay_stale(root)
         said = stale(root)
-    lost = [name for name, _, _, told in EDITS if f"sample/{name}: {told}" not in ran.stdout]
-    if lost or not ran.stdout.endswith(LAST) or ran.returncode != 1:
-        sys.exit(f"{ran.stdout}edits: FAILED: {' '.join(lost) or 'its last lines or its status'}")
+    for tried, of_folder, last in ((gate, GATE, GATE_LAST), (ran, EDITS, LAST)):
+        lost = [name for name, _, _, told in of_folder if f"sample/{name}: {told}" not in tried.stdout]
+        if lost or not tried.stdout.endswith(last) or tried.returncode != 1:
+            sys.exit(f"{tried.stdout}edits: FAILED: {' '.join(lost) or 'its last lines or its status'}")
     if "sample/adds_two: refused" not in few or not few.endswith("\n1 refused, 0 not refused\n"):
         sys.exit(f"{few}edits: FAILED: tries more than the edit that it was given")
     if said != STALE:

@@ -109,16 +109,20 @@ def prove(libraries, processors):
     return len(proved) == len(libraries)
 
 
-def main():
-    name = sys.argv[1] if sys.argv[1:] else "prepaid"
-    libraries = rtlib.Crate(f"{ROOT}/crates/{name}", ROOT, {}).below()
+def prove_all(libraries):
+    """Proves the libraries while no other command works in them. Whether all are proved."""
     # The first call sets what ends the toolchain's processes, which only the main thread may.
     rtlib.guarded()
     held = rtlib.lock(libraries)
     is_whole = prove(libraries, int(os.environ.get("JOBS") or os.cpu_count()))
     for it in held:
         os.close(it)
-    return 0 if is_whole else 1
+    return is_whole
+
+
+def main():
+    name = sys.argv[1] if sys.argv[1:] else "prepaid"
+    return 0 if prove_all(rtlib.Crate(f"{ROOT}/crates/{name}", ROOT, {}).below()) else 1
 
 
 if __name__ == "__main__":
