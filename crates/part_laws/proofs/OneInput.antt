@@ -29,9 +29,9 @@ use Rattle.part_laws.specs.ScriptParts.{IsPlayedByItsRows, PlaysItsRows, Records
 use Rattle.run_command.specs.Answers.{IsRunOf, IsTextOf, RunSaid}
 use Rattle.run_command.specs.InParts.{IsMergedText, IsPartOf, IsPartsText, KeepsCalls, PartSaid}
 use Rattle.run_command.specs.Plays.{IsPlayOf}
-use Rattle.run_command.specs.Refused.{none_refused}
-use Rattle.run_command.specs.Unplaced.{events_in_rows}
-use Rattle.run_command.specs.declared.unplaced.UnplacedEvent.{UnplacedEvent}
+use Rattle.run_remarks.specs.Refused.{none_refused}
+use Rattle.run_remarks.specs.Unplaced.{events_in_rows}
+use Rattle.run_remarks.specs.declared.unplaced.UnplacedEvent.{UnplacedEvent}
 use Rattle.run_options.specs.declared.options.RunAsk.{RunAsk}
 use Rattle.run_options.specs.declared.options.RunOutput.{RunOutput}
 use Rattle.run_options.specs.declared.options.RunOutput.TheVariants as output

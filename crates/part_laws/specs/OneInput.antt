@@ -3,9 +3,9 @@ use Rattle.std.specs.Prelude.{◌≡◌, ◌<◌, ℕ, List, length, ⊤}
 use Rattle.part_laws.specs.ScriptParts.{payer_in_rows}
 use Rattle.run_command.specs.Answers.{IsRunOf, RunSaid}
 use Rattle.run_command.specs.InParts.{IsPartOf, IsRunInParts, PartSaid}
-use Rattle.run_command.specs.Refused.{none_refused}
-use Rattle.run_command.specs.declared.refusals.Refusals.{Refusals}
-use Rattle.run_command.specs.declared.unplaced.UnplacedEvent.{UnplacedEvent}
+use Rattle.run_remarks.specs.Refused.{none_refused}
+use Rattle.run_remarks.specs.declared.refusals.Refusals.{Refusals}
+use Rattle.run_remarks.specs.declared.unplaced.UnplacedEvent.{UnplacedEvent}
 use Rattle.run_options.specs.declared.options.RunAsk.{RunAsk}
 use Rattle.run_options.specs.declared.options.RunOutput.{RunOutput}
 use Rattle.run_options.specs.declared.options.RunOutput.TheVariants as output

@@ -1,3 +1,2 @@
 pub mod AnswerLemmas
-pub mod KindLemmas
 pub mod RunLemmas

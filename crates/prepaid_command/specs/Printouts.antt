@@ -3,8 +3,8 @@ use Rattle.std.specs.Prelude.{true, [], string_bytes}
 use Rattle.run_command.specs.Answers.{RunSaid}
 use Rattle.run_command.specs.Tables.{TablesSaid}
 use Rattle.table_commands.specs.Printouts.{Printout}
-use Rattle.prepaid_command.specs.Lists.{unplaced_line}
-use Rattle.prepaid_command.specs.Refused.{refused_line}
+use Rattle.run_remarks.specs.Lists.{unplaced_line}
+use Rattle.run_remarks.specs.RefusedLines.{refused_line}
 use Rattle.prepaid_command.specs.declared.answer.Answer.{Answer}
 
 -- what a run says

@@ -1,7 +1,7 @@
 //! What the program prints.
 
 use book_texts::Audit;
-use run_command::{Refusals, UnplacedEvent};
+use run_remarks::{Refusals, UnplacedEvent};
 use std::alloc::Global;
 
 /// A text that answers what was asked, and the exit status that goes with it.

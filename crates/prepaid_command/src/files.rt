@@ -1,44 +1,13 @@
-//! Texts that are written into files of a folder, each whole.
+//! The files of what a run prints.
 
-ghost use Rattle.std.specs.Prelude.{◌≡◌, OnOk, map};
-ghost use Rattle.std.specs.Io.KnownBytes.{Appends};
+ghost use Rattle.std.specs.Prelude.{◌≡◌, map};
 ghost use Rattle.prepaid_command.specs.Files.{files_of};
 ghost use Rattle.run_command.specs.Tables.{tables_said};
 
 use run_command::RunTables;
-use std::alloc::Global;
-use std::fs::{self, File, OpenFile};
-use std::io::{self, ErrorKind, Write};
-use std::path::{Path, PathBuf};
-use std::rt::Files;
-
-/// Writes what a run prints into files of the folder at this path: `lines.txt`, `book.csv`,
-/// `calls.csv` and `trace.csv`, each in the place of the file that had its name.
-///
-/// All of them are written first, as `.lines.txt.new` and so on, and are on the disk before the
-/// first gets its name. So where one can't be written, each file is as it was; and where one can't
-/// have its name, it and those behind it are. No other name stays behind.
-pub(crate) fn write_tables<R: Files<File = File>>(
-    rt: &R,
-    alloc: Global,
-    folder: &str,
-    tables: &RunTables,
-) -> io::Result<()> {
-    if !fs::metadata(rt, folder)?.is_dir() {
-        return Err(io::Error::from(ErrorKind::NotADirectory));
-    }
-    let mut files = Vec::new(alloc);
-    for (name, text) in files_of(tables) {
-        files.push(NewFile::write(rt, alloc, folder, name, text)?)?;
-    }
-    for file in files {
-        file.rename()?;
-    }
-    Ok(())
-}
 
 /// The files of what a run prints, each a name and a text.
-fn files_of(tables: &RunTables) -> [(&'static str, &str); 4]
+pub(crate) fn files_of(tables: &RunTables) -> [(&'static str, &str); 4]
     ensures { map (λ file. (file.0.now, file.1.now)) result ≡ files_of (tables_said tables.now) }
 {
     [
@@ -47,57 +16,4 @@ fn files_of(tables: &RunTables) -> [(&'static str, &str); 4]
         ("calls.csv", tables.calls.as_str()),
         ("trace.csv", tables.trace.as_str()),
     ]
-}
-
-/// A file that was written under another name than it is to have. Where it doesn't get that, it is
-/// removed.
-struct NewFile<'a, R: Files<File = File>> {
-    rt: &'a R,
-    written: PathBuf,
-    name: PathBuf,
-}
-
-impl<'a, R: Files<File = File>> NewFile<'a, R> {
-    /// Writes a file under another name.
-    fn write(
-        rt: &'a R,
-        alloc: Global,
-        folder: &str,
-        name: &str,
-        text: &str,
-    ) -> io::Result<NewFile<'a, R>> {
-        let mut other = String::new(alloc);
-        write!(other, ".{name}.new")?;
-        let folder = Path::new(folder);
-        let name = folder.join(alloc, name)?;
-        let written = folder.join(alloc, other.as_str())?;
-        let mut file = File::create(rt, written.as_path())?;
-        let new = NewFile { rt, written, name };
-        write_whole(&mut file, text)?;
-        Ok(new)
-    }
-
-    /// Gives the file its name.
-    fn rename(self) -> io::Result<()> {
-        fs::rename(self.rt, self.written.as_path(), self.name.as_path())
-    }
-}
-
-impl<R: Files<File = File>> Drop for NewFile<'_, R> {
-    fn drop(self) {
-        let NewFile {
-            rt,
-            written,
-            name: _,
-        } = self;
-        let _ = fs::remove_file(rt, written.as_path());
-    }
-}
-
-/// Writes a text into a file, whose bytes are on the disk then.
-fn write_whole<F: Write + OpenFile>(file: &mut F, text: &str) -> io::Result<()>
-    ensures { OnOk result (Appends (F.contents file.old) (F.contents file.new) text.now) }
-{
-    file.write_all(text.as_bytes())?;
-    file.sync_all()
 }

@@ -12,7 +12,7 @@ ghost use Rattle.prepaid_command.specs.Printouts.{printout_of};
 use crate::answer::Answer;
 use crate::ending::{files_ending, run_ending};
 use crate::faults::{fault_of_files, fault_of_run};
-use crate::files::write_tables;
+use crate::files::files_of;
 use run_command::{Ran, RunTables, Watch, run, run_tables};
 use run_options::RunOptions;
 use std::alloc::Global;
@@ -22,6 +22,7 @@ use std::rt::Files;
 use std::sync::Wait;
 use std::thread::Threads;
 use table_commands::{Ending, Fault, read_input};
+use whole_files::write_files;
 
 /// What is printed of a run of the script in the input, or the first fault, and what is said behind
 /// that where it is asked for.
@@ -148,7 +149,7 @@ where
         Ok(tables) => tables,
         Err(error) => return Err(fault_of_run(error)),
     };
-    if let Err(error) = write_tables(rt, alloc, folder.path, &tables) {
+    if let Err(error) = write_files(rt, alloc, folder.path, &files_of(&tables)) {
         let fault = fault_of_files(&error);
         *folder.failed = Some(error);
         return Err(fault);

@@ -1,12 +1,10 @@
 pub mod Jobbing
 pub mod Joining
 pub mod ListenLemmas
-pub mod Merging
 pub mod Parting
 pub mod Passing
 pub mod Paying
 pub mod PlayLemmas
-pub mod RefusalLemmas
 pub mod Resaid
 pub mod Saying
 pub mod Starts

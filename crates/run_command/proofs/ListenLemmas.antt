@@ -5,7 +5,7 @@ use Rattle.call_records.specs.Records.{Run}
 use Rattle.run_command.proofs.PlayLemmas.{Rounds}
 use Rattle.run_command.specs.Answers.{IsTextOf}
 use Rattle.run_command.specs.Listening.{Listens}
-use Rattle.run_command.specs.Refused.{refusals_counted_in}
+use Rattle.run_remarks.specs.Refused.{refusals_counted_in}
 use Rattle.run_command.specs.declared.listening.Listener.{Listener}
 use Rattle.run_options.specs.Options.{is_trace}
 use Rattle.run_options.specs.declared.options.RunOutput.{RunOutput}

@@ -10,12 +10,12 @@ use Rattle.book_texts.specs.Typed.{IsTyped}
 use Rattle.call_records.specs.declared.call_record.CallRecord.{CallRecord}
 use Rattle.run_command.specs.InParts.{AreKept, ArePlayed, IsInParts, IsKeptPart, IsPartsText, IsPlayedPart, KeepsPart, KeepsBooks, KeepsCalls, PartSaid, joined_parts, own_books, with_part}
 use Rattle.run_command.specs.Played.{IsPlayedRun, run_of}
-use Rattle.run_command.specs.Refused.{added_up, refusals_counted, with_refusals}
-use Rattle.run_command.specs.Unplaced.{AreByCall, events_in_rows}
+use Rattle.run_remarks.specs.Refused.{added_up, refusals_counted, with_refusals}
+use Rattle.run_remarks.specs.Unplaced.{AreByCall, events_in_rows}
 use Rattle.run_command.specs.declared.parts.Part.{Part}
 use Rattle.run_command.specs.declared.playing.Played.{Played}
-use Rattle.run_command.specs.declared.refusals.Refusals.{Refusals}
-use Rattle.run_command.specs.declared.unplaced.UnplacedEvent.{UnplacedEvent}
+use Rattle.run_remarks.specs.declared.refusals.Refusals.{Refusals}
+use Rattle.run_remarks.specs.declared.unplaced.UnplacedEvent.{UnplacedEvent}
 use Rattle.run_options.specs.declared.options.RunAsk.{RunAsk}
 use Rattle.run_options.specs.declared.options.RunOutput.{RunOutput}
 use Rattle.run_options.specs.declared.options.RunOutput.TheVariants as output

@@ -8,8 +8,8 @@ use Rattle.run_command.specs.Books.{AreBooksOf}
 use Rattle.run_command.specs.InParts.{IsRunInParts}
 use Rattle.run_command.specs.Laws.{CallsHavePaid, PassTheirAudits}
 use Rattle.run_command.specs.Plays.{IsGivenBy}
-use Rattle.run_command.specs.Refused.{refusals_counted_in}
-use Rattle.run_command.specs.Unplaced.{AreByCall, events_in_rows}
+use Rattle.run_remarks.specs.Refused.{refusals_counted_in}
+use Rattle.run_remarks.specs.Unplaced.{AreByCall, events_in_rows}
 use Rattle.run_options.specs.Options.{played_parts}
 use Rattle.run_options.specs.declared.options.PartsAsk.{PartsAsk}
 use Rattle.run_options.specs.declared.options.RunAsk.{RunAsk}
@@ -18,8 +18,8 @@ use Rattle.run_options.specs.declared.options.RunOutput.TheVariants as output
 use Rattle.run_texts.specs.InputFaults.{RefusesInput}
 use Rattle.run_texts.specs.Inputs.{RunInput, input_of}
 use Rattle.run_command.specs.declared.error.RunError.{RunError}
-use Rattle.run_command.specs.declared.refusals.Refusals.{Refusals}
-use Rattle.run_command.specs.declared.unplaced.UnplacedEvent.{UnplacedEvent}
+use Rattle.run_remarks.specs.declared.refusals.Refusals.{Refusals}
+use Rattle.run_remarks.specs.declared.unplaced.UnplacedEvent.{UnplacedEvent}
 use Rattle.run_command.specs.declared.error.RunError.TheVariants as error
 use Rattle.run_trace.specs.Tables.{trace_text}
 use Rattle.runs_core.specs.Hearing.{all_heard}

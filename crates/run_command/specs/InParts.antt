@@ -12,11 +12,11 @@ use Rattle.moment_texts.specs.declared.clock.Clock.{Clock}
 use Rattle.run_command.specs.Books.{AreBooksOf}
 use Rattle.run_command.specs.Laws.{CallsHavePaid, PassTheirAudits}
 use Rattle.run_command.specs.Plays.{IsGivenBy}
-use Rattle.run_command.specs.Refused.{added_up, refusals_counted_in, with_refusals}
-use Rattle.run_command.specs.Unplaced.{AreByCall, IsMergedBy, events_in_rows}
+use Rattle.run_remarks.specs.Refused.{added_up, refusals_counted_in, with_refusals}
+use Rattle.run_remarks.specs.Unplaced.{AreByCall, IsMergedBy, events_in_rows}
 use Rattle.run_command.specs.declared.parts.Part.{Part}
-use Rattle.run_command.specs.declared.refusals.Refusals.{Refusals}
-use Rattle.run_command.specs.declared.unplaced.UnplacedEvent.{UnplacedEvent}
+use Rattle.run_remarks.specs.declared.refusals.Refusals.{Refusals}
+use Rattle.run_remarks.specs.declared.unplaced.UnplacedEvent.{UnplacedEvent}
 use Rattle.run_options.specs.declared.options.RunAsk.{RunAsk}
 use Rattle.run_options.specs.declared.options.RunOutput.{RunOutput}
 use Rattle.run_options.specs.declared.options.RunOutput.TheVariants as output

@@ -9,8 +9,6 @@ pub mod Played
 pub mod Plays
 pub mod Progresses
 pub mod RanOf
-pub mod Refused
 pub mod Starts
 pub mod Strangers
 pub mod Tables
-pub mod Unplaced

@@ -4,9 +4,9 @@ use Rattle.book_texts.specs.Typed.{IsTyped}
 use Rattle.call_records.specs.Records.{Run}
 use Rattle.run_command.specs.Answers.{IsTextOf, RunSaid}
 use Rattle.run_command.specs.Plays.{IsGivenBy}
-use Rattle.run_command.specs.Refused.{refusals_counted_in}
+use Rattle.run_remarks.specs.Refused.{refusals_counted_in}
 use Rattle.run_command.specs.Tables.{AreTextsOf, TablesSaid, clock_of}
-use Rattle.run_command.specs.Unplaced.{AreByCall, events_in_rows}
+use Rattle.run_remarks.specs.Unplaced.{AreByCall, events_in_rows}
 use Rattle.run_command.specs.declared.playing.Played.{Played}
 use Rattle.run_options.specs.Options.{is_trace}
 use Rattle.run_options.specs.declared.options.RunAsk.{RunAsk}

@@ -7,12 +7,12 @@ use Rattle.run_command.specs.Answers.{IsRunAnswer, IsTextOf}
 use Rattle.run_command.specs.Books.{AreBooksOf}
 use Rattle.run_command.specs.Laws.{CallsHavePaid, PassTheirAudits}
 use Rattle.run_command.specs.Plays.{IsGivenBy}
-use Rattle.run_command.specs.Refused.{refusals_counted_in}
-use Rattle.run_command.specs.Unplaced.{AreByCall, events_in_rows}
+use Rattle.run_remarks.specs.Refused.{refusals_counted_in}
+use Rattle.run_remarks.specs.Unplaced.{AreByCall, events_in_rows}
 use Rattle.run_command.specs.declared.error.RunError.{RunError}
-use Rattle.run_command.specs.declared.refusals.Refusals.{Refusals}
+use Rattle.run_remarks.specs.declared.refusals.Refusals.{Refusals}
 use Rattle.run_command.specs.declared.tables.RunTables.{RunTables}
-use Rattle.run_command.specs.declared.unplaced.UnplacedEvent.{UnplacedEvent}
+use Rattle.run_remarks.specs.declared.unplaced.UnplacedEvent.{UnplacedEvent}
 use Rattle.run_options.specs.declared.options.RunAsk.{RunAsk}
 use Rattle.run_options.specs.declared.options.RunOutput.{RunOutput}
 use Rattle.run_options.specs.declared.options.RunOutput.TheVariants as output

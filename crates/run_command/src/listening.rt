@@ -1,12 +1,12 @@
 //! A player that counts the refusals in the answers that it hears, and may keep the answers.
 
 ghost use Rattle.std.specs.Prelude.{◌≡◌, ◌++◌, [], OnOk};
-ghost use Rattle.run_command.specs.Refused.{none_refused};
+ghost use Rattle.run_remarks.specs.Refused.{none_refused};
 ghost use Rattle.run_options.specs.Options.{is_trace};
 
-use crate::Refusals;
 use arrayvec::ArrayVec;
 use run_options::RunOutput;
+use run_remarks::Refusals;
 use run_values::{Answer, Body};
 use runs_core::Driver;
 use script_player::ScriptPlayer;

@@ -12,14 +12,14 @@ ghost use Rattle.run_texts.specs.Views.{rows_are_in_order};
 
 use crate::jobs::play_all;
 use crate::playing::{Played, play};
-use crate::unplaced::{by_call, events_of};
 use crate::watching::{Watch, Watching};
-use crate::{Ran, Refusals, RunError, UnplacedEvent};
+use crate::{Ran, RunError};
 use book_texts::{RunLines, book_table};
 use call_records::{CallRecord, call_table, records};
 use moment_texts::Clock;
 use run_options::{PartsAsk, RunOptions, RunOutput};
 use run_parts::{Division, Firsts, divide};
+use run_remarks::{Refusals, UnplacedEvent, by_call, events_of};
 use run_texts::ScriptRow;
 use run_values::{Body, RunSetup};
 use runs_core::Driver;

@@ -1,0 +1,3 @@
+pub mod KindLemmas
+pub mod Merging
+pub mod RefusalLemmas
