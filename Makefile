@@ -9,7 +9,7 @@ BUILT := crates/prepaid/out/prepaid
 HELD := serve dist docs explain words report pipe into divide program
 
 .PHONY: all quick run report picture test edits install dist bench recipes
-.PHONY: test-growths test-random test-edits $(HELD:%=test-%)
+.PHONY: test-edits test-tries test-prove test-growths test-random $(HELD:%=test-%)
 
 # Proves what is below the program, several crates at once, and builds bin/prepaid; out/proved/prepaid says by which
 # toolchain. A process takes 0.7 to 3.5 GB; with four processors it takes 6 GB in all.
@@ -49,25 +49,31 @@ TREE = $(shell git rev-parse HEAD) $(if $(shell git status --porcelain),changed,
 
 # Looks whether each edit fits its file, compares the page of definitions with their comments and the names on the
 # page of proofs with the code, proves everything from nothing, and runs the tests and the programs. Then, several at
-# once: tries the edits of the gate; holds the words of the man page and the completions against the formats, runs the
-# program over worked rows and the commands of the pages as they are, makes packages and uses them, compares reports
-# with their tables, runs in parts with whole ones and the files of a run with what runs print, drives the service over
-# a pipe, compares what is said of faults with a table, on a terminal too, cuts and kills a service with a log, refuses
-# memory to each call that takes any, and compares the program with its model. Once all has passed, out/passed.txt says
-# so of the commit; make expands TREE before the first line.
+# once: tries the edits of the gate, what tries edits, and what make proves; holds the words of the man page and the
+# completions against the formats, runs the program over worked rows and the commands of the pages as they are, makes
+# packages and uses them, compares reports with their tables, runs in parts with whole ones and the files of a run with
+# what runs print, drives the service over a pipe, compares what is said of faults with a table, on a terminal too, cuts
+# and kills a service with a log, refuses memory to each call that takes any, and compares the program with its model.
+# Once all has passed, out/passed.txt says so of the commit; make expands TREE before the first line.
 test:
 	mkdir -p out
 	rm -f out/passed.txt
-	tests/edits_test.py
+	tests/edits_test.py --stale
 	tests/definitions.py
 	tests/proofs_test.py
 	set -o pipefail; rt ci | tee out/gate.txt
-	$(MAKE) --jobs=$(JOBS) --output-sync=target test-edits test-growths test-random $(HELD:%=test-%)
+	$(MAKE) --jobs=$(JOBS) --output-sync=target test-edits test-tries test-prove test-growths test-random $(HELD:%=test-%)
 	@printf '%s\n' '$(TREE)' "$$(tail -n 1 out/gate.txt)" > out/passed.txt
 	@tail -n 1 out/gate.txt
 
 $(HELD:%=test-%): test-%:
 	tests/$*_test.py --program $(BUILT)
+
+test-tries:
+	tests/edits_test.py
+
+test-prove:
+	tests/prove_test.py
 
 test-growths:
 	tests/refused_growths.sh

@@ -1,0 +1,96 @@
+#!/usr/bin/env python3
+"""Tries prove.py on a repository of three libraries: it proves those that changed and those above them, and no other.
+
+A library of which a body, or that of a library below, has changed isn't taken for proved; nor is one without a stamp, or
+one that was proved before a library below it. One that the prover refuses has none, and the status is 1.
+"""
+import os
+import re
+import shutil
+import subprocess
+import sys
+import tempfile
+
+TESTS = os.path.dirname(os.path.abspath(__file__))
+LIBRARY = """//! A sample.
+#![tactic(auto)]
+
+ghost use Rattle.std.specs.Prelude.{{◌+◌, ◌≡◌, ◌≤◌}};
+
+/// More.
+pub fn {name}(x: u32) -> u32
+    requires small {{ x ≤ 1000 }}
+    ensures value {{ result ≡ x + {more} }}
+{{
+    x + 1
+}}
+"""
+OPPOSITE = ("    x + 1", "    1 + x")
+
+
+def write(path, text):
+    os.makedirs(os.path.dirname(path), exist_ok=True)
+    with open(path, "w", encoding="utf-8") as it:
+        it.write(text)
+
+
+class Sample:
+    """A repository of the libraries `low`, `middle` above it and `side`, all below `top`."""
+
+    def __init__(self, root):
+        self.root = root
+        write(f"{root}/crates.txt", "low:\nmiddle: low\nside:\ntop: middle side\n")
+        write(f"{root}/HANDLES", "Handles allowed: none.\n")
+        for name in ("low", "middle", "side", "top"):
+            self.lay(name)
+        os.mkdir(f"{root}/tests")
+        shutil.copy(f"{TESTS}/prove.py", f"{root}/tests")
+
+    def source(self, name):
+        return f"{self.root}/crates/{name}/src/lib.rt"
+
+    def stamp(self, name):
+        return f"{self.root}/crates/{name}/out/rlib/stamp"
+
+    def lay(self, name, more=1, change=("", "")):
+        write(self.source(name), LIBRARY.format(name=f"of_{name}", more=more).replace(*change))
+
+    def proved(self):
+        """Runs prove.py, and returns the libraries that it has proved, in order of their names, and its status."""
+        ran = subprocess.run([f"{self.root}/tests/prove.py", "top"], stdout=subprocess.PIPE, stderr=subprocess.STDOUT, text=True)
+        return sorted(re.findall(r"^(\w+): logic=proved ", ran.stdout, re.M)), ran.returncode
+
+
+def later(sample):
+    """Makes the stamp of `low` newer than that of `middle`."""
+    at = os.stat(sample.stamp("middle")).st_mtime_ns + 1
+    os.utime(sample.stamp("low"), ns=(at, at))
+
+
+# What is done to the sample, one after the other, and what prove.py proves then, with which status.
+STEPS = [
+    ("all is new", lambda it: None, ["low", "middle", "side"], 0),
+    ("nothing has changed", lambda it: None, [], 0),
+    ("a body of low has changed", lambda it: it.lay("low", change=OPPOSITE), ["low", "middle"], 0),
+    ("middle has no stamp", lambda it: os.remove(it.stamp("middle")), ["middle"], 0),
+    ("low was proved later than middle", later, ["middle"], 0),
+    ("side has a false clause", lambda it: it.lay("side", more=2), [], 1),
+    ("it has it still", lambda it: None, [], 1),
+    ("side is as it was", lambda it: it.lay("side"), ["side"], 0),
+]
+
+
+def main():
+    with tempfile.TemporaryDirectory(prefix="prove-test-") as root:
+        sample = Sample(root)
+        for what, change, libraries, status in STEPS:
+            change(sample)
+            if (found := sample.proved()) != (libraries, status):
+                sys.exit(f"prove: FAILED: where {what}: {found}, and not {(libraries, status)}")
+            if os.path.exists(sample.stamp("side")) != (status == 0):
+                sys.exit(f"prove: FAILED: where {what}: the stamp of side")
+    print(f"prove: what is proved where {len(STEPS)} things have happened: ok")
+
+
+if __name__ == "__main__":
+    main()
