@@ -8,7 +8,7 @@ use entry_rows::{op_word, write_reply, write_response};
 use std::alloc::AllocError;
 
 /// The first row of an account whose reply isn't what an account answers.
-#[derive(Clone, Copy, Debug)]
+#[derive(Clone, Copy)]
 pub(crate) struct WrongRow {
     /// Its number, the header being row 1.
     pub row: u32,

@@ -7,7 +7,7 @@ use crate::LiveFault;
 use std::alloc::{AllocError, AllocFailed};
 
 /// What stops a round.
-#[derive(Clone, Copy, Debug)]
+#[derive(Clone, Copy)]
 pub(crate) enum Stop {
     /// A fault that ends the run.
     Failed(LiveFault),

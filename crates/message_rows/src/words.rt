@@ -9,7 +9,7 @@ use csv::ByteRecord;
 use table_core::{RowKind, is_word};
 
 /// What a message row is about, with all that its words say.
-#[derive(Clone, Copy, Debug)]
+#[derive(Clone, Copy)]
 pub(crate) enum Word {
     /// A call asks for the service.
     InitialDp,

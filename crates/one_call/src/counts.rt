@@ -9,7 +9,7 @@ use ssf_core::SsfFault;
 use tariff_core::TimeInfo;
 
 /// What was counted of a call so far. A count that reaches the largest `u64` stays there.
-#[derive(Clone, Copy, Debug, PartialEq, Eq)]
+#[derive(Clone, Copy)]
 pub(crate) struct Counts {
     /// The messages of the gsmSSF: the next one has this number.
     pub messages: u64,

@@ -284,7 +284,7 @@ fn read_recharge(row: &ByteRecord) -> Result<Happening, RowKind>
 }
 
 /// What a row of a script is about.
-#[derive(Clone, Copy, Debug)]
+#[derive(Clone, Copy)]
 enum Word {
     /// A call starts.
     Start,

@@ -112,7 +112,7 @@ fn list_subscriber(directory: &mut Directory, row: &ByteRecord) -> Result<(), Li
 }
 
 /// Why what a row of a setup names isn't listed.
-#[derive(Clone, Copy, Debug)]
+#[derive(Clone, Copy)]
 enum ListFault {
     /// The row has a fault.
     Row(RowKind),

@@ -4,7 +4,7 @@ use crate::digits::Digits;
 use std::cmp::Ordering;
 
 /// By what a row of the tariff is found: the calls to a prefix, on a day, from a time of day on.
-#[derive(Clone, Copy, Debug)]
+#[derive(Clone, Copy)]
 pub(crate) struct BandKey {
     pub prefix: Digits,
     /// A weekday, 1 (Monday) to 7 (Sunday); 0 in a table without days, where a row stands for each.

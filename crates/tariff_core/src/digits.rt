@@ -6,7 +6,7 @@ ghost use Rattle.std.specs.Prelude.{◌≡◌, ◌≤◌, length};
 pub(crate) const PREFIX_DIGITS: usize = 15;
 
 /// A text of digits, at most `PREFIX_DIGITS`.
-#[derive(Clone, Copy, Debug)]
+#[derive(Clone, Copy)]
 pub(crate) struct Digits {
     pub bytes: [u8; 15],
     pub len: u8,

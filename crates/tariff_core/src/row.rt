@@ -10,7 +10,7 @@ use crate::digits::Digits;
 
 /// What the calls of a row cost: the fee, the rate a minute, how many units are free, and the
 /// billing steps.
-#[derive(Clone, Copy, Debug)]
+#[derive(Clone, Copy)]
 pub(crate) struct Cost {
     pub fee: u64,
     pub rate: u64,
@@ -26,7 +26,7 @@ pub(crate) struct Cost {
 }
 
 /// A row of a tariff table.
-#[derive(Clone, Copy, Debug)]
+#[derive(Clone, Copy)]
 pub(crate) struct Row {
     pub prefix: Digits,
     /// In units of 100 ms after midnight.

@@ -179,7 +179,7 @@ impl Tariff {
 }
 
 /// When another row counts, and which.
-#[derive(Clone, Copy, Debug)]
+#[derive(Clone, Copy)]
 struct Switch {
     at: u64,
     next: Row,

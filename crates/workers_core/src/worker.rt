@@ -161,7 +161,7 @@ impl<'s, S: Shared> Worker<'s, S> {
 }
 
 /// The dialogue of a call, and the place of the call's account in the ascending order.
-#[derive(Clone, Copy, Debug, PartialEq, Eq)]
+#[derive(Clone, Copy)]
 pub(crate) struct Talk {
     pub dialogue: Dialogue,
     pub place: usize,
