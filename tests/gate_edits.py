@@ -17,6 +17,9 @@ import edits
 import prove
 from prove import rtlib
 
+# The memory that a check takes at most, in bytes.
+NEED = 3 << 30
+
 
 class Crate(edits.Crate):
     """A crate with the edits that the gate tries."""
@@ -41,6 +44,11 @@ def are_proved(libraries):
     return not any(os.path.exists(prove.stamp_of(it)) for it in libraries) or prove.prove_all(libraries)
 
 
+def lanes():
+    """How many checks there are processors and memory for."""
+    return max((it for it in range(1, rtlib.cores() + 1) if rtlib.fits(*[NEED] * it)), default=1)
+
+
 def try_crate(library, root):
     with tempfile.TemporaryDirectory(prefix="edits-") as room:
         return edits.told(Crate(library, root, room), root)
@@ -60,7 +68,7 @@ def main():
         return 1
     # Those that take longest first.
     crates.sort(key=prove.lines_of, reverse=True)
-    with ThreadPoolExecutor(os.cpu_count()) as pool:
+    with ThreadPoolExecutor(lanes()) as pool:
         return edits.ended(list(pool.map(lambda it: try_crate(it, words.root), crates)))
 
 
