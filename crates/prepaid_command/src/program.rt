@@ -82,7 +82,7 @@ where
         }
         Ok(Request::Rate(ask)) => return rate_input(alloc, &ask, input, output, faults, explains),
         Ok(Request::Serve(options, log)) => {
-            return serve_messages(rt, alloc, &options, log, input, output, faults, explains);
+            return serve_messages(rt, &options, log, input, output, faults, explains);
         }
         Err(why) => Ending::of_words(alloc, explains, words, why),
     };

@@ -9,7 +9,6 @@ ghost use Rattle.prepaid_command.specs.Answers.{IsServeEnd, IsServedInput};
 use crate::faults::fault_of_serve;
 use answer_command::{ServeError, serve_input};
 use run_options::{LiveOptions, LogAsk};
-use std::alloc::Global;
 use std::fs::File;
 use std::io::{BufRead, Error, Write};
 use std::rt::Files;
@@ -22,7 +21,6 @@ use table_commands::{Noting, report_end};
 /// is printed; 2 where the input, the log, memory, the output or the run failed.
 pub(crate) fn serve_messages<R, I: BufRead + Drop, O: Write, E: Write>(
     rt: &R,
-    alloc: Global,
     options: &LiveOptions,
     log: Option<LogAsk<'_>>,
     input: I,
@@ -31,7 +29,7 @@ pub(crate) fn serve_messages<R, I: BufRead + Drop, O: Write, E: Write>(
     explains: bool,
 ) -> u8
 where
-    R: Wait + Threads + Sync + Files<File = File>,
+    R: AllocGlobal + Wait + Threads + Sync + Files<File = File>,
     ensures served { IsServedInput explains (live_ask_of options.now)
         (option_map log_wish_of log.entry) (I.remaining input) result
         (record { output = O.contents output.old.inner; faults = E.contents faults.old })
@@ -39,7 +37,7 @@ where
     ensures silent { result ≡ 1
         → Keeps (O.contents output.old.inner) (O.contents output.new.inner) }
 {
-    let ended = serve_input(rt, alloc, options, log, input, output);
+    let ended = serve_input(rt, rt.alloc(), options, log, input, output);
     report_served(faults, explains, ended, output.failed)
 }
 
