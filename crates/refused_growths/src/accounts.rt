@@ -3,9 +3,9 @@
 use crate::asks::{Account as Looks, LIMIT, OPENING, Seen, Watched, are_all, ask_all, counted};
 use crate::forms::two_seats;
 use crate::outcome::{Course, Outcome, expect};
-use account_core::{Account, AccountFault, AccountPort, Op, Port, Reply};
+use account_core::{Account, AccountFault, AccountPort, Entry, Op, Port, Reply};
 use shared_account::{Seat, SharedAccount};
-use std::alloc::Global;
+use std::alloc::{AllocError, Global};
 
 /// The account of each call here.
 pub(crate) fn account(alloc: Global) -> Account {
@@ -90,8 +90,14 @@ pub(crate) fn applies_from_seat<R>(rt: &R, alloc: Global) -> Course {
 pub(crate) fn checks(alloc: Global) -> Course {
     let mut port = AccountPort::new(account(alloc), 0);
     let outcome = ask_all(&mut port)?;
-    let entries = port.account.history();
-    expect(Account::check(alloc, OPENING, None, entries)?)?;
-    expect(!Account::check(alloc, OPENING - 1, None, entries)?)?;
+    expect(are_of_opening(alloc, port.account.history())?)?;
     Ok(outcome)
+}
+
+/// Whether entries are legal, and so after this opening alone.
+fn are_of_opening(alloc: Global, entries: &[Entry]) -> Result<bool, AllocError> {
+    Ok(
+        Account::check(alloc, OPENING, None, entries)?
+            && !Account::check(alloc, OPENING - 1, None, entries)?,
+    )
 }

@@ -3,7 +3,7 @@
 use crate::accounts::account;
 use crate::outcome::{Course, Outcome, expect};
 use crate::service::{SERVICE, SUBSCRIBER, SWITCH};
-use account_core::AccountPort;
+use account_core::{Account, AccountPort};
 use cap_values::Number;
 use one_call::{CallEnd, drive_call};
 use ssf_core::{BcsmEvent, State};
@@ -52,10 +52,16 @@ fn reports_of(end: &CallEnd) -> Option<Reports> {
 
 /// Drives a call that is answered after ten seconds.
 pub(crate) fn drives(alloc: Global) -> Course {
+    let mut port = AccountPort::new(account(alloc), 0);
+    let end = drive(alloc, &mut port)?;
+    outcome_of(&end, &port.account)
+}
+
+/// Drives it over an account.
+fn drive(alloc: Global, port: &mut AccountPort) -> Result<CallEnd, Outcome> {
     let call = (1, Number::new(SUBSCRIBER)?, Number::new("4930")?);
     let script = [(100, BcsmEvent::Answer)];
-    let mut port = AccountPort::new(account(alloc), 0);
-    let end = drive_call(
+    Ok(drive_call(
         alloc,
         SWITCH,
         &SERVICE,
@@ -64,15 +70,18 @@ pub(crate) fn drives(alloc: Global) -> Course {
         call,
         Some(ROUTE),
         &script,
-        &mut port,
-    )?;
-    let account = &port.account;
+        port,
+    )?)
+}
+
+/// How that went, by how the call has ended and what is left of the account.
+fn outcome_of(end: &CallEnd, account: &Account) -> Course {
     let left = (
         account.history().len(),
         account.paid(1),
         account.available(),
     );
-    let Some(reports) = reports_of(&end) else {
+    let Some(reports) = reports_of(end) else {
         return Err(Outcome::Wrong);
     };
     let found = (reports, left);

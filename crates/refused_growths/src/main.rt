@@ -110,9 +110,9 @@ fn make_one<R: AllocGlobal + Threads + Wait + Sync>(rt: &R, name: &str) -> Cours
 
 /// The call of a name.
 fn call_of(word: &str) -> Option<Call> {
-    for (name, call) in CALLS {
-        if name == word {
-            return Some(call);
+    for (name, call) in &CALLS {
+        if *name == word {
+            return Some(*call);
         }
     }
     None
@@ -120,9 +120,9 @@ fn call_of(word: &str) -> Option<Call> {
 
 /// Makes each call, and prints the names of those that went as with memory.
 fn make_all<R: AllocGlobal + Print + Threads + Wait + Sync>(rt: &R) -> Course {
-    for (name, call) in CALLS {
-        if make(rt, call)? == Outcome::Answered {
-            rt.println(name)?;
+    for (name, call) in &CALLS {
+        if make(rt, *call)? == Outcome::Answered {
+            rt.println(*name)?;
         }
     }
     Ok(Outcome::Answered)

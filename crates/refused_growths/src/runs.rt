@@ -61,15 +61,21 @@ pub(crate) fn serves<R: Wait + Threads + Sync>(rt: &R, alloc: Global) -> Course 
         refused: None,
     };
     let books = serve(rt, alloc, &setup, &mut hearing, 2, &OpenGate)?;
-    let mut posts = 0usize;
-    for one in &handled(alloc, 2, hearing.given())? {
-        posts = posts.saturating_add(one.len());
-    }
-    expect(posts == hearing.given().len())?;
+    expect(are_handled(alloc, &hearing)?)?;
     match books.as_slice() {
         [book] => outcome_of(book.history(), hearing.refused),
         _ => Err(Outcome::Wrong),
     }
+}
+
+/// Whether the two workers have as many posts as were given.
+fn are_handled(alloc: Global, hearing: &Hearing) -> Result<bool, AllocError> {
+    let given = hearing.given();
+    let mut posts = 0usize;
+    for one in &handled(alloc, 2, given)? {
+        posts = posts.saturating_add(one.len());
+    }
+    Ok(posts == given.len())
 }
 
 /// Plays the script, and keeps the first refusal that an answer says.
@@ -155,16 +161,21 @@ fn play(alloc: Global, player: &mut ScriptPlayer) -> Result<(), Outcome> {
     Err(Outcome::Wrong)
 }
 
-/// Plays the script without a run. What is given is what the call's gsmSSF sends, and the beginning
-/// of it where there was no memory for more.
-pub(crate) fn plays(alloc: Global) -> Course {
-    let items = [
+/// What the call's gsmSSF sends, and when.
+fn sent() -> Result<[(u64, Body); 5], Outcome> {
+    Ok([
         (0, begun()?),
         (100, answered()),
         (400, last_report()),
         (400, hung_up()),
         (402, of_call(SsfMsg::Ended)),
-    ];
+    ])
+}
+
+/// Plays the script without a run. What is given is what the call's gsmSSF sends, and the beginning
+/// of it where there was no memory for more.
+pub(crate) fn plays(alloc: Global) -> Course {
+    let items = sent()?;
     let mut player = player(alloc)?;
     let played = play(alloc, &mut player);
     expect(items.starts_with(player.given()))?;

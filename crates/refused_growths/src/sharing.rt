@@ -7,7 +7,7 @@ use crate::asks::{OPENING, Seen, Watched, are_all, ask_all, counted};
 use crate::forms::{Form, NUMBER, close, two_seats};
 use crate::outcome::{Course, Outcome, expect};
 use account_core::{AccountFault, CallSum, Fate, Op, Port, Reply};
-use shared_account::{Book, OpenGate};
+use shared_account::{Book, OpenGate, Summary};
 use std::alloc::Global;
 use std::sync::Wait;
 
@@ -92,16 +92,20 @@ fn book_of<S: Form, R: Wait>(rt: &R, alloc: Global) -> Result<(Book, Outcome), O
 pub(crate) fn asks<S: Form, R: Wait>(rt: &R, alloc: Global) -> Course {
     let (book, outcome) = book_of::<S, R>(rt, alloc)?;
     expect(book.account() == NUMBER && book.opening() == OPENING)?;
-    expect(are_all(book.history(), 0))?;
+    expect(are_all(book.history(), 0) && are_of_first(&book))?;
+    Ok(outcome)
+}
+
+/// Whether the first seat has made all entries.
+fn are_of_first(book: &Book) -> bool {
     let mut own = book.own(0);
     for entry in book.history() {
         match own.next() {
-            Some(found) => expect(*found == *entry)?,
-            None => return Err(Outcome::Wrong),
+            Some(found) if *found == *entry => {}
+            _ => return false,
         }
     }
-    expect(own.next().is_none() && book.own(1).next().is_none())?;
-    Ok(outcome)
+    own.next().is_none() && book.own(1).next().is_none()
 }
 
 /// Closes an account that nobody has asked.
@@ -116,13 +120,24 @@ pub(crate) fn closes<S: Form, R>(rt: &R, alloc: Global) -> Course {
 pub(crate) fn sums_up<S: Form, R: Wait>(rt: &R, alloc: Global) -> Course {
     let (book, outcome) = book_of::<S, R>(rt, alloc)?;
     let summary = book.summary(alloc)?;
-    let sum = |call| CallSum {
+    expect(is_sum(&summary, book.history().len()))?;
+    Ok(outcome)
+}
+
+/// Whether this is the sum of a book of so many entries, of which two calls have paid a minute.
+fn is_sum(summary: &Summary, entries: usize) -> bool {
+    summary.account == NUMBER
+        && summary.opening == OPENING
+        && summary.available == 3
+        && summary.entries == entries
+        && summary.calls.as_slice() == [minute_of(1), minute_of(2)].as_slice()
+}
+
+/// A call that has paid a minute.
+fn minute_of(call: u64) -> CallSum {
+    CallSum {
         call,
         paid: 1050,
         fate: Fate::Returned,
-    };
-    expect(summary.account == NUMBER && summary.opening == OPENING)?;
-    expect(summary.available == 3 && summary.entries == book.history().len())?;
-    expect(summary.calls.as_slice() == [sum(1), sum(2)].as_slice())?;
-    Ok(outcome)
+    }
 }

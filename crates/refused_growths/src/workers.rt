@@ -18,23 +18,28 @@ use shared_account::{OpenGate, Seat, SharedAccount};
 use std::alloc::Global;
 use std::sync::Wait;
 use tariff_core::Tariff;
-use workers_core::{Gone, Mail, Worker, mailbox};
+use workers_core::{Gone, Inbox, Mail, Outbox, Worker, mailbox};
 
 /// Sends two mails, and takes them.
 pub(crate) fn mails<R: Wait>(rt: &R, alloc: Global) -> Course {
     let (mut outbox, mut inbox) = mailbox(alloc, 2)?;
+    expect(are_taken(rt, &mut outbox, &mut inbox))?;
+    drop(outbox);
+    expect(inbox.take_mail(rt) == Err(Gone))?;
+    Ok(Outcome::Answered)
+}
+
+/// Whether two mails are taken as they were sent.
+fn are_taken<R: Wait>(rt: &R, outbox: &mut Outbox<Post>, inbox: &mut Inbox<Post>) -> bool {
     let post = Post {
         number: 0,
         at: 0,
         body: recharge(600),
     };
-    expect(outbox.send_mail(rt, Mail::Work(post)) == Ok(()))?;
-    expect(outbox.send_mail(rt, Mail::Close) == Ok(()))?;
-    expect(inbox.take_mail(rt) == Ok(Mail::Work(post)))?;
-    expect(inbox.take_mail(rt) == Ok(Mail::Close))?;
-    drop(outbox);
-    expect(inbox.take_mail(rt) == Err(Gone))?;
-    Ok(Outcome::Answered)
+    outbox.send_mail(rt, Mail::Work(post)) == Ok(())
+        && outbox.send_mail(rt, Mail::Close) == Ok(())
+        && inbox.take_mail(rt) == Ok(Mail::Work(post))
+        && inbox.take_mail(rt) == Ok(Mail::Close)
 }
 
 /// An opening credit that doesn't expire.
@@ -65,15 +70,22 @@ pub(crate) fn sets_up(alloc: Global) -> Course {
         (NUMBER, lasting(OPENING)),
     ];
     let setup = set_up_with(alloc, &accounts)?;
-    expect(setup.account_count() == 3)?;
-    for (place, number, opening) in [(0, 2, 100), (1, NUMBER, OPENING), (2, 9, 300)] {
-        expect(place < setup.account_count())?;
-        if place < setup.account_count() {
-            expect(setup.number(place) == number && setup.opening(place) == lasting(opening))?;
-        }
-    }
+    expect(setup.account_count() == 3 && are_rising(&setup))?;
     expect(setup.account_of(Number::new(SUBSCRIBER)?) == Some(NUMBER))?;
     Ok(Outcome::Answered)
+}
+
+/// Whether the three accounts come by rising number, each with its credit.
+fn are_rising(setup: &RunSetup) -> bool {
+    for (place, number, opening) in [(0, 2, 100), (1, NUMBER, OPENING), (2, 9, 300)] {
+        if place >= setup.account_count()
+            || setup.number(place) != number
+            || setup.opening(place) != lasting(opening)
+        {
+            return false;
+        }
+    }
+    true
 }
 
 /// Whether account 7 is the only one.
