@@ -25,21 +25,12 @@ module _ (line : List ℕ) (i room : ℕ) (text whole : List ℕ) (so_far : text
   shown_stops within is =
       sym (append-nil text) ∙ ap (λ rest. text ++ rest) (sym (ap (shown_columns room) (next_byte line i within) ∙ stops room (get_or line i 0) (drop (i + 1) line) is)) ∙ so_far
 
-  pub shown_more : (more : List ℕ) (left : ℕ) → i < length line → ends_shown room (get_or line i 0) ≡ false → more ≡ text ++ shown_byte (get_or line i 0)
-      → left ≡ room - shown_width (get_or line i 0) → more ++ shown_columns left (drop (i + 1) line) ≡ whole
-  shown_more more left within is more_is left_is =
-      rw (more_is, left_is)
+  pub shown_more : (left : ℕ) → i < length line → ends_shown room (get_or line i 0) ≡ false
+      → left ≡ room - shown_width (get_or line i 0) → (text ++ shown_byte (get_or line i 0)) ++ shown_columns left (drop (i + 1) line) ≡ whole
+  shown_more left within is left_is =
+      rw left_is
       (append_assoc text (shown_byte (get_or line i 0)) (shown_columns (room - shown_width (get_or line i 0)) (drop (i + 1) line))
       ∙ ap (λ rest. text ++ rest) (sym (ap (shown_columns room) (next_byte line i within) ∙ goes_on room (get_or line i 0) (drop (i + 1) line) is)) ∙ so_far)
 
   pub shown_all : length line ≤ i → text ≡ whole
   shown_all over = sym (append-nil text) ∙ ap (λ rest. text ++ rest) (sym (ap (shown_columns room) (drop_of_length-le line over) ∙ none_shown room)) ∙ so_far
-
--- ---- the line with what is in front of it
-
-pub line_made : (old begun shown_columns new start number middle text end : List ℕ) → begun ≡ old ++ (start ++ (number ++ middle)) → shown_columns ≡ begun ++ text → new ≡ shown_columns ++ end
-    → new ≡ old ++ (start ++ (number ++ (middle ++ (text ++ end))))
-line_made old begun shown_columns new start number middle text end begun_is shown_is new_is =
-    rw (new_is, shown_is, begun_is)
-    (append_assoc (old ++ (start ++ (number ++ middle))) text end ∙ append_assoc old (start ++ (number ++ middle)) (text ++ end)
-    ∙ ap (λ rest. old ++ rest) (append_assoc start (number ++ middle) (text ++ end) ∙ ap (λ rest. start ++ rest) (append_assoc number middle (text ++ end))))

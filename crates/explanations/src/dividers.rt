@@ -2,40 +2,91 @@
 
 use std::alloc::{AllocError, Global};
 
+/// The most lines whose numbers are said.
+const MOST_NUMBERS: usize = 5;
+
 /// How many lines of an input divide it, which, and which look as if they did.
 pub fn explain_dividers(alloc: Global, input: &[u8], wanted: u32) -> Result<String, AllocError> {
     let mut text = String::new(alloc);
-    let mut places = String::new(alloc);
-    let mut near = String::new(alloc);
-    let mut found: u64 = 0;
-    let mut line: u64 = 0;
-    for piece in input.split(|byte| *byte == b'\n') {
-        line = line.saturating_add(1);
-        match looks_of(piece) {
+    push_dividers(&mut text, dividers_of(input), wanted)?;
+    Ok(text)
+}
+
+/// The lines that divide an input, and those that look as if they did.
+#[derive(Clone, Copy)]
+struct Dividers {
+    /// How many divide it.
+    found: usize,
+    /// The numbers of the first of these.
+    numbers: [u64; MOST_NUMBERS],
+    /// The number of the first line that nearly divides it.
+    near: Option<u64>,
+}
+
+/// The lines that divide an input, and those that look as if they did.
+fn dividers_of(input: &[u8]) -> Dividers {
+    let mut dividers = Dividers {
+        found: 0,
+        numbers: [0; MOST_NUMBERS],
+        near: None,
+    };
+    let mut number: u64 = 0;
+    for line in input.split(|byte| *byte == b'\n') {
+        number = number.saturating_add(1);
+        dividers.add(number, line);
+    }
+    dividers
+}
+
+impl Dividers {
+    /// Adds a line of this number.
+    fn add(&mut self, number: u64, line: &[u8]) {
+        match looks_of(line) {
             Looks::Divides => {
-                found = found.saturating_add(1);
-                if found <= 5 {
-                    write!(places, ", in line {line}")?;
+                if self.found < MOST_NUMBERS {
+                    self.numbers[self.found] = number;
                 }
+                self.found = self.found.saturating_add(1);
             }
-            Looks::Nearly => {
-                if near.is_empty() {
-                    writeln!(near, "line {line} is %% with a blank at it")?;
-                }
-            }
+            Looks::Nearly => self.near = self.near.or(Some(number)),
             Looks::Otherwise => {}
         }
     }
+}
+
+/// Adds what is said of the lines that divide an input, of which so many are wanted.
+fn push_dividers(text: &mut String, dividers: Dividers, wanted: u32) -> Result<(), AllocError> {
+    let told = dividers.found.min(MOST_NUMBERS);
+    push_found(text, dividers.found)?;
+    push_numbers(text, &dividers.numbers[..told])?;
+    push_wanted(text, wanted, dividers.near)
+}
+
+/// Adds how many lines divide an input.
+fn push_found(text: &mut String, found: usize) -> Result<(), AllocError> {
     let lines = if found == 1 {
         "line that is"
     } else {
         "lines that are"
     };
-    write!(text, "{found} {lines} %% alone")?;
-    text.push_str(places.as_str())?;
+    write!(text, "{found} {lines} %% alone")
+}
+
+/// Adds the numbers of lines.
+fn push_numbers(text: &mut String, numbers: &[u64]) -> Result<(), AllocError> {
+    for line in numbers {
+        write!(text, ", in line {line}")?;
+    }
+    Ok(())
+}
+
+/// Adds how many are wanted, and the line that nearly is one.
+fn push_wanted(text: &mut String, wanted: u32, near: Option<u64>) -> Result<(), AllocError> {
     writeln!(text, "; wanted {wanted}")?;
-    text.push_str(near.as_str())?;
-    Ok(text)
+    match near {
+        Some(line) => writeln!(text, "line {line} is %% with a blank at it"),
+        None => Ok(()),
+    }
 }
 
 /// What a line looks like.

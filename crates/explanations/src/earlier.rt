@@ -1,9 +1,9 @@
 //! Rows that don't go with the rows above them.
 
 use crate::Slip;
-use crate::found_rows::{Sought, field_at, find_above, rows_at};
+use crate::found_rows::{Sought, field_at, find_above, rows_at, shown_at};
 use crate::reasons::Faulty;
-use crate::row_line::push_shown;
+use crate::row_line::Shown;
 use csv::ByteRecord;
 use std::alloc::{AllocError, Global};
 
@@ -15,31 +15,45 @@ pub(crate) fn push_order(
     row: &ByteRecord,
 ) -> Result<(), AllocError> {
     let number = table.row.saturating_sub(1);
-    let Some(above) = rows_at(alloc, table.text, number)? else {
-        return Ok(());
-    };
-    if let Slip::Script(_) = table.slip {
-        write!(text, "moment ")?;
-        push_shown(text, field_at(row, 0))?;
-        write!(text, " lies below ")?;
-        push_shown(text, field_at(above.row(), 0))?;
-        return writeln!(text, " in row {number}");
+    match rows_at(alloc, table.text, number)? {
+        Some(above) => match table.slip {
+            Slip::Script(_) => push_moments(text, row, above.row(), number),
+            _ => push_times(text, row, above.row(), number),
+        },
+        None => Ok(()),
     }
-    write!(text, "times ")?;
-    push_times(text, row)?;
-    if number < 2 {
-        return writeln!(text, " may not come first");
-    }
-    write!(text, " may not follow ")?;
-    push_times(text, above.row())?;
-    writeln!(text, " in row {number}")
 }
 
-/// Adds the times of a report.
-fn push_times(text: &mut String, row: &ByteRecord) -> Result<(), AllocError> {
-    push_shown(text, field_at(row, 0))?;
-    write!(text, ",")?;
-    push_shown(text, field_at(row, 1))
+/// Adds which moment lies below that of the row above it.
+fn push_moments(
+    text: &mut String,
+    row: &ByteRecord,
+    above: &ByteRecord,
+    number: u32,
+) -> Result<(), AllocError> {
+    let moment = shown_at(row, 0);
+    let earlier = shown_at(above, 0);
+    writeln!(text, "moment {moment} lies below {earlier} in row {number}")
+}
+
+/// Adds which times may not follow those of the row above them.
+fn push_times(
+    text: &mut String,
+    row: &ByteRecord,
+    above: &ByteRecord,
+    number: u32,
+) -> Result<(), AllocError> {
+    let before = shown_at(row, 0);
+    let after = shown_at(row, 1);
+    if number < 2 {
+        return writeln!(text, "times {before},{after} may not come first");
+    }
+    let earlier = shown_at(above, 0);
+    let later = shown_at(above, 1);
+    writeln!(
+        text,
+        "times {before},{after} may not follow {earlier},{later} in row {number}"
+    )
 }
 
 /// Adds what a row names, and the row above that names it already.
@@ -54,17 +68,16 @@ pub(crate) fn push_repeated(
         Slip::Setup(_) => (0, 1, field_at(row, 0)),
         _ => (2, 0, "account".as_bytes()),
     };
-    let sought = Sought {
+    let sought = Sought::Named {
         word: (word, field_at(row, word)),
         key: (key, field_at(row, key)),
     };
     let Some(number) = find_above(alloc, table.text, table.row, sought)? else {
         return Ok(());
     };
-    push_shown(text, name)?;
-    write!(text, " ")?;
-    push_shown(text, field_at(row, key))?;
-    writeln!(text, " is in row {number} already")
+    let name = Shown(name);
+    let key = shown_at(row, key);
+    writeln!(text, "{name} {key} is in row {number} already")
 }
 
 /// Adds what a row names that no earlier row does.
@@ -81,7 +94,6 @@ pub(crate) fn push_unknown(
         Slip::Setup(_) => ("account", 2, "isn't above this row"),
         _ => ("account", 0, "isn't opened in an earlier row"),
     };
-    write!(text, "{name} ")?;
-    push_shown(text, field_at(row, place))?;
-    writeln!(text, " {why}")
+    let field = shown_at(row, place);
+    writeln!(text, "{name} {field} {why}")
 }

@@ -1,9 +1,8 @@
 //! Fields that must be empty and aren't.
 
 use crate::Slip;
-use crate::found_rows::field_at;
-use crate::row_line::push_shown;
-use crate::wants::push_column;
+use crate::found_rows::{field_at, shown_at};
+use crate::row_line::Shown;
 use csv::ByteRecord;
 use std::alloc::AllocError;
 
@@ -16,12 +15,10 @@ pub(crate) fn push_not_empty(
 ) -> Result<(), AllocError> {
     for place in 0..row.len() {
         if !field_at(row, place).is_empty() && takes_nothing(slip, row, place) {
-            push_column(text, field_at(names, place))?;
-            write!(text, ": ")?;
-            push_shown(text, field_at(row, place))?;
-            write!(text, ", where ")?;
-            push_shown(text, word_for(slip, row, place))?;
-            return writeln!(text, " takes nothing");
+            let column = shown_at(names, place);
+            let field = shown_at(row, place);
+            let word = Shown(word_for(slip, row, place));
+            return writeln!(text, "column {column}: {field}, where {word} takes nothing");
         }
     }
     Ok(())
@@ -114,6 +111,6 @@ fn book_takes_nothing(row: &ByteRecord, place: usize) -> bool {
 }
 
 /// Whether a reply says nothing but what is available.
-fn is_money(word: &[u8]) -> bool {
+pub(crate) fn is_money(word: &[u8]) -> bool {
     word == b"credited".as_slice() || word == b"over".as_slice() || word == b"denied".as_slice()
 }

@@ -1,6 +1,7 @@
 //! The forms of the tables: their headers, their words, and what their columns take.
 
 use crate::Slip;
+use crate::empties::is_money;
 use crate::found_rows::field_at;
 use crate::wants::{Column, Wants, first_refused};
 use csv::ByteRecord;
@@ -23,67 +24,82 @@ pub(crate) const SCRIPT_WORDS: &[&str] = &[
     "recharge",
 ];
 
+/// What a column takes that has a time of at most a day.
+pub(crate) const TIME: Wants = Wants::Number(0, DAY as u64);
+
+/// What a column takes that has the number of a call.
+const CALL: Wants = Wants::Number(0, u64::MAX);
+
+/// What a column takes that has the number of an account.
+const ACCOUNT: Wants = Wants::Number(0, u32::MAX as u64);
+
+/// What a column takes that has a sum of money.
+const MONEY: Wants = Wants::Number(0, MAX_MONEY);
+
+/// What a column takes that has a fee or a rate.
+pub(crate) const RATE: Wants = Wants::Number(0, MAX_RATE);
+
+/// What a column takes that has digits of a subscriber.
+const PARTY: Wants = Wants::Digits(1, 15);
+
+/// What a column takes that has a seat.
+const SEAT: Wants = Wants::Number(0, 15);
+
+/// What a column takes that has the moment of an event.
+const MOMENT: Wants = Wants::Moment(MAX_MOMENT);
+
+/// What a column takes that has the end of an account, or nothing: a decimal or a date.
+const UNTIL_MOMENT: Wants = Wants::OptionalMoment(MAX_MOMENT);
+
+/// What a column takes that has the end of an account as a decimal, or nothing.
+const UNTIL: Wants = Wants::Optional(0, HORIZON);
+
 /// The column of a row of a script whose field the reader refuses.
 pub(crate) fn refused_in_script(row: &ByteRecord) -> Option<Column> {
-    let moment = column(0, Wants::Moment(MAX_MOMENT));
-    let call = column(1, Wants::Number(0, u64::MAX));
-    let party = Wants::Digits(1, 15);
-    let what = field_at(row, 2);
-    let end = row.len();
+    first_refused(row, 0, row.len(), columns_of_script(field_at(row, 2)))
+}
+
+/// The columns of a row of a script with this word, as the reader judges them.
+fn columns_of_script(what: &[u8]) -> &'static [(usize, Wants)] {
     if what == b"start".as_slice() {
-        first_refused(
-            row,
-            end,
-            &[moment, call, column(3, party), column(4, party)],
-        )
+        &[(0, MOMENT), (1, CALL), (3, PARTY), (4, PARTY)]
     } else if what == b"disconnect".as_slice() {
-        first_refused(row, end, &[moment, call, column(3, Wants::Number(1, 2))])
+        &[(0, MOMENT), (1, CALL), (3, Wants::Number(1, 2))]
     } else if what == b"recharge".as_slice() {
-        let account = column(3, Wants::Number(0, u64::from(u32::MAX)));
-        let amount = column(4, Wants::Number(0, MAX_MONEY));
-        let until = column(5, Wants::OptionalMoment(MAX_MOMENT));
-        first_refused(row, end, &[moment, account, amount, until])
+        &[(0, MOMENT), (3, ACCOUNT), (4, MONEY), (5, UNTIL_MOMENT)]
     } else {
-        first_refused(row, end, &[moment, call])
+        &[(0, MOMENT), (1, CALL)]
     }
 }
 
 /// The column of a row of a setup whose field the reader refuses.
 pub(crate) fn refused_in_setup(row: &ByteRecord) -> Option<Column> {
-    let number = Wants::Number(0, u64::from(u32::MAX));
-    if field_at(row, 0) == b"account".as_slice() {
-        let opening = column(2, Wants::Number(0, MAX_MONEY));
-        let until = column(3, Wants::OptionalMoment(MAX_MOMENT));
-        first_refused(row, row.len(), &[column(1, number), opening, until])
+    let columns: &[(usize, Wants)] = if field_at(row, 0) == b"account".as_slice() {
+        &[(1, ACCOUNT), (2, MONEY), (3, UNTIL_MOMENT)]
     } else {
-        let party = column(1, Wants::Digits(1, 15));
-        first_refused(row, row.len(), &[party, column(2, number)])
-    }
+        &[(1, PARTY), (2, ACCOUNT)]
+    };
+    first_refused(row, 0, row.len(), columns)
 }
 
 /// The column of a row of reports whose field the reader refuses.
 pub(crate) fn refused_in_reports(row: &ByteRecord) -> Option<Column> {
-    let time = Wants::Number(0, u64::from(DAY));
-    first_refused(row, row.len(), &[column(0, time), column(1, time)])
+    first_refused(row, 0, row.len(), &[(0, TIME), (1, TIME)])
 }
 
 /// The column of a row of operations whose field the reader refuses.
 pub(crate) fn refused_in_ops(row: &ByteRecord) -> Option<Column> {
-    let seat = column(0, Wants::Number(0, 15));
-    first_refused(row, row.len(), &[seat]).or(refused_operation(row, OP_OF_OPS, row.len()))
+    let end = row.len();
+    first_refused(row, 0, end, &[(0, SEAT)]).or(refused_operation(row, OP_OF_OPS, end))
 }
 
 /// The column of a row of a book whose field the reader refuses.
 pub(crate) fn refused_in_book(row: &ByteRecord) -> Option<Column> {
     let reply = row.len().saturating_sub(4);
-    let account = column(0, Wants::Number(0, u64::from(u32::MAX)));
     if field_at(row, OP_OF_BOOK) == b"opening".as_slice() {
-        let opening = column(4, Wants::Number(0, MAX_MONEY));
-        let until = column(5, Wants::Optional(0, HORIZON));
-        return first_refused(row, reply, &[account, opening, until]);
+        return first_refused(row, 0, reply, &[(0, ACCOUNT), (4, MONEY), (5, UNTIL)]);
     }
-    let seat = column(1, Wants::Number(0, 15));
-    first_refused(row, reply, &[account, seat])
+    first_refused(row, 0, reply, &[(0, ACCOUNT), (1, SEAT)])
         .or(refused_operation(row, OP_OF_BOOK, reply))
         .or(refused_reply(row, reply))
 }
@@ -91,67 +107,67 @@ pub(crate) fn refused_in_book(row: &ByteRecord) -> Option<Column> {
 /// The column of an operation whose field the reader refuses, its columns from one place on to
 /// before another.
 fn refused_operation(row: &ByteRecord, op: usize, end: usize) -> Option<Column> {
-    let op = op.min(16);
-    let word = field_at(row, op);
-    let call = column(op + 1, Wants::Number(0, u64::MAX));
-    let time = Wants::Number(0, u64::from(DAY));
-    if word == b"credit".as_slice() {
-        let amount = column(op + 2, Wants::Number(0, MAX_MONEY));
-        let until = column(op + 3, Wants::Optional(0, HORIZON));
-        first_refused(row, end, &[amount, until])
-    } else if word == b"reserve".as_slice() {
-        first_refused(row, end, &[call]).or(refused_plan(row, op, end))
-    } else if word == b"settle".as_slice() {
-        let number = column(op + 2, Wants::Number(0, u64::MAX));
-        let before = column(op + 5, Wants::Optional(1, u64::from(DAY)));
-        if field_at(row, op + 3) == b"s".as_slice() {
-            first_refused(row, end, &[column(op + 4, time), before, call, number])
-        } else {
-            first_refused(row, end, &[column(op + 4, time), call, number])
-        }
-    } else {
-        first_refused(row, end, &[call])
-    }
-}
-
-/// The column of a reserve behind its call whose field the reader refuses.
-fn refused_plan(row: &ByteRecord, op: usize, end: usize) -> Option<Column> {
-    let op = op.min(16);
-    let rate = Wants::Number(0, MAX_RATE);
-    let time = Wants::Number(0, u64::from(DAY));
+    let has_before = field_at(row, op.saturating_add(3)) == b"s".as_slice();
     first_refused(
         row,
+        op,
         end,
-        &[
-            column(op + 2, rate),
-            column(op + 3, rate),
-            column(op + 4, Wants::Optional(0, MAX_RATE)),
-            column(op + 7, time),
-            column(op + 9, time),
-            column(op + 10, Wants::Number(1, u64::from(DAY))),
-            column(op + 5, time),
-            column(op + 6, time),
-            column(op + 8, Wants::Number(0, HORIZON)),
-        ],
+        columns_of_operation(field_at(row, op), has_before),
     )
 }
 
+/// The columns of an operation with this word, counted from it on, as the reader judges them.
+fn columns_of_operation(word: &[u8], has_before: bool) -> &'static [(usize, Wants)] {
+    if word == b"credit".as_slice() {
+        &[(2, MONEY), (3, UNTIL)]
+    } else if word == b"reserve".as_slice() {
+        RESERVE
+    } else if word != b"settle".as_slice() {
+        &[(1, CALL)]
+    } else if has_before {
+        &[
+            (4, TIME),
+            (5, Wants::Optional(1, DAY as u64)),
+            (1, CALL),
+            (2, CALL),
+        ]
+    } else {
+        &[(4, TIME), (1, CALL), (2, CALL)]
+    }
+}
+
+/// The columns of a reserve, counted from its word on, as the reader judges them.
+const RESERVE: &[(usize, Wants)] = &[
+    (1, CALL),
+    (2, RATE),
+    (3, RATE),
+    (4, Wants::Optional(0, MAX_RATE)),
+    (7, TIME),
+    (9, TIME),
+    (10, Wants::Number(1, DAY as u64)),
+    (5, TIME),
+    (6, TIME),
+    (8, Wants::Number(0, HORIZON)),
+];
+
 /// The column of a reply whose field the reader refuses, its columns from a place on.
 fn refused_reply(row: &ByteRecord, reply: usize) -> Option<Column> {
-    let word = field_at(row, reply);
-    let money = Wants::Number(0, MAX_MONEY);
-    let available = column(reply.saturating_add(3), money);
-    let first = reply.saturating_add(1);
+    first_refused(
+        row,
+        reply,
+        row.len(),
+        columns_of_reply(field_at(row, reply)),
+    )
+}
+
+/// The columns of a reply with this word, counted from it on, as the reader judges them.
+fn columns_of_reply(word: &[u8]) -> &'static [(usize, Wants)] {
     if word == b"granted".as_slice() {
-        let units = column(first, Wants::Number(0, u64::from(DAY)));
-        first_refused(row, row.len(), &[units, available])
-    } else if word == b"credited".as_slice()
-        || word == b"over".as_slice()
-        || word == b"denied".as_slice()
-    {
-        first_refused(row, row.len(), &[available])
+        &[(1, TIME), (3, MONEY)]
+    } else if is_money(word) {
+        &[(3, MONEY)]
     } else {
-        first_refused(row, row.len(), &[column(first, money), available])
+        &[(1, MONEY), (3, MONEY)]
     }
 }
 

@@ -1,5 +1,7 @@
 //! The rows of a table that has a fault.
 
+use crate::midnight::is_repeated;
+use crate::row_line::Shown;
 use csv::ByteRecord;
 use std::alloc::{AllocError, Global};
 use table_core::{Rows, decimal};
@@ -30,13 +32,23 @@ pub(crate) fn field_at(row: &ByteRecord, place: usize) -> &[u8] {
     }
 }
 
+/// The field of a row at a place, as it is shown.
+pub(crate) fn shown_at(row: &ByteRecord, place: usize) -> Shown<'_> {
+    Shown(field_at(row, place))
+}
+
 /// What is looked for in the rows above a row.
 #[derive(Clone, Copy)]
-pub(crate) struct Sought<'a> {
-    /// A column, and the word that is in it.
-    pub word: (usize, &'a [u8]),
-    /// A column, and the text or the number that is in it.
-    pub key: (usize, &'a [u8]),
+pub(crate) enum Sought<'a> {
+    /// A row that has a word in a column, and a text or a number in another.
+    Named {
+        /// A column, and the word that is in it.
+        word: (usize, &'a [u8]),
+        /// A column, and the text or the number that is in it.
+        key: (usize, &'a [u8]),
+    },
+    /// A row that has the prefix and the start of this one, and a day in common with it.
+    Band(&'a ByteRecord),
 }
 
 /// The first row of these, below the header and above the row of this number, that has what is
@@ -63,8 +75,12 @@ pub(crate) fn find_above(
 
 /// Whether a row has what is looked for.
 fn has(row: &ByteRecord, sought: Sought<'_>) -> bool {
-    field_at(row, sought.word.0) == sought.word.1
-        && are_same(field_at(row, sought.key.0), sought.key.1)
+    match sought {
+        Sought::Named { word, key } => {
+            field_at(row, word.0) == word.1 && are_same(field_at(row, key.0), key.1)
+        }
+        Sought::Band(band) => is_repeated(row, band),
+    }
 }
 
 /// Whether two fields have the same text, or are the same number.

@@ -1,10 +1,11 @@
 //! Rows of a tariff that don't go with its other rows.
 
-use crate::found_rows::{field_at, rows_at};
+use crate::found_rows::{Sought, field_at, find_above, shown_at};
 use crate::reasons::Faulty;
-use crate::row_line::push_shown;
+use crate::row_line::Shown;
 use csv::ByteRecord;
 use std::alloc::{AllocError, Global};
+use std::fmt;
 use table_core::Rows;
 
 /// Adds the row above that has the prefix and the start of a row, and a day in common with it.
@@ -14,25 +15,18 @@ pub(crate) fn push_repeated_band(
     table: Faulty<'_>,
     row: &ByteRecord,
 ) -> Result<(), AllocError> {
-    let mut rows = Rows::new(alloc, table.text);
-    for number in 1..table.row {
-        match rows.next_row() {
-            Ok(true) => {}
-            Ok(false) => return Ok(()),
-            Err(_) => return Err(AllocError),
+    match find_above(alloc, table.text, table.row, Sought::Band(row))? {
+        Some(number) => {
+            let prefix = Prefix(field_at(row, 0));
+            let start = shown_at(row, 1);
+            writeln!(text, "{prefix} from {start} is in row {number} already")
         }
-        if number > 1 && is_repeated(rows.row(), row) {
-            push_prefix(text, row)?;
-            write!(text, " from ")?;
-            push_shown(text, field_at(row, 1))?;
-            return writeln!(text, " is in row {number} already");
-        }
+        None => Ok(()),
     }
-    Ok(())
 }
 
 /// Whether two rows have a prefix, a start and a day in common.
-fn is_repeated(one: &ByteRecord, other: &ByteRecord) -> bool {
+pub(crate) fn is_repeated(one: &ByteRecord, other: &ByteRecord) -> bool {
     let (days, others) = (field_at(one, 7), field_at(other, 7));
     field_at(one, 0) == field_at(other, 0)
         && field_at(one, 1) == field_at(other, 1)
@@ -58,67 +52,82 @@ pub(crate) fn push_no_midnight(
     table: Faulty<'_>,
     row: &ByteRecord,
 ) -> Result<(), AllocError> {
-    push_prefix(text, row)?;
-    write!(text, " counts from ")?;
-    let Some(last) = push_starts(text, alloc, table, field_at(row, 0))? else {
+    let prefix = Prefix(field_at(row, 0));
+    let mut latest = String::new(alloc);
+    write!(text, "{prefix} counts from ")?;
+    push_starts(text, &mut latest, Rows::new(alloc, table.text), prefix)?;
+    push_missing(text, latest.as_str(), row)
+}
+
+/// Adds what is missing of a prefix, whose latest start is known.
+fn push_missing(text: &mut String, latest: &str, row: &ByteRecord) -> Result<(), AllocError> {
+    if latest.is_empty() {
         return writeln!(text);
-    };
+    }
     if row.len() > 7 {
         return writeln!(text, ", and not from 00:00 on each day of the week");
     }
-    write!(text, ", and nothing from 00:00: add ")?;
-    push_shown(text, field_at(row, 0))?;
-    write!(
+    let prefix = shown_at(row, 0);
+    writeln!(
         text,
-        ",00:00,.. with what counts at midnight, mostly the row of "
-    )?;
-    push_shown(text, last.as_bytes())?;
-    writeln!(text)
+        ", and nothing from 00:00: add {prefix},00:00,.. with what counts at midnight, \
+         mostly the row of {latest}"
+    )
 }
 
-/// Adds the starts of a prefix, and gives the latest.
+/// Adds the starts of a prefix, and finds the latest.
 fn push_starts(
     text: &mut String,
-    alloc: Global,
-    table: Faulty<'_>,
-    prefix: &[u8],
-) -> Result<Option<String>, AllocError> {
-    let mut rows = Rows::new(alloc, table.text);
-    let mut last: Option<String> = None;
+    latest: &mut String,
+    mut rows: Rows<&[u8]>,
+    prefix: Prefix<'_>,
+) -> Result<(), AllocError> {
     for _turn in 0..u64::MAX {
         match rows.next_row() {
-            Ok(true) => {}
-            Ok(false) => return Ok(last),
+            Ok(true) => push_start(text, latest, rows.row(), prefix)?,
+            Ok(false) => return Ok(()),
             Err(_) => return Err(AllocError),
         }
-        let row = rows.row();
-        if field_at(row, 0) != prefix {
-            continue;
-        }
-        if last.is_some() {
-            write!(text, " and ")?;
-        }
-        push_shown(text, field_at(row, 1))?;
-        last = Some(later(alloc, last, field_at(row, 1))?);
     }
-    Ok(last)
+    Ok(())
 }
 
-/// The later of two times of day.
-fn later(alloc: Global, last: Option<String>, start: &[u8]) -> Result<String, AllocError> {
-    let mut shown = String::new(alloc);
-    push_shown(&mut shown, start)?;
-    match last {
-        Some(last) if last.as_bytes() > shown.as_bytes() => Ok(last),
-        _ => Ok(shown),
+/// Adds the start of a row if it has the prefix, and keeps it if no later one is found yet.
+fn push_start(
+    text: &mut String,
+    latest: &mut String,
+    row: &ByteRecord,
+    prefix: Prefix<'_>,
+) -> Result<(), AllocError> {
+    if field_at(row, 0) != prefix.0 {
+        return Ok(());
     }
+    let and = if latest.is_empty() { "" } else { " and " };
+    let start = shown_at(row, 1);
+    write!(text, "{and}{start}")?;
+    keep_later(latest, field_at(row, 1))
 }
 
-/// Adds the prefix of a row.
-fn push_prefix(text: &mut String, row: &ByteRecord) -> Result<(), AllocError> {
-    if field_at(row, 0).is_empty() {
-        return write!(text, "the empty prefix");
+/// Keeps a start in place of the latest one, unless it is earlier.
+fn keep_later(latest: &mut String, start: &[u8]) -> Result<(), AllocError> {
+    if start < latest.as_bytes() {
+        return Ok(());
     }
-    write!(text, "prefix ")?;
-    push_shown(text, field_at(row, 0))
+    let start = Shown(start);
+    latest.clear();
+    write!(latest, "{start}")
+}
+
+/// The prefix of a row, as it is named.
+#[derive(Clone, Copy)]
+struct Prefix<'a>(&'a [u8]);
+
+impl fmt::Display for Prefix<'_> {
+    fn fmt<W: fmt::Write>(&self, f: &mut fmt::Formatter<W>) -> fmt::Result {
+        if self.0.is_empty() {
+            return f.write_str("the empty prefix");
+        }
+        let prefix = Shown(self.0);
+        write!(f, "prefix {prefix}")
+    }
 }

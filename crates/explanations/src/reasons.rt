@@ -4,18 +4,17 @@ use crate::Slip;
 use crate::earlier::{push_order, push_repeated, push_unknown};
 use crate::empties::push_not_empty;
 use crate::forms::{
-    column, headers_of, most_rows_of, refused_in_book, refused_in_ops, refused_in_reports,
-    refused_in_script, refused_in_setup,
+    RATE, TIME, column, headers_of, most_rows_of, refused_in_book, refused_in_ops,
+    refused_in_reports, refused_in_script, refused_in_setup,
 };
-use crate::found_rows::{field_at, rows_at};
+use crate::found_rows::{field_at, rows_at, shown_at};
 use crate::midnight::{push_no_midnight, push_repeated_band};
-use crate::row_line::push_shown;
 use crate::unknown_words::push_unknown_word;
 use crate::wants::{Column, Wants, first_refused, push_refusal};
 use csv::ByteRecord;
 use std::alloc::{AllocError, Global};
 use table_core::{RowFault, RowKind};
-use tariff_core::{DAY, MAX_RATE, TariffFault, TariffKind};
+use tariff_core::{DAY, TariffFault, TariffKind};
 
 /// A table that has a fault.
 #[derive(Clone, Copy)]
@@ -31,25 +30,49 @@ pub(crate) struct Faulty<'a> {
 /// The lines that say what is wrong with a row.
 pub(crate) fn reason(alloc: Global, table: Faulty<'_>) -> Result<String, AllocError> {
     let mut text = String::new(alloc);
-    let Some(header) = rows_at(alloc, table.text, 1)? else {
-        push_header(&mut text, table.slip, None)?;
-        return Ok(text);
-    };
-    let Some(found) = rows_at(alloc, table.text, table.row)? else {
-        return Ok(text);
-    };
-    let (names, row) = (header.row(), found.row());
+    push_reason(&mut text, alloc, table)?;
+    Ok(text)
+}
+
+/// Adds what is wrong with a row.
+fn push_reason(text: &mut String, alloc: Global, table: Faulty<'_>) -> Result<(), AllocError> {
+    match rows_at(alloc, table.text, 1)? {
+        Some(header) => push_found_reason(text, alloc, table, header.row()),
+        None => push_header(text, table.slip, None),
+    }
+}
+
+/// Adds what is wrong with a row of a table that has this header.
+fn push_found_reason(
+    text: &mut String,
+    alloc: Global,
+    table: Faulty<'_>,
+    names: &ByteRecord,
+) -> Result<(), AllocError> {
+    match rows_at(alloc, table.text, table.row)? {
+        Some(found) => push_any_reason(text, alloc, table, names, found.row()),
+        None => Ok(()),
+    }
+}
+
+/// Adds what is wrong with a row, by the kind of its table.
+fn push_any_reason(
+    text: &mut String,
+    alloc: Global,
+    table: Faulty<'_>,
+    names: &ByteRecord,
+    row: &ByteRecord,
+) -> Result<(), AllocError> {
     match table.slip {
         Slip::Tariff(fault) | Slip::RunTariff(fault) => {
-            push_tariff_reason(&mut text, alloc, table, fault, names, row)?;
+            push_tariff_reason(text, alloc, table, fault, names, row)
         }
         Slip::Reports(fault)
         | Slip::Ops(fault)
         | Slip::Book(fault)
         | Slip::Setup(fault)
-        | Slip::Script(fault) => push_row_reason(&mut text, alloc, table, fault, names, row)?,
+        | Slip::Script(fault) => push_row_reason(text, alloc, table, fault, names, row),
     }
-    Ok(text)
 }
 
 /// Adds what is wrong with a row of a table that isn't a tariff.
@@ -114,16 +137,14 @@ fn refused_in(slip: Slip, row: &ByteRecord) -> Option<Column> {
 
 /// The column whose field is refused of a row of a tariff.
 fn refused_in_tariff(kind: TariffKind, row: &ByteRecord) -> Option<Column> {
-    let rate = Wants::Number(0, MAX_RATE);
-    let time = Wants::Number(0, u64::from(DAY));
     let column = match kind {
         TariffKind::Digits => column(0, Wants::Digits(0, 15)),
         TariffKind::From => column(1, Wants::TimeOfDay),
-        TariffKind::Free => column(4, time),
-        TariffKind::First => column(5, time),
+        TariffKind::Free => column(4, TIME),
+        TariffKind::First => column(5, TIME),
         TariffKind::Step => column(6, Wants::Number(1, u64::from(DAY))),
         TariffKind::Days => column(7, Wants::Days),
-        _ => return first_refused(row, row.len(), &[column(2, rate), column(3, rate)]),
+        _ => return first_refused(row, 0, row.len(), &[(2, RATE), (3, RATE)]),
     };
     Some(column)
 }
@@ -145,7 +166,8 @@ fn push_column_reason(
 
 /// Adds how many fields a row has, and how many its header.
 fn push_csv(text: &mut String, names: &ByteRecord, row: &ByteRecord) -> Result<(), AllocError> {
-    let (found, wanted) = (row.len(), names.len());
+    let found = row.len();
+    let wanted = names.len();
     let fields = if found == 1 { "field" } else { "fields" };
     write!(text, "{found} {fields}, and the header has {wanted}: ")?;
     push_fields(text, names)?;
@@ -154,11 +176,11 @@ fn push_csv(text: &mut String, names: &ByteRecord, row: &ByteRecord) -> Result<(
 
 /// Adds the fields of a row, with commas between them.
 fn push_fields(text: &mut String, row: &ByteRecord) -> Result<(), AllocError> {
+    let mut comma = "";
     for place in 0..row.len() {
-        if place > 0 {
-            write!(text, ",")?;
-        }
-        push_shown(text, field_at(row, place))?;
+        let field = shown_at(row, place);
+        write!(text, "{comma}{field}")?;
+        comma = ",";
     }
     Ok(())
 }
@@ -170,17 +192,16 @@ fn push_header(
     found: Option<&ByteRecord>,
 ) -> Result<(), AllocError> {
     let wanted = headers_of(slip);
-    writeln!(text, "wanted: {wanted}")?;
     let Some(row) = found else {
-        return writeln!(text, "found: no row");
+        return writeln!(text, "wanted: {wanted}\nfound: no row");
     };
-    write!(text, "found: ")?;
+    write!(text, "wanted: {wanted}\nfound: ")?;
     push_fields(text, row)?;
-    writeln!(text)?;
     if row.len() == 1 && is_separated(field_at(row, 0)) {
-        writeln!(text, "the separator is a comma")?;
+        writeln!(text, "\nthe separator is a comma")
+    } else {
+        writeln!(text)
     }
-    Ok(())
 }
 
 /// Whether a field has another separator in it than a comma.

@@ -1,10 +1,12 @@
 //! The line of the input in which a row begins, as it is shown.
 
-ghost use Rattle.std.specs.Prelude.{◌≡◌, ◌≤◌, ◌<◌, ◌+◌, ◌++◌, ◌∷◌, [], length, OnOk, string_bytes};
+ghost use Rattle.std.specs.Prelude.{Some, ◌≡◌, ◌≤◌, ◌<◌, ◌+◌, ◌++◌, ◌∷◌, [], length, OnOk, string_bytes};
+ghost use Rattle.std.specs.Fmt.{WritesOnOk};
 ghost use Rattle.explanations.specs.RowLines.{ends_shown, hex_digit, is_printed, lines_ended, shown_row_line, shown_columns, shown_byte, shown_width};
 
 use crate::starts::is_line_end;
 use std::alloc::AllocError;
+use std::fmt;
 
 /// The most columns of a line that are shown.
 const MOST_COLUMNS: usize = 200;
@@ -22,9 +24,8 @@ pub(crate) fn push_row_line(
         ≡ string_bytes text.old ++ shown_row_line before.now table.now at) }
 {
     let line = lines_ended(before) + lines_ended(&table[..at]) + 1;
-    write!(text, "line {line} of the input: ")?;
-    push_shown(text, &table[at..])?;
-    writeln!(text)
+    let shown = Shown(&table[at..]);
+    writeln!(text, "line {line} of the input: {shown}")
 }
 
 /// How many lines of a text are ended by LF.
@@ -41,20 +42,26 @@ pub(crate) fn lines_ended(text: &[u8]) -> usize
     ended
 }
 
-/// Adds what is in a text up to the end of its first line, as far as `MOST_COLUMNS` reach.
-pub(crate) fn push_shown(text: &mut String, line: &[u8]) -> Result<(), AllocError>
-    ensures { OnOk result (string_bytes text.new
-        ≡ string_bytes text.old ++ shown_columns MOST_COLUMNS line.now) }
-{
-    let mut room = MOST_COLUMNS;
-    for &byte in line {
-        if ends_shown(room, byte) {
-            return Ok(());
+/// What is in a text up to the end of its first line, as far as `MOST_COLUMNS` reach.
+#[derive(Clone, Copy)]
+pub(crate) struct Shown<'a>(pub &'a [u8]);
+
+impl fmt::Display for Shown<'_> {
+    ghost use Rattle.explanations.specs.declared.row_line.TheConstants.{MOST_COLUMNS};
+
+    ghost output = { λ shown. Some (shown_columns MOST_COLUMNS shown.0.now) };
+
+    fn fmt<W: fmt::Write>(&self, f: &mut fmt::Formatter<W>) -> fmt::Result {
+        let mut room = MOST_COLUMNS;
+        for &byte in self.0 {
+            if ends_shown(room, byte) {
+                return Ok(());
+            }
+            write_byte(f, byte)?;
+            room -= width_of(byte);
         }
-        push_byte(text, byte)?;
-        room -= width_of(byte);
+        Ok(())
     }
-    Ok(())
 }
 
 /// Whether nothing more is shown from a byte on, where there is room for so many columns.
@@ -78,16 +85,16 @@ fn is_printed(byte: u8) -> bool
     byte >= b' ' && byte < 0x7F
 }
 
-/// Adds a byte: as it is, or as `\x` and two digits.
-fn push_byte(text: &mut String, byte: u8) -> Result<(), AllocError>
-    ensures { OnOk result (string_bytes text.new ≡ string_bytes text.old ++ shown_byte byte) }
+/// Writes a byte: as it is, or as `\x` and two digits.
+fn write_byte<W: fmt::Write>(f: &mut fmt::Formatter<W>, byte: u8) -> fmt::Result
+    ensures { WritesOnOk W.write_str_gives f.old result (shown_byte byte) f.new }
 {
     if is_printed(byte) {
-        return push_ascii(text, byte);
+        return write_ascii(f, byte);
     }
-    write!(text, "\\x")?;
-    push_ascii(text, hex_digit(byte / 16))?;
-    push_ascii(text, hex_digit(byte % 16))
+    f.write_str("\\x")?;
+    write_ascii(f, hex_digit(byte / 16))?;
+    write_ascii(f, hex_digit(byte % 16))
 }
 
 /// The digit of a number below 16.
@@ -103,10 +110,10 @@ fn hex_digit(number: u8) -> u8
     }
 }
 
-/// Adds an ASCII character.
-fn push_ascii(text: &mut String, byte: u8) -> Result<(), AllocError>
+/// Writes an ASCII character.
+fn write_ascii<W: fmt::Write>(f: &mut fmt::Formatter<W>, byte: u8) -> fmt::Result
     requires { byte < 128 }
-    ensures { OnOk result (string_bytes text.new ≡ string_bytes text.old ++ byte ∷ []) }
+    ensures { WritesOnOk W.write_str_gives f.old result (byte ∷ []) f.new }
 {
-    text.push(char::from(byte))
+    f.write_char(char::from(byte))
 }

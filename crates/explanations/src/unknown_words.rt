@@ -2,9 +2,7 @@
 
 use crate::Slip;
 use crate::forms::SCRIPT_WORDS;
-use crate::found_rows::field_at;
-use crate::row_line::push_shown;
-use crate::wants::push_column;
+use crate::found_rows::{field_at, shown_at};
 use csv::ByteRecord;
 use std::alloc::AllocError;
 
@@ -83,20 +81,22 @@ fn push_word(
     place: usize,
     words: &[&str],
 ) -> Result<(), AllocError> {
-    let field = field_at(row, place);
-    push_column(text, field_at(names, place))?;
-    write!(text, ": ")?;
-    push_shown(text, field)?;
-    write!(text, "; one of ")?;
-    for (number, word) in words.iter().enumerate() {
-        if number > 0 {
-            write!(text, ", ")?;
-        }
-        write!(text, "{word}")?;
+    let column = shown_at(names, place);
+    let field = shown_at(row, place);
+    write!(text, "column {column}: {field}; one of ")?;
+    push_words(text, words)?;
+    match nearest(field_at(row, place), words) {
+        Some(word) => writeln!(text, "\nthe nearest is {word}"),
+        None => writeln!(text),
     }
-    writeln!(text)?;
-    if let Some(word) = nearest(field, words) {
-        writeln!(text, "the nearest is {word}")?;
+}
+
+/// Adds words, with commas between them.
+fn push_words(text: &mut String, words: &[&str]) -> Result<(), AllocError> {
+    let mut comma = "";
+    for word in words {
+        write!(text, "{comma}{word}")?;
+        comma = ", ";
     }
     Ok(())
 }

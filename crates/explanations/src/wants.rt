@@ -1,6 +1,7 @@
 //! What a column of a row takes.
 
-use crate::row_line::push_shown;
+use crate::found_rows::field_at;
+use crate::row_line::Shown;
 use csv::ByteRecord;
 use moment_texts::moment;
 use std::alloc::AllocError;
@@ -35,15 +36,18 @@ pub(crate) struct Column {
     pub wants: Wants,
 }
 
-/// The first of these columns whose field isn't what it takes, among the first `end` of the row.
-pub(crate) fn first_refused(row: &ByteRecord, end: usize, columns: &[Column]) -> Option<Column> {
-    for column in columns {
-        if column.place < end {
-            if let Some(field) = row.get(column.place) {
-                if !takes(column.wants, field) {
-                    return Some(*column);
-                }
-            }
+/// The first of these columns whose field isn't what it takes, among the first `end` of the row;
+/// their places are counted from `start` on.
+pub(crate) fn first_refused(
+    row: &ByteRecord,
+    start: usize,
+    end: usize,
+    columns: &[(usize, Wants)],
+) -> Option<Column> {
+    for &(column, wants) in columns {
+        let place = start.saturating_add(column);
+        if place < end && !takes(wants, field_at(row, place)) {
+            return Some(Column { place, wants });
         }
     }
     None
@@ -79,22 +83,15 @@ pub(crate) fn push_refusal(
     field: &[u8],
     wants: Wants,
 ) -> Result<(), AllocError> {
-    push_column(text, name)?;
+    let column = Shown(name);
+    let found = Shown(field);
     if field.is_empty() {
-        write!(text, ": it is empty, and ")?;
+        write!(text, "column {column}: it is empty, and ")?;
     } else {
-        write!(text, ": ")?;
-        push_shown(text, field)?;
-        write!(text, " is ")?;
+        write!(text, "column {column}: {found} is ")?;
     }
     push_wanted(text, field, wants)?;
     writeln!(text)
-}
-
-/// Adds the name of a column.
-pub(crate) fn push_column(text: &mut String, name: &[u8]) -> Result<(), AllocError> {
-    write!(text, "column ")?;
-    push_shown(text, name)
 }
 
 /// Adds what is wanted in place of a field.
