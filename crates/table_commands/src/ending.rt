@@ -107,12 +107,7 @@ fn full_lines(alloc: Global, said: &str) -> Result<String, AllocError> {
 
 /// How long an input may be.
 fn said_of_length(alloc: Global) -> Result<String, AllocError> {
-    let mut text = String::new(alloc);
-    writeln!(
-        text,
-        "at most {MAX_INPUT} bytes; docs/SCALING.md has larger loads"
-    )?;
-    Ok(text)
+    format!(in alloc; "at most {MAX_INPUT} bytes; docs/SCALING.md has larger loads\n")
 }
 
 /// What is said of a fault over an input; nothing where memory runs out.

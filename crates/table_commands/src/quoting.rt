@@ -1,6 +1,6 @@
 //! The lines that `quote` prints.
 
-ghost use Rattle.std.specs.Prelude.{◌≡◌, ◌+◌, ◌++◌, ◌≤◌, ◌<◌, IfOk, IfSome, OnOk, string_bytes};
+ghost use Rattle.std.specs.Prelude.{◌≡◌, ◌+◌, ◌++◌, ◌≤◌, ◌<◌, codes, IfOk, IfSome, OnOk, string_bytes};
 ghost use Rattle.tariff_core.specs.RatesOf.{rates_of};
 ghost use Rattle.command_words.specs.QuoteWishes.{quote_wish_of};
 ghost use Rattle.table_commands.specs.Quotes.{IsQuoteText, afford_line, band_line, plan_text, prefix_text, price_line, quote_lines, steps_text, switch_line};
@@ -39,18 +39,46 @@ fn write_quote(text: &mut String, ask: &QuoteAsk, quote: &Quote<'_>) -> Result<(
         ++ quote_lines (quote_wish_of ask.now) quote.now.prefix.now quote.now.start
         quote.now.route) }
 {
-    let plan = &quote.route.plan;
-    write_band(text, quote.prefix, quote.start, plan)?;
-    write_switch(text, ask.clock, &quote.route)?;
-    if let Some(talk) = ask.talk {
-        let PricedTimes { price, .. } = charge_call(&quote.route, ask.at, talk);
-        writeln!(text, "price {price}")?;
+    let route = &quote.route;
+    write_band(text, quote.prefix, quote.start, &route.plan)?;
+    write_switch(text, ask.clock, route)?;
+    write_price(text, route, ask.at, ask.talk)?;
+    write_afforded(text, &route.plan, ask.credit)
+}
+
+/// Adds the line of the price of a call, where one is asked for.
+fn write_price(
+    text: &mut String,
+    route: &Route,
+    at: u64,
+    talk: Option<u32>,
+) -> Result<(), AllocError>
+    requires time { IfSome talk (λ talk. talk ≤ DAY) }
+    requires switch { IfSome route.now.switch_at (λ switch. at < switch) }
+    ensures { OnOk result (string_bytes text.new ≡ string_bytes text.old
+        ++ price_line (rates_of route.now.plan) at route.now.switch_at talk) }
+{
+    match talk {
+        Some(talk) => {
+            let PricedTimes { price, .. } = charge_call(route, at, talk);
+            writeln!(text, "price {price}")
+        }
+        None => Ok(()),
     }
-    if let Some(credit) = ask.credit {
-        let units = afford(plan, Times::ZERO, DAY, credit);
-        writeln!(text, "afford {units}")?;
+}
+
+/// Adds the line of the units that a credit affords, where one is asked for.
+fn write_afforded(text: &mut String, plan: &Plan, credit: Option<u64>) -> Result<(), AllocError>
+    ensures { OnOk result (string_bytes text.new ≡ string_bytes text.old
+        ++ afford_line (rates_of plan.now) credit) }
+{
+    match credit {
+        Some(credit) => {
+            let units = afford(plan, Times::ZERO, DAY, credit);
+            writeln!(text, "afford {units}")
+        }
+        None => Ok(()),
     }
-    Ok(())
 }
 
 /// Adds the line of a band.
@@ -61,28 +89,26 @@ fn write_band(text: &mut String, prefix: &[u8], start: u32, plan: &Plan) -> Resu
     write!(text, "prefix ")?;
     write_prefix(text, prefix)?;
     let start = TimeOfDay(start);
-    write!(text, " from {start}")?;
     let Plan {
         fee,
         before,
         free,
         ..
     } = plan;
-    write!(text, " fee {fee} rate {before} free {free}")?;
-    write_steps(text, plan)?;
-    writeln!(text)
+    write!(text, " from {start} fee {fee} rate {before} free {free}")?;
+    write_steps(text, plan)
 }
 
-/// Adds the billing steps of a plan, where it has any.
+/// Adds the billing steps of a plan, where it has any, and ends the line.
 fn write_steps(text: &mut String, plan: &Plan) -> Result<(), AllocError>
     ensures { OnOk result (string_bytes text.new ≡ string_bytes text.old
-        ++ steps_text (rates_of plan.now)) }
+        ++ (steps_text (rates_of plan.now) ++ codes "\n")) }
 {
     if !plan.has_steps() {
-        return Ok(());
+        return writeln!(text);
     }
     let Plan { first, step, .. } = plan;
-    write!(text, " first {first} step {step}")
+    writeln!(text, " first {first} step {step}")
 }
 
 /// Adds the digits of a prefix, or `-` where it has none.
