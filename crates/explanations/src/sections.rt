@@ -37,31 +37,28 @@ pub(crate) fn find_section(
 ) -> Result<SectionText, InputFault>
     ensures { IfOk result (λ found. IsSection section input.now found.start found.text.items) }
 {
-    match section {
-        Section::Whole => Ok(SectionText {
-            start: 0,
-            text: input.to_vec(alloc)?,
-        }),
-        Section::First => {
-            let (text, _rest) = split(alloc, input)?;
-            Ok(SectionText { start: 0, text })
-        }
-        Section::Second => {
-            let (_first, behind) = split(alloc, input)?;
-            let (text, _rest) = split(alloc, behind)?;
-            let start = input.len().saturating_sub(behind.len());
-            Ok(SectionText { start, text })
-        }
-        Section::Third => {
-            let (_first, behind) = split(alloc, input)?;
-            let (_second, rest) = split(alloc, behind)?;
-            let start = input.len().saturating_sub(rest.len());
-            Ok(SectionText {
-                start,
-                text: rest.to_vec(alloc)?,
-            })
-        }
+    if section == Section::Whole {
+        let text = input.to_vec(alloc)?;
+        return Ok(SectionText { start: 0, text });
     }
+    let (first, behind) = split(alloc, input)?;
+    if section == Section::First {
+        return Ok(SectionText {
+            start: 0,
+            text: first,
+        });
+    }
+    let (second, rest) = split(alloc, behind)?;
+    if section == Section::Second {
+        let start = input.len().saturating_sub(behind.len());
+        return Ok(SectionText {
+            start,
+            text: second,
+        });
+    }
+    let start = input.len().saturating_sub(rest.len());
+    let text = rest.to_vec(alloc)?;
+    Ok(SectionText { start, text })
 }
 
 /// What is in front of the first line `%%` of a text, and what is behind it.
