@@ -52,7 +52,7 @@ pub(crate) fn say<O: Write>(
         write_line_rows(&mut text, one, replay.quiet, line, place, answer)?;
         place = one.next_place(place);
     }
-    if text.is_empty() || send(output, text.as_bytes()) {
+    if send(output, text.as_bytes()) {
         Ok(line)
     } else {
         Err(Stop::Failed(LiveFault::Output))
@@ -93,7 +93,7 @@ pub(crate) fn put_down<L: Write>(log: &mut L, text: &[u8]) -> Result<(), Stop>
     ensures cut { IfErr result (WhereFailed (CutsLog (L.contents log.old) (L.contents log.new)
         text.now)) }
 {
-    if text.is_empty() || send(log, text) {
+    if send(log, text) {
         Ok(())
     } else {
         Err(Stop::Failed(LiveFault::Log))
@@ -132,10 +132,10 @@ fn give_one(given: &mut Vec<(u64, Body)>, said: Said) -> Result<(), AllocError>
     Ok(())
 }
 
-/// Writes a text and flushes it, and answers whether the writer did both. Where it didn't, what it
-/// took is a front of the text.
+/// Writes a text, unless it is empty, and flushes it, and answers whether the writer did both. Where
+/// it didn't, what it took is a front of the text.
 fn send<W: Write>(writer: &mut W, text: &[u8]) -> bool
     ensures { Writes (W.contents writer.old) (W.contents writer.new) text.now result }
 {
-    write_text(writer, text) && writer.flush().is_ok()
+    text.is_empty() || write_text(writer, text) && writer.flush().is_ok()
 }

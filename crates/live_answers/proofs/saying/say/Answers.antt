@@ -1,4 +1,5 @@
-use Rattle.std.proofs.Common.{◌+◌, ◌-◌, ◌++◌, ◌∙◌, drop, map, string_bytes, sym, ap, arith}
+use Rattle.std.proofs.Common.{◌+◌, ◌-◌, ◌++◌, ◌∙◌, append-nil, drop, map, string_bytes, sym, ap, arith}
+use Rattle.std.proofs.lemmas.List.{drop_all}
 use Rattle.live_answers.proofs.GroupLemmas.{at_least, line_more, next_left, no_more, rows_more}
 use Rattle.live_answers.proofs.saying.say.Goals as goal
 use Rattle.live_answers.specs.Groups.{group_rows}
@@ -26,3 +27,20 @@ loop-one-preserved g c =
       more ∙ line,
       printed ∙ ap (λ l. string_bytes c.loop-one.text ++ group_rows replay first answers c.loop-one.line place (map line_view_of l)) (sym next) ∙ rows,
     )
+
+pub returns-then-send-clause-line : goal.returns-then-send-clause-line
+returns-then-send-clause-line g c =
+    let (low, high, line, rows) = c.loop-one.invariant in
+    rw (drop_all c.loop-one.one-index c.args.said.now c.loop-one-test.false) at line
+
+pub returns-then-send-clause-printed : goal.returns-then-send-clause-printed
+returns-then-send-clause-printed g c =
+    let (low, high, line, rows) = c.loop-one.invariant in
+    let all = rw (drop_all c.loop-one.one-index c.args.said.now c.loop-one-test.false) at rows in
+    rw (c.as_bytes.ensures.value, ← append-nil (string_bytes c.loop-one.text), all) at c.if-send.ensures
+
+pub returns-clause-cut : goal.returns-clause-cut
+returns-clause-cut g c =
+    let (low, high, line, rows) = c.loop-one.invariant in
+    let all = rw (drop_all c.loop-one.one-index c.args.said.now c.loop-one-test.false) at rows in
+    rw (c.as_bytes.ensures.value, ← append-nil (string_bytes c.loop-one.text), all) at c.if-send.ensures
