@@ -1,3 +1,4 @@
+pub mod Answering
 pub mod Jobbing
 pub mod Joining
 pub mod ListenLemmas

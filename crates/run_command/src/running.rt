@@ -65,8 +65,8 @@ pub fn run<R: Wait + Threads + Sync, W: Watch + Sync>(
     laws::joined_books_pass();
     let watching = Watching::new(watch);
     match options.played_parts() {
-        None => Ok(run_whole(rt, alloc, options, &setup, script, &watching)?),
-        Some(parts) => Ok(run_in_parts(rt, alloc, options, parts, &setup, script, &watching)?),
+        None => run_whole(rt, alloc, options, &setup, script, &watching),
+        Some(parts) => run_in_parts(rt, alloc, options, parts, &setup, script, &watching),
     }
 }
 

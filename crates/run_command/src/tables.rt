@@ -61,7 +61,7 @@ pub fn run_tables<R: Wait + Threads + Sync, W: Watch>(
     let Start { setup, script } = set_up(alloc, options, input)?;
     laws::played_books_pass();
     laws::played_calls_have_paid();
-    Ok(play_tables(rt, alloc, options, &setup, script, &Watching::new(watch))?)
+    play_tables(rt, alloc, options, &setup, script, &Watching::new(watch))
 }
 
 /// Plays a script, and prints all that it comes to.
