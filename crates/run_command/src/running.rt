@@ -5,6 +5,7 @@ ghost use Rattle.std.specs.Result.{result_map_both};
 ghost use Rattle.run_command.specs.Answers.{IsRunAnswer, IsTextOf, MayFail};
 ghost use Rattle.run_command.specs.Played.{IsWhole, run_of};
 ghost use Rattle.run_command.specs.RanOf.{run_said_of};
+ghost use Rattle.run_command.specs.Unplaced.{AreByCall, events_in_rows};
 ghost use Rattle.book_texts.specs.Typed.{IsTyped};
 ghost use Rattle.run_options.specs.Options.{ask_of};
 ghost use Rattle.run_texts.specs.Views.{rows_are_in_order};
@@ -86,9 +87,26 @@ fn run_whole<R: Wait + Threads + Sync, W: Watch>(
     ensures fault { IfErr result (MayFail options.now.workers) }
 {
     let played = play(rt, alloc, options, setup, script, watching)?;
+    Ok(print_whole(alloc, options.output, setup, &played)?)
+}
+
+/// What a script that was played comes to.
+fn print_whole(
+    alloc: Global,
+    output: RunOutput,
+    setup: &RunSetup,
+    played: &Played,
+) -> Result<Ran, AllocError>
+    ensures text { IfOk result (λ ran. IsTextOf output
+        (run_of setup.now played.now) played.now.listener.heard.items (string_bytes ran.text)) }
+    ensures refusals { IfOk result (λ ran. ran.refusals ≡ played.now.listener.refusals) }
+    ensures unplaced { IfOk result (λ ran. AreByCall
+        (events_in_rows played.now.listener.player.unplaced) ran.unplaced.items) }
+    ensures typed { output ≡ RunOutput.Book → OnOk result (All IsTyped played.now.books.items) }
+{
     let events = events_of(alloc, played.listener.player.unplaced())?;
     Ok(Ran {
-        text: print(alloc, options.output, setup, &played)?,
+        text: print(alloc, output, setup, played)?,
         refusals: played.listener.refusals,
         unplaced: by_call(alloc, events.as_slice())?,
     })

@@ -1,3 +1,4 @@
+use Rattle.std.proofs.Common.{◌∙◌}
 use Rattle.run_command.proofs.ListenLemmas.{text_of_heard}
 use Rattle.run_command.proofs.Saying.{events_moved}
 use Rattle.run_command.specs.Played.{run_of}
@@ -8,6 +9,7 @@ returns-clause-ran g c =
     let played = c.in_ok-played.played in
     let is = c.in_ok-played.ensures.played in
     let run = run_of c.args.setup.now played in
+    let ran = c.in_ok-print_whole in
     record {
       workers = c.in_ok-played.ensures.workers;
       given = run.given;
@@ -15,9 +17,8 @@ returns-clause-ran g c =
       given_by = is.given_by;
       books = run.books;
       run = is.run;
-      printed = text_of_heard c.args.options.now.output run played.listener.heard.items _ _ is.kept c.in_ok-print.ensures.text;
-      refused = is.counted;
-      unplaced = events_moved played.listener.player.unplaced is.given_by.play.play.unplaced c.in_ok-by_call.field-0.items is.unplaced
-          (rw (c.as_slice.ensures.value, c.in_ok-events.ensures, c.unplaced.ensures) at c.in_ok-by_call.ensures);
-      typed = c.in_ok-print.ensures.typed;
+      printed = text_of_heard c.args.options.now.output run played.listener.heard.items _ _ is.kept ran.ensures.text;
+      refused = ran.ensures.refusals ∙ is.counted;
+      unplaced = events_moved played.listener.player.unplaced is.given_by.play.play.unplaced ran.field-0.unplaced.items is.unplaced ran.ensures.unplaced;
+      typed = ran.ensures.typed;
     }
