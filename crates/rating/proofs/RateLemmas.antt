@@ -1,6 +1,6 @@
 -- Rows are rated one after the other.
 use Rattle.std.proofs.Common.{◌≡◌, ℕ, ◌+◌, ◌<◌, ◌≤◌, Bool, true, false, suc, List, [], ◌∷◌, ◌++◌, length, map, take, Option, Some, None, Result, Ok, Err, refl, sym, ap, subst, ◌∙◌, inl, inr, append_assoc, append-nil, arith}
-use Rattle.std.specs.Prelude.{fold, ◌&&◌, OnOk, if◌then◌else◌, ◌⊎◌, IsErrAnd, MatchResult, nat_lt}
+use Rattle.std.specs.Prelude.{fold, ◌&&◌, IfErr, OnOk, if◌then◌else◌, ◌⊎◌, IsErrAnd, MatchResult, nat_lt}
 use Rattle.std.specs.Io.KnownBytes.{Appends, Keeps}
 use Rattle.std.specs.List.{flat_map}
 use Rattle.std.proofs.Math.Seq.{take-append_seam}
@@ -11,11 +11,12 @@ use Rattle.std.proofs.lemmas.List.Sums.{fold_push}
 use Rattle.csv.specs.Records.{fields_of}
 use Rattle.table_core.specs.Rows.{Fields, HasRowsLeft, TakesNext, rows_of}
 use Rattle.table_core.specs.declared.table.Rows.{Rows}
-use Rattle.rating.specs.Ends.{AddsRatedRow, EndsRating, IsInPart, IsRatedWhole, RateFaultMayAlwaysCome, SendsFront, StopsBy}
+use Rattle.rating.specs.Ends.{AddsRatedRow, EndsRating, IsInPart, IsRatedWhole, IsRatingSilent, RateFaultMayAlwaysCome, SendsFront, StopsBy}
 use Rattle.rating.specs.Fronts.{AppendsFront}
 use Rattle.rating.specs.Lines.{columns_text, header_line, rated_line, shown}
 use Rattle.rating.specs.Rated.{IsPriced, IsRated, Rating, Faulty, is_right}
 use Rattle.rating.specs.Calls.{said_in, row_size, with_commas}
+use Rattle.rating.proofs.FrontLemmas.{still_held}
 use Rattle.rating.proofs.FrontRows.{WholeOrOver, less_is, not_less, whole_or_over}
 use Rattle.rating.proofs.LineLemmas.{row_written}
 use Rattle.rating.proofs.StartCuts.{table_cut}
@@ -254,6 +255,22 @@ pub stopped_ends : (differing : Bool) (meaning : Result RateInput RateFault) (ol
     → RateFaultMayAlwaysCome why → Keeps old new ⊎ IsInPart differing meaning old new → EndsRating differing meaning old new answer
 stopped_ends differing meaning old new (Ok score) why met may part = absurd met
 stopped_ends differing meaning old new (Err named) why met may part = rw met (stops differing meaning old new why may part)
+
+-- where nothing was written, any fault is silent
+pub still_silent : (known : Option (List ℕ)) (why : RateFault) → IsRatingSilent known known why
+still_silent known fault.Header = still_held known
+still_silent known fault.Output = tt
+still_silent known (fault.Input input_fault.Device) = tt
+still_silent known (fault.Input input_fault.OutOfMemory) = tt
+still_silent known (fault.Input input_fault.Parts) = still_held known
+still_silent known (fault.Input input_fault.TooLong) = still_held known
+still_silent known (fault.Input (input_fault.Tariff row)) = still_held known
+still_silent known (fault.Input (input_fault.Setup row)) = still_held known
+still_silent known (fault.Input (input_fault.Script row)) = still_held known
+
+pub ends_silent : (known : Option (List ℕ)) (answer : Result Score RateFault) → IfErr answer (IsRatingSilent known known)
+ends_silent known (Ok score) = tt
+ends_silent known (Err why) = still_silent known why
 
 -- rows that can't be read
 pub rows_may : (why : TableFault) → RateFaultMayAlwaysCome (of_rows why)

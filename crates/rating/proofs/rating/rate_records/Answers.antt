@@ -1,4 +1,5 @@
-use Rattle.std.proofs.Common.{◌∙◌, length, ap, sym, refl, arith}
+use Rattle.std.proofs.Common.{◌∙◌, inl, length, ap, sym, refl, arith}
+use Rattle.std.proofs.lemmas.Result.{IfOk-from_err}
 use Rattle.std.specs.Prelude.{option_map}
 use Rattle.csv.specs.Records.{fields_of}
 use Rattle.table_core.specs.Rows.{rows_of}
@@ -8,7 +9,7 @@ use Rattle.rating.specs.SaidOf.{wished_names}
 use Rattle.rating.specs.Texts.{headed}
 use Rattle.rating.specs.declared.call.TheConstants.{MAX_SHOWN}
 use Rattle.rating.proofs.FrontLemmas.{still_held}
-use Rattle.rating.proofs.RateLemmas.{ends_same, long_header, no_columns, no_header, opened, over_printed, within_printed}
+use Rattle.rating.proofs.RateLemmas.{ends_same, ends_silent, long_header, no_columns, no_header, opened, over_printed, rows_may, stopped_ends, within_printed}
 use Rattle.rating.proofs.rating.rate_records.Goals as goal
 
 pub returns-clause-ends : goal.returns-clause-ends
@@ -54,3 +55,33 @@ returns-then-len-gt-MAX_SHOWN-clause-ends g c = if_known (g.I.Read.remaining c.a
           (over_printed _ _ printed (omega (arith, c.if-len-gt-MAX_SHOWN.true, c.len.ensures))),
       still_held (g.O.Write.contents c.args.output.now),
     ))
+
+pub returns-in_err-next_row : goal.returns-in_err-next_row
+returns-in_err-next_row g c =
+    let held = g.O.Write.contents c.args.output.now in
+    let stop = c.from_residual in
+    record {
+      ends = if_known (g.I.Read.remaining c.args.records) _ (λ text known. stopped_ends c.args.ask.now.differing _ held held stop.result _ stop.ensures.1 (rows_may c.in_err-next_row.field-0.0) (inl (still_held held)));
+      silent = ends_silent held stop.result;
+      bounded = IfOk-from_err stop.result _ stop.ensures.0;
+    }
+
+pub returns-in_err-push_fields : goal.returns-in_err-push_fields
+returns-in_err-push_fields g c =
+    let held = g.O.Write.contents c.args.output.now in
+    let stop = c.from_residual-in_err-push_fields in
+    record {
+      ends = if_known (g.I.Read.remaining c.args.records) _ (λ text known. stopped_ends c.args.ask.now.differing _ held held stop.result _ stop.ensures.1 tt (inl (still_held held)));
+      silent = ends_silent held stop.result;
+      bounded = IfOk-from_err stop.result _ stop.ensures.0;
+    }
+
+pub returns-in_err-push_names : goal.returns-in_err-push_names
+returns-in_err-push_names g c =
+    let held = g.O.Write.contents c.args.output.now in
+    let stop = c.from_residual-in_err-push_names in
+    record {
+      ends = if_known (g.I.Read.remaining c.args.records) _ (λ text known. stopped_ends c.args.ask.now.differing _ held held stop.result _ stop.ensures.1 tt (inl (still_held held)));
+      silent = ends_silent held stop.result;
+      bounded = IfOk-from_err stop.result _ stop.ensures.0;
+    }
