@@ -112,13 +112,19 @@ fn push_charge(text: &mut Vec<u8>, charge: &PricedTimes) -> Result<(), AllocErro
     ensures { OnOk result (text.new.items
         ≡ text.old.items ++ charge_text charge.now) }
 {
-    text.extend_from_slice(b",")?;
-    push_decimal(text, u64::from(charge.before))?;
-    text.extend_from_slice(b",")?;
-    push_decimal(text, u64::from(charge.after))?;
-    text.extend_from_slice(b",")?;
-    push_decimal(text, charge.price)?;
+    push_number(text, u64::from(charge.before))?;
+    push_number(text, u64::from(charge.after))?;
+    push_number(text, charge.price)?;
     text.extend_from_slice(b",")
+}
+
+/// Adds a number in decimals behind a comma.
+fn push_number(text: &mut Vec<u8>, number: u64) -> Result<(), AllocError>
+    ensures { OnOk result (text.new.items
+        ≡ text.old.items ++ (codes "," ++ cell (decimal number))) }
+{
+    text.extend_from_slice(b",")?;
+    push_decimal(text, number)
 }
 
 /// Adds the price less what was charged, where that is recorded.
