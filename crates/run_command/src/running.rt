@@ -5,7 +5,7 @@ ghost use Rattle.std.specs.Result.{result_map_both};
 ghost use Rattle.run_command.specs.Answers.{IsRunAnswer, IsTextOf, MayFail};
 ghost use Rattle.run_command.specs.Played.{IsWhole, run_of};
 ghost use Rattle.run_command.specs.RanOf.{run_said_of};
-ghost use Rattle.run_command.specs.Unplaced.{AreByCall, events_in_rows};
+ghost use Rattle.run_remarks.specs.Unplaced.{AreByCall, events_in_rows};
 ghost use Rattle.book_texts.specs.Typed.{IsTyped};
 ghost use Rattle.run_options.specs.Options.{ask_of};
 ghost use Rattle.run_texts.specs.Views.{rows_are_in_order};
@@ -18,7 +18,7 @@ use crate::{RunError, laws};
 use book_texts::{book_table, run_lines};
 use call_records::{call_table, records};
 use run_options::{RunOptions, RunOutput};
-use run_remarks::{Refusals, UnplacedEvent, by_call, events_of};
+use run_remarks::{Refusals, UnplacedEvent, events_by_call};
 use run_texts::ScriptRow;
 use run_trace::trace_table;
 use run_values::RunSetup;
@@ -104,11 +104,10 @@ fn print_whole(
         (events_in_rows played.now.listener.player.unplaced) ran.unplaced.items) }
     ensures typed { output ≡ RunOutput.Book → OnOk result (All IsTyped played.now.books.items) }
 {
-    let events = events_of(alloc, played.listener.player.unplaced())?;
     Ok(Ran {
         text: print(alloc, output, setup, played)?,
         refusals: played.listener.refusals,
-        unplaced: by_call(alloc, events.as_slice())?,
+        unplaced: events_by_call(alloc, played.listener.player.unplaced())?,
     })
 }
 

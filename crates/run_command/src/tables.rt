@@ -18,7 +18,7 @@ use crate::watching::{Watch, Watching};
 use crate::{RunError, laws};
 use moment_texts::Clock;
 use run_options::{RunOptions, RunOutput};
-use run_remarks::{Refusals, UnplacedEvent, by_call, events_of};
+use run_remarks::{Refusals, UnplacedEvent, events_by_call};
 use run_texts::ScriptRow;
 use run_values::RunSetup;
 use std::alloc::{AllocError, Global};
@@ -126,13 +126,12 @@ fn print_all(
         (events_in_rows played.now.listener.player.unplaced) tables.unplaced.items) }
     ensures typed { IfOk result (λ tables. All IsTyped played.now.books.items) }
 {
-    let events = events_of(alloc, played.listener.player.unplaced())?;
     Ok(RunTables {
         lines: print(alloc, RunOutput::Lines, setup, played)?,
         book: print(alloc, RunOutput::Book, setup, played)?,
         calls: print(alloc, RunOutput::Calls(clock), setup, played)?,
         trace: print(alloc, RunOutput::Trace(clock), setup, played)?,
         refusals: played.listener.refusals,
-        unplaced: by_call(alloc, events.as_slice())?,
+        unplaced: events_by_call(alloc, played.listener.player.unplaced())?,
     })
 }

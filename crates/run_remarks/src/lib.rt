@@ -10,4 +10,4 @@ mod unplaced;
 pub use list_lines::{strangers_line, unplaced_line};
 pub use refusals::Refusals;
 pub use refused_lines::refused_line;
-pub use unplaced::{UnplacedEvent, by_call, events_of};
+pub use unplaced::{UnplacedEvent, by_call, events_by_call, events_of};

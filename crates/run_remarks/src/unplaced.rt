@@ -75,3 +75,11 @@ pub fn by_call(alloc: Global, events: &[UnplacedEvent]) -> Result<Vec<UnplacedEv
     sorted.sort_by_key(|event| event.call)?;
     Ok(sorted)
 }
+
+/// The events of these rows by rising call, and those of one call in their order.
+pub fn events_by_call(alloc: Global, rows: &[ScriptRow]) -> Result<Vec<UnplacedEvent>, AllocError>
+    ensures { IfOk result (λ sorted. AreByCall (events_in_rows rows.now) sorted.items) }
+{
+    let events = events_of(alloc, rows)?;
+    by_call(alloc, events.as_slice())
+}
