@@ -17,7 +17,7 @@ use crate::RunFault;
 use crate::crew::answer_all;
 use run_values::{Answer, Post, RunSetup};
 use shared_account::{Gate, Shared};
-use std::alloc::Global;
+use std::alloc::{AllocError, Global};
 use std::snapshot::Snapshot;
 use std::sync::Wait;
 use std::thread::{Promise, PromisedHandle, Scope, Threads};
@@ -25,6 +25,9 @@ use workers_core::{Gone, Inbox, Mail, Outbox, Worker, compare_ends, mailbox};
 
 /// How many mails wait in a mailbox at most: those of one round, and the last one.
 const MAILBOX: u32 = 2;
+
+/// The two ends of a mailbox of lists.
+type Mailbox<T> = (Outbox<Vec<T>>, Inbox<Vec<T>>);
 
 /// A worker's link: the mailbox of its posts, that of its answers, and its thread. At most one
 /// round is on its way, so neither end ever waits for room.
@@ -60,8 +63,7 @@ pub(crate) fn start<'s, E, S: Shared, R: Wait + Threads + Sync, G: Gate + Sync>(
     ensures heard { IfOk result (λ link. taken link.inbox ≡ []) }
     ensures fault { AsksNoGate result }
 {
-    let (outbox, posts) = mailbox::<Vec<Post>>(alloc, MAILBOX)?;
-    let (answers, inbox) = mailbox::<Vec<Answer>>(alloc, MAILBOX)?;
+    let ((outbox, posts), (answers, inbox)) = mailboxes(alloc)?;
     let promise = WorkerPromise {
         number,
         setup,
@@ -93,8 +95,24 @@ pub(crate) fn start<'s, E, S: Shared, R: Wait + Threads + Sync, G: Gate + Sync>(
             awaits: false,
             child,
         }),
-        Err(_) => Err(RunFault::Thread),
+        Err(_) => {
+            drop(inbox);
+            drop(outbox);
+            Err(RunFault::Thread)
+        }
     }
+}
+
+/// Opens the mailbox of a worker's posts, and that of its answers.
+fn mailboxes(alloc: Global) -> Result<(Mailbox<Post>, Mailbox<Answer>), AllocError>
+    ensures posts { IfOk result (λ boxes. ArePaired boxes.0.0 boxes.0.1
+        × (sent boxes.0.0 ≡ []) × (taken boxes.0.1 ≡ [])) }
+    ensures answers { IfOk result (λ boxes. ArePaired boxes.1.0 boxes.1.1
+        × (sent boxes.1.0 ≡ []) × (taken boxes.1.1 ≡ [])) }
+{
+    let posts = mailbox(alloc, MAILBOX)?;
+    let answers = mailbox(alloc, MAILBOX)?;
+    Ok((posts, answers))
 }
 
 impl<S: Shared, G: Gate> WorkerLink<'_, S, G> {
@@ -152,22 +170,44 @@ impl<S: Shared, G: Gate> WorkerLink<'_, S, G> {
     {
         let WorkerLink {
             mut outbox,
-            mut inbox,
+            inbox,
             child,
             ..
         } = self;
         let _ = outbox.send_mail(rt, Mail::Close);
-        let Finished {
-            seats,
-            inbox: posts,
-            outbox: answers,
-        } = child.join(rt)?;
-        compare_ends(outbox, posts);
-        take_last(rt, &mut inbox)?;
-        compare_ends(answers, inbox);
-        left.push(seats)?;
-        Ok(())
+        match child.join(rt) {
+            Ok(finished) => {
+                compare_all(rt, outbox, finished.inbox, finished.outbox, inbox)?;
+                left.push(finished.seats)?;
+                Ok(())
+            }
+            Err(why) => {
+                drop(inbox);
+                drop(outbox);
+                Err(why)
+            }
+        }
     }
+}
+
+/// Compares the ends of the two mailboxes of a worker that has ended, once its last mail is taken.
+fn compare_all<R: Wait>(
+    rt: &R,
+    outbox: Outbox<Vec<Post>>,
+    posts: Inbox<Vec<Post>>,
+    answers: Outbox<Vec<Answer>>,
+    mut inbox: Inbox<Vec<Answer>>,
+) -> Result<(), RunFault>
+    requires posts { ArePaired outbox posts }
+    requires answers { ArePaired answers inbox }
+    ensures posts { has_close (taken posts) ≡ true → taken posts ≡ sent outbox }
+    ensures answers { OnOk result (sent answers ≡ taken inbox ++ mail.Close ∷ []) }
+    ensures fault { AsksNoGate result }
+{
+    compare_ends(outbox, posts);
+    take_last(rt, &mut inbox)?;
+    compare_ends(answers, inbox);
+    Ok(())
 }
 
 /// Takes the last mail: no answers are left before it.
@@ -182,7 +222,8 @@ fn take_last<R: Wait>(rt: &R, inbox: &mut Inbox<Vec<Answer>>) -> Result<(), RunF
     }
 }
 
-/// Handles the posts of a worker, round by round up to the last mail, and answers each round.
+/// Handles the posts of a worker up to the last mail, and gives its seats and its ends back. After a
+/// fault its ends are gone.
 fn work<S: Shared, R: Wait, G: Gate>(
     rt: &R,
     alloc: Global,
@@ -206,14 +247,59 @@ fn work<S: Shared, R: Wait, G: Gate>(
         (map answer_view (items_in (sent finished.outbox))) finished.seats.items) }
     ensures fault { MayAskGate (G.may_shut gate.now) result }
 {
+    match serve_posts(
+        rt,
+        alloc,
+        number,
+        setup,
+        accounts,
+        seats,
+        &mut inbox,
+        &mut outbox,
+        gate,
+    ) {
+        Ok(seats) => Ok(Finished {
+            seats,
+            inbox,
+            outbox,
+        }),
+        Err(why) => {
+            drop(outbox);
+            drop(inbox);
+            Err(why)
+        }
+    }
+}
+
+/// Handles the posts of a worker, round by round up to the last mail, answers each round, and gives
+/// the worker's seats.
+fn serve_posts<S: Shared, R: Wait, G: Gate>(
+    rt: &R,
+    alloc: Global,
+    number: u32,
+    setup: &RunSetup,
+    accounts: &[S],
+    seats: Vec<S::Seat>,
+    inbox: &mut Inbox<Vec<Post>>,
+    outbox: &mut Outbox<Vec<Answer>>,
+    gate: &G,
+) -> Result<Vec<S::Seat>, RunFault>
+    requires numbered { map (number_by S.terms) accounts.now ≡ keys_of setup.now.accounts }
+    requires fresh { IsFresh S.reads (map S.key accounts.now) number seats.items }
+    requires taken { taken inbox.old ≡ [] }
+    requires sent { sent outbox.old ≡ [] }
+    ensures inbox { IsSameInbox inbox.old inbox.new }
+    ensures outbox { IsSameOutbox outbox.old outbox.new }
+    ensures closed { OnOk result (has_close (taken inbox.new) ≡ true) }
+    ensures left { IfOk result (λ seats. IsLeft S.reads S.was
+        (map S.key accounts.now) setup.now number (items_in (taken inbox.new))
+        (map answer_view (items_in (sent outbox.new))) seats.items) }
+    ensures fault { MayAskGate (G.may_shut gate.now) result }
+{
     let mut worker = Worker::new(alloc, number, setup, accounts, seats)?;
-    answer_rounds(rt, alloc, &mut worker, &mut inbox, &mut outbox, gate)?;
+    answer_rounds(rt, alloc, &mut worker, inbox, outbox, gate)?;
     let _ = outbox.send_mail(rt, Mail::Close);
-    Ok(Finished {
-        seats: worker.finish(),
-        inbox,
-        outbox,
-    })
+    Ok(worker.finish())
 }
 
 /// Takes the posts of each round and sends their answers, up to the last mail.

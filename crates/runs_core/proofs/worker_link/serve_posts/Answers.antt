@@ -5,7 +5,7 @@ use Rattle.workers_core.specs.Workers.{number_by}
 use Rattle.runs_core.specs.Mails.{items_in}
 use Rattle.runs_core.proofs.WorkerLemmas.{answered_more, begins, left_by}
 use Rattle.runs_core.proofs.Mailing.{same_items}
-use Rattle.runs_core.proofs.worker_link.work.Goals as goal
+use Rattle.runs_core.proofs.worker_link.serve_posts.Goals as goal
 
 pub returns-clause-left : goal.returns-clause-left
 returns-clause-left g c =
