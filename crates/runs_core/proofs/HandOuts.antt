@@ -1,5 +1,5 @@
 -- Items that are handed out to the workers, one after the other.
-use Rattle.std.proofs.Common.{◌≡◌, ◌≢◌, ◌<◌, ℕ, ◌+◌, ◌-◌, Bool, true, false, List, [], ◌∷◌, ◌++◌, length, map, refl, ap, sym, subst, ◌∙◌, arith, suc, zero, take}
+use Rattle.std.proofs.Common.{◌≡◌, ◌≢◌, ◌<◌, ◌≤◌, ℕ, ◌+◌, ◌-◌, Bool, true, false, List, [], ◌∷◌, ◌++◌, length, length-append, map, refl, ap, sym, subst, ◌∙◌, arith, suc, zero, take}
 use Rattle.std.specs.Prelude.{◌==◌, drop, filter, replicate}
 use Rattle.std.specs.List.{HoldsAt}
 use Rattle.std.proofs.Math.ListN.{get_or, get_or-map, set}
@@ -134,6 +134,16 @@ pub added_after : (given before added : List (ℕ × Body)) → given ≡ before
 added_after given before added grown = ap (drop (length before)) grown ∙ drop-append_seam before added
 
 -- and so what is read of it from there on
+-- what was given before is no more than what is given now
+pub longer_by : (given before added now first : List (ℕ × Body)) → given ≡ before ++ added → now ≡ given → first ≡ before → length first ≤ length now
+longer_by given before added now first grown now_is first_is = rw (now_is, first_is, grown) (omega (arith, length-append before added))
+
+-- with what was added since, it is all
+pub whole_by : (now first : List (ℕ × Body)) → length first ≤ length now → length first + length (take (length now - length first) (drop (length first) now)) ≡ length now
+whole_by now first longer =
+    let rest = length-drop (length first) now in
+    omega (arith, longer, rest, length-take-le (length now - length first) (drop (length first) now) (omega (arith, rest)))
+
 pub added_slice : (given before added now first : List (ℕ × Body)) → given ≡ before ++ added → now ≡ given → first ≡ before → take (length now - length first) (drop (length first) now) ≡ added
 added_slice given before added now first grown now_is first_is =
     rw (now_is, first_is) (take_all (length given - length before) (drop (length before) given) (omega (arith, length-drop (length before) given)) ∙ added_after given before added grown)

@@ -84,6 +84,32 @@ fn play_round<D: Driver, S: Shared, R: Wait, G: Gate>(
         return Ok(false);
     }
     let added = &driver.given()[first..];
+    serve_round(rt, alloc, crew, gate, first, added, answers)?;
+    Ok(true)
+}
+
+/// Serves the items that a driver has added to so many others, and puts their answers in the place
+/// of those before.
+fn serve_round<S: Shared, R: Wait, G: Gate>(
+    rt: &R,
+    alloc: Global,
+    crew: &mut Crew<'_, S, G>,
+    gate: &G,
+    first: usize,
+    added: &[(u64, Body)],
+    answers: &mut Vec<Answer>,
+) -> Result<(), RunFault>
+    requires ready { IsReady (number_by S.terms) S.key S.reads crew.old.worker }
+    requires works { crew.old.failed ≡ None }
+    requires few { first + length added.now < 2 ^ 64 }
+    requires moments { All (λ item. item.0 ≤ HORIZON) added.now }
+    ensures served { OnOk result (IsServedRound (number_by S.terms) S.key S.reads S.was
+        first added.now answers.new.items crew.old crew.new) }
+    ensures count { count_of crew.new ≡ count_of crew.old }
+    ensures promises { promises_of crew.new.links.items ≡ promises_of crew.old.links.items }
+    ensures fault { MayAskGate (G.may_shut gate.now) result }
+    ensures failed { IfSome crew.new.failed (λ why. result ≡ Err why) }
+{
     let shares = share_out(alloc, crew.links.len() + 1, first, added)?;
     let mut shares = shares.into_iter();
     let Some(mine) = shares.next() else {
@@ -92,8 +118,7 @@ fn play_round<D: Driver, S: Shared, R: Wait, G: Gate>(
     let replies = crew.answer_round(rt, alloc, mine, shares, gate)?;
     answers.clear();
     let mut queues = queues(alloc, replies)?;
-    merge(first, added, &mut queues, answers)?;
-    Ok(true)
+    merge(first, added, &mut queues, answers)
 }
 
 /// The answers of each worker, to be taken one by one.

@@ -32,3 +32,24 @@ returns-then-not-branch-clause-played g c =
     let last = c.in_ok-play_round.ensures in
     played_out g.D.Driver.given g.D.Driver.ended g.D.Driver.hears (number_by g.S.Shared.terms) g.S.Shared.key g.S.Shared.reads g.S.Shared.was _ _
     _ _ _ _ _ _ c.loop.invariant.0 (last.given (search rules)) (search rules) (search rules) (last.crew (search rules))
+
+pub play_round-requires-clause-ready : goal.play_round-requires-clause-ready
+play_round-requires-clause-ready g c = λ _ _. c.loop.invariant.0.served.first.ready
+
+pub returns-in_err-play_round-clause-count : goal.returns-in_err-play_round-clause-count
+returns-in_err-play_round-clause-count g c = c.play_round.ensures.count ∙ c.loop.invariant.1
+
+pub returns-in_err-play_round-clause-promises : goal.returns-in_err-play_round-clause-promises
+returns-in_err-play_round-clause-promises g c = c.play_round.ensures.promises ∙ c.loop.invariant.2
+
+pub returns-in_err-play_round-clause-agenda : goal.returns-in_err-play_round-clause-agenda
+returns-in_err-play_round-clause-agenda g c = c.play_round.ensures.agenda ∙ c.loop.invariant.3
+
+pub returns-then-not-branch-clause-count : goal.returns-then-not-branch-clause-count
+returns-then-not-branch-clause-count g c = c.play_round.ensures.count ∙ c.loop.invariant.1
+
+pub returns-then-not-branch-clause-promises : goal.returns-then-not-branch-clause-promises
+returns-then-not-branch-clause-promises g c = c.play_round.ensures.promises ∙ c.loop.invariant.2
+
+pub returns-then-not-branch-clause-agenda : goal.returns-then-not-branch-clause-agenda
+returns-then-not-branch-clause-agenda g c = c.play_round.ensures.agenda ∙ c.loop.invariant.3

@@ -1,0 +1,53 @@
+use Rattle.std.proofs.Common.{◌≡◌, ◌+◌, ◌∷◌, arith, ap, length, map, rules}
+use Rattle.std.specs.Vec.Iter.{into_iter_items}
+use Rattle.std.proofs.lemmas.List.{length-map}
+use Rattle.runs_core.proofs.Finishing.{none_failed}
+use Rattle.runs_core.proofs.RoundLemmas.{on_ok}
+use Rattle.runs_core.specs.Crews.{count_of}
+use Rattle.runs_core.proofs.rounds.serve_round.Goals as goal
+
+pub returns-clause-served : goal.returns-clause-served
+returns-clause-served g c =
+    let replies = c.in_ok-replies.replies in
+    let others = map (λ list. list.items) replies.others.items in
+    let lists = c.in_ok-queues.ensures.items in
+    let split : c.in_ok-shares.shares.items ≡ c.in-Some.mine ∷ into_iter_items c.next.new.self = search rules in
+    let workers : c.len.result + 1 ≡ count_of c.args.crew.now = omega (arith, c.len.ensures, c.args.crew.now.links.ok) in
+    let many : length c.in_ok-queues.queues.items ≡ count_of c.args.crew.now =
+    omega (arith, ap length lists, length-map c.in_ok-queues.queues.items (λ queue. queue.items), length-map replies.others.items (λ list. list.items), c.in_ok-replies.ensures.others) in
+    on_ok c.merge.result _ _ c.merge.ensures.answers
+    (λ merged. record {
+      own = c.in-Some.mine.items;
+      others = map (λ share. share.items) (into_iter_items c.next.new.self);
+      are_shares = rw (workers, split) at c.in_ok-shares.ensures.shares;
+      sent = c.in_ok-replies.ensures.posts;
+      mine = replies.first.items;
+      goes_on = c.in_ok-replies.ensures.goes_on;
+      replies = others;
+      heard = c.in_ok-replies.ensures.heard;
+      are_answers = rw (lists, many) at merged;
+      count = c.in_ok-replies.ensures.count;
+    })
+
+pub returns-in_err-replies-clause-count : goal.returns-in_err-replies-clause-count
+returns-in_err-replies-clause-count g c = c.answer_round.ensures.count
+
+pub returns-in_err-replies-clause-promises : goal.returns-in_err-replies-clause-promises
+returns-in_err-replies-clause-promises g c = c.answer_round.ensures.promises
+
+pub returns-in_err-queues-clause-count : goal.returns-in_err-queues-clause-count
+returns-in_err-queues-clause-count g c = c.in_ok-replies.ensures.count
+
+pub returns-in_err-queues-clause-promises : goal.returns-in_err-queues-clause-promises
+returns-in_err-queues-clause-promises g c = c.in_ok-replies.ensures.promises
+
+pub returns-clause-failed : goal.returns-clause-failed
+returns-clause-failed g c =
+    let none = none_failed _ _ c.in_ok-replies.replies c.answer_round.ensures.failed c.in_ok-replies.was in
+    rw none tt
+
+pub answer_round-requires-clause-count : goal.answer_round-requires-clause-count
+answer_round-requires-clause-count g c = λ _ _.
+    let shares = c.in_ok-shares.shares.items in
+    let split : shares ≡ c.in-Some.mine ∷ into_iter_items c.next.new.self = search rules in
+    omega (arith, ap length split, c.in_ok-shares.ensures.shares.count, length-map shares (λ share. share.items), c.len.ensures)
