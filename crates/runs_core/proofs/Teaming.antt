@@ -1,9 +1,9 @@
 -- The seats of accounts that are opened go to the teams of the workers.
-use Rattle.std.proofs.Common.{◌≡◌, ◌<◌, ℕ, ◌+◌, Bool, true, false, List, [], ◌∷◌, ◌++◌, length, map, refl, ap, sym, ◌∙◌, arith, zero, suc, take}
+use Rattle.std.proofs.Common.{◌≡◌, ◌<◌, ◌≤◌, ℕ, ◌+◌, Bool, true, false, List, [], ◌∷◌, ◌++◌, length, map, refl, ap, sym, ◌∙◌, arith, zero, suc, take}
 use Rattle.std.specs.Prelude.{◌==◌, ◌&&◌, All, HoldsAt, replicate}
 use Rattle.std.proofs.Math.ListN.{get_or}
 use Rattle.std.proofs.lemmas.Bool.Decides.{nat_tests}
-use Rattle.std.proofs.lemmas.List.{length-map, length-replicate, map-append, take_more}
+use Rattle.std.proofs.lemmas.List.{length-map, length-replicate, map-append, take_all, take_more}
 use Rattle.std.proofs.lemmas.List.Elements.{All-head, All-nil, All-push, All-tail}
 use Rattle.shared_account.specs.Seats.{Reads, are_numbered}
 use Rattle.shared_account.specs.Terms.{Terms}
@@ -71,6 +71,17 @@ terms_more limit workers all place number opening within numbered opened =
     let make = λ (account : ℕ × OpeningCredit). terms_with limit workers account in
     ap (map make) (take_more all place (0, no_credit) within) ∙ map-append make (take place all) (get_or all place (0, no_credit) ∷ [])
     ∙ ap (λ account. map make (take place all) ++ make account ∷ []) (pair (numbered (0, no_credit)) (opened (0, no_credit)))
+
+-- a new account has a seat for each worker
+pub seat_each : {K T : Type 0} (read : Reads K T) (key : K) (workers : ℕ) (seats : List T) → IsNew read key workers seats → length seats ≡ workers
+seat_each read key workers seats new =
+    let parts = first_by (length (map read.number seats) == workers) (are_numbered 0 (map read.number seats)) new.numbers in
+    sym (length-map seats read.number) ∙ same_number _ _ parts.0
+
+-- all accounts are opened
+pub all_opened : {S : Type 0} (terms : S → Terms) (limit workers : ℕ) (all : List (ℕ × OpeningCredit)) (place : ℕ) (accounts : List S) → length all ≤ place
+    → map terms accounts ≡ terms_of limit workers (take place all) → map terms accounts ≡ terms_of limit workers all
+all_opened terms limit workers all place accounts past before = before ∙ ap (terms_of limit workers) (take_all place all past)
 
 -- one account more is opened
 pub one_opened : {K T S V : Type 0} (read : Reads K T) (terms : S → Terms) (key : S → K) (inside : V → List T) (limit workers : ℕ) (all : List (ℕ × OpeningCredit)) (place number : ℕ) (opening : OpeningCredit)
