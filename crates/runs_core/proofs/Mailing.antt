@@ -31,3 +31,7 @@ pub same_items : {X : Type 0} (result : Result (Unit {0}) (Mail (Vec X))) (old n
     → MatchResult result (λ _. now ≡ old ++ Close ∷ []) (λ back. (back ≡ Close) × (now ≡ old)) → items_in now ≡ items_in old
 same_items (Ok done) old now grown = items_closed old now grown
 same_items (Err back) old now kept = ap items_in kept.1
+
+-- with the last mail taken, all that was sent is what was taken before it, and the last mail
+pub whole_sent : {X : Type 0} (before now all : List (Mail (Vec X))) → now ≡ before ++ Close ∷ [] → (has_close now ≡ true → now ≡ all) → all ≡ before ++ Close ∷ []
+whole_sent before now all last whole = sym (whole (rw (last) (closes before))) ∙ last

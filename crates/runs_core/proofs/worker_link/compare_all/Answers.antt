@@ -1,9 +1,10 @@
-use Rattle.std.proofs.Common.{sym, ◌∙◌}
+use Rattle.std.proofs.Common.{◌≡◌, ◌++◌, ◌∷◌, [], rules}
 use Rattle.workers_core.specs.Ends.{taken}
-use Rattle.runs_core.proofs.Mailing.{closes}
+use Rattle.workers_core.specs.declared.mailboxes.Mail.TheVariants.{Close}
+use Rattle.runs_core.proofs.Mailing.{whole_sent}
 use Rattle.runs_core.proofs.worker_link.compare_all.Goals as goal
 
 pub returns-clause-answers : goal.returns-clause-answers
 returns-clause-answers g c =
-    let last = c.in_ok-take_last.ensures.last in
-    sym (c.compare_ends-2.ensures.whole (rw (last) (closes (taken c.args.inbox)))) ∙ last
+    let last : taken c.take_last.new.inbox ≡ taken c.args.inbox ++ Close ∷ [] = search rules in
+    whole_sent (taken c.args.inbox) (taken c.take_last.new.inbox) _ last c.compare_ends-2.ensures.whole
