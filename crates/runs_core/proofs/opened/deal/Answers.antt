@@ -13,6 +13,12 @@ index_mut-requires g c =
     (rw c.in-Some.ensures.steps.0 at c.loop-item.invariant) in
     omega (arith, below, c.loop-item.piles.ok)
 
+pub overflow_add-at : goal.overflow_add-at
+overflow_add-at g c =
+    let below = has_pile (λ pile. pile.items) _ _ c.in-Some.item (into_iter_items c.next.new.self) _ _ (c.requires ∙ sym (length-map c.args.piles.now.items (λ pile. pile.items)))
+    (rw c.in-Some.ensures.steps.0 at c.loop-item.invariant) in
+    omega (arith, below, c.loop-item.piles.ok)
+
 pub loop-item-preserved : goal.loop-item-preserved
 loop-item-preserved g c =
     one_laid_out (λ pile. pile.items) _ _ c.in-Some.item (into_iter_items c.next.new.self) _ _ c.index_mut.result.now c.push.new.self

@@ -1,5 +1,6 @@
-use Rattle.std.proofs.Common.{ℕ, ◌≤◌, ap, arith, length}
+use Rattle.std.proofs.Common.{ℕ, ◌≤◌, ◌-◌, ap, arith, length}
 use Rattle.runs_core.proofs.HandOuts.{added_slice, longer_by, whole_by}
+use Rattle.std.specs.Prelude.{drop}
 use Rattle.std.proofs.lemmas.List.Elements.{All-drop, All-take}
 use Rattle.run_values.specs.declared.post.Body.{Body}
 use Rattle.tariff_core.specs.declared.times.TheConstants.{HORIZON}
@@ -32,7 +33,8 @@ serve_round-requires-clause-few g c = λ κs lives.
 pub serve_round-requires-clause-moments : goal.serve_round-requires-clause-moments
 serve_round-requires-clause-moments g c = λ κs lives.
     let within = λ (item : ℕ × Body). item.0 ≤ HORIZON in
-    All-take within _ _ (All-drop within _ c.given.result.now c.given.ensures.moments)
+    let first = length c.given-first.result.now in
+    All-take within (length c.given.result.now - first) (drop first c.given.result.now) (All-drop within first c.given.result.now c.given.ensures.moments)
 
 pub returns-clause-more : goal.returns-clause-more
 returns-clause-more g c = λ _.
