@@ -26,3 +26,15 @@ returns-clause-books g c =
     let left = rw (none) at c.loop-account.invariant in
     subst (AreBooksOfSeats g.S.Shared.reads g.S.Shared.was g.S.Shared.stood (map g.S.Shared.terms c.args.accounts.items) (map (λ row. row.items) c.args.rows.items))
     (append-nil c.loop-account.books.items) (left.1 [] tt)
+
+pub close-requires-clause-keys : goal.close-requires-clause-keys
+close-requires-clause-keys g c = λ _ _.
+    let rows : into_iter_items c.loop-account.rows_left ≡ c.in-Some-next.seats ∷ into_iter_items c.next-in-loop-account.new.self = search rules in
+    let before = rw (c.in-Some.ensures.steps.0, rows) at c.loop-account.invariant in
+    before.0.0
+
+pub close-requires-clause-all : goal.close-requires-clause-all
+close-requires-clause-all g c = λ _ _.
+    let rows : into_iter_items c.loop-account.rows_left ≡ c.in-Some-next.seats ∷ into_iter_items c.next-in-loop-account.new.self = search rules in
+    let before = rw (c.in-Some.ensures.steps.0, rows) at c.loop-account.invariant in
+    before.2.0
