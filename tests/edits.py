@@ -211,7 +211,7 @@ class Crate:
         if unread or not verdicts.is_proved and not verdicts.is_refused:
             return False, f"BAD EDIT: the prover can't read the edited text: {unread[:160]}"
         if verdicts.is_proved:
-            return False, "the crate is still proved with it"
+            return False, "what was checked is still proved with it"
         own = [it for it in (verdicts.refusal(function, self.name) for function in self.functions[edit.name]) if it]
         goals = own + [text for _, _, text in verdicts.notes] + [text for _, text in verdicts.errors if not LACKS_A_NAME.search(text)]
         return True, goals[0] if goals else "only since a proof file names what the edit took away"

@@ -52,8 +52,8 @@ EDITS = [
     ("adds_two", "    x + 1", "    x + 2", "refused"),
     ("adds_one", "after(after(x))", "after(x)", "refused"),
     ("adds_three", "{\n    x + 1\n}", "{\n    x + 3\n}", "refused"),
-    ("answers_another", "    MOST", "    MOST - 1", "NOT REFUSED: the crate is still proved with it"),
-    ("has_another_most", "u32 = 1000", "u32 = 999", "NOT REFUSED: the crate is still proved with it"),
+    ("answers_another", "    MOST", "    MOST - 1", "NOT REFUSED: what was checked is still proved with it"),
+    ("has_another_most", "u32 = 1000", "u32 = 999", "NOT REFUSED: what was checked is still proved with it"),
     ("names_what_is_not_there", "after(after(x))", "before(x)", "NOT REFUSED: BAD EDIT: the prover can't read"),
     ("fits_no_longer", "    x + 3", "    x", "NOT REFUSED: BAD EDIT: src/lib.rt has its old text 0 times and not once: x + 3"),
     ("fits_twice", "after(", "any(", "NOT REFUSED: BAD EDIT: src/lib.rt has its old text 4 times and not once: after("),
@@ -64,7 +64,7 @@ EDITS = [
 GATE = [
     ("adds_four", "    x + 1", "    x + 4", "refused"),
     ("adds_five", "after(after(x))", "after(x) + 4", "refused"),
-    ("answers_half", "    MOST", "    MOST / 2", "NOT REFUSED: what it changes is still proved with it"),
+    ("answers_half", "    MOST", "    MOST / 2", "NOT REFUSED: what was checked is still proved with it"),
 ]
 # A page of three rows.
 PAGE = """| Edit | Changes | Refused by |
@@ -148,9 +148,9 @@ def lay_stale(root):
     write(f"{root}/docs/edits/sample.md", PAGE)
 
 
-def tries(root, *names):
-    """Runs the program that tries edits on a repository."""
-    command = [sys.executable, f"{TESTS}/edits.py", "--root", root, *names]
+def tries(root, *names, program="edits.py"):
+    """Runs a program that tries edits on a repository."""
+    command = [sys.executable, f"{TESTS}/{program}", "--root", root, *names]
     return subprocess.run(command, stdout=subprocess.PIPE, stderr=subprocess.STDOUT, text=True)
 
 
@@ -164,7 +164,7 @@ def main():
     with tempfile.TemporaryDirectory(prefix="edits-test-") as root:
         lay(root)
         lay_edits(root, "edits/gate", GATE)
-        gate = tries(root, "--gate")
+        gate = tries(root, program="gate_edits.py")
         shutil.rmtree(f"{root}/crates/sample/edits")
         lay_edits(root, "edits", EDITS)
         ran, few = tries(root), tries(root, "sample", "adds_two").stdout
