@@ -16,6 +16,8 @@ from concurrent.futures import FIRST_COMPLETED, ThreadPoolExecutor, wait
 ROOT = os.path.dirname(os.path.dirname(os.path.abspath(__file__)))
 # More jobs on one crate than these take more time of the processors and end hardly sooner.
 MOST_JOBS = 4
+# As many lines of code take as long as what is done of a library before its first function.
+FIRST_LINES = 200
 # The niceness of a crate with nothing behind it; those of the longest chain have none.
 NICENESS = 19
 sys.path.insert(0, os.path.dirname(os.path.realpath(shutil.which("rt") or sys.exit("rt isn't there"))))
@@ -23,16 +25,17 @@ import rtlib
 
 
 def lines_of(library):
-    """The lines of its code, definitions and proofs."""
-    count = 0
+    """How long a library takes, in lines of code. Definitions and proofs say less of that."""
+    count = FIRST_LINES
     for file in rtlib.files_of(library.folder):
-        with open(file, "rb") as it:
-            count += it.read().count(b"\n")
+        if file.endswith(".rt"):
+            with open(file, "rb") as it:
+                count += it.read().count(b"\n")
     return count
 
 
 def work_behind(libraries):
-    """The lines of each library and of the longest chain of libraries above it."""
+    """How long each library and the longest chain of libraries above it take."""
     behind = {}
     # Each library is behind those that it uses.
     for it in reversed(libraries):
@@ -95,7 +98,8 @@ def prove(libraries, processors):
             for it in ready[: processors - len(running)]:
                 # All processors are for the longest chain, unless one of its crates has them.
                 is_next = behind[it] == longest and all(jobs < most for _, jobs in running.values())
-                jobs = most if is_next else share
+                # So they are for the last two, beside which the others end soon.
+                jobs = most if is_next or len(left) <= 2 else share
                 niceness = 0 if is_next else NICENESS * (longest - behind[it]) // longest
                 running[pool.submit(build, it, jobs, niceness)] = it, jobs
                 left.remove(it)
