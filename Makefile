@@ -17,7 +17,6 @@ all: bin/prepaid
 
 bin/prepaid: $(SOURCES)
 	JOBS=$(JOBS) tests/prove.py prepaid
-	cd crates/prepaid && rt run --jobs $(JOBS) -- --help > /dev/null
 	mkdir -p bin out/proved
 	rt version > out/proved/prepaid
 	cp crates/prepaid/out/prepaid $@

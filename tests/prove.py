@@ -1,5 +1,7 @@
 #!/usr/bin/env python3
-"""Proves the libraries that a crate uses, several at once: tests/prove.py [CRATE], prepaid where no CRATE is named.
+"""Proves the libraries that a crate uses, several at once, and builds the crate if it is a program: tests/prove.py [CRATE]
+
+The crate is prepaid where none is named, and its program comes into crates/prepaid/out.
 
 `rt` proves the libraries below a crate one after another, and keeps their proofs, which each crate above loads again.
 This gives all processors to the longest chain of crates, what they leave to the other crates, and keeps of a library
@@ -11,6 +13,7 @@ import os
 import shutil
 import sys
 import tempfile
+import threading
 from concurrent.futures import FIRST_COMPLETED, ThreadPoolExecutor, wait
 
 ROOT = os.path.dirname(os.path.dirname(os.path.abspath(__file__)))
@@ -22,6 +25,28 @@ FIRST_LINES = 200
 NICENESS = 19
 sys.path.insert(0, os.path.dirname(os.path.realpath(shutil.which("rt") or sys.exit("rt isn't there"))))
 import rtlib
+
+# The toolchain's own stamp of a library, which reads one below it once for each way that leads there.
+read_stamp = rtlib.Crate.stamp
+# The stamps of the libraries below the one whose stamp is asked for.
+of_this = threading.local()
+
+
+def stamp(library):
+    """The same, with each library read once."""
+    is_asked = not hasattr(of_this, "known")
+    if is_asked:
+        of_this.known = {}
+    try:
+        if library.folder not in of_this.known:
+            of_this.known[library.folder] = read_stamp(library)
+        return of_this.known[library.folder]
+    finally:
+        if is_asked:
+            del of_this.known
+
+
+rtlib.Crate.stamp = stamp
 
 
 def lines_of(library):
@@ -113,20 +138,47 @@ def prove(libraries, processors):
     return len(proved) == len(libraries)
 
 
+def processors():
+    return int(os.environ.get("JOBS") or os.cpu_count())
+
+
 def prove_all(libraries):
     """Proves the libraries while no other command works in them. Whether all are proved."""
     # The first call sets what ends the toolchain's processes, which only the main thread may.
     rtlib.guarded()
     held = rtlib.lock(libraries)
-    is_whole = prove(libraries, int(os.environ.get("JOBS") or os.cpu_count()))
+    is_whole = prove(libraries, processors())
     for it in held:
         os.close(it)
     return is_whole
 
 
+def build_program(crate):
+    """Proves a program over its libraries and builds it, as `rt run` does. The status of the toolchain."""
+    crate, program, stamp = copy.copy(crate), f"out/{crate.name}", crate.stamp()
+    with tempfile.TemporaryFile("w+", errors="replace") as crate.out:
+        status = crate.compile(["--jobs", str(processors())], f"{program}.o")
+        if not status:
+            words = ["--target", "x86_64-unknown-linux-gnu", "--toolchain", f"{rtlib.KIT}/toolchain", "-o", program, f"{program}.o"]
+            archives = [f"{rtlib.KIT}/c/{it}" for it in ("libos_c.a", "liblibc_c.a")]
+            status = crate.call(f"{rtlib.KIT}/bin/rattle-link", *words, *archives)
+        crate.out.seek(0)
+        said = crate.out.read().splitlines()
+    # What was changed meanwhile is built the next time.
+    if not status and stamp == crate.stamp():
+        with open(f"{crate.folder}/{program}.stamp", "w", encoding="utf-8") as it:
+            it.write(stamp + rtlib.sum_of(f"{crate.folder}/{program}"))
+    for line in said if status else [it for it in said if it.startswith("logic=")]:
+        print(f"{crate.name}: {line}", flush=True)
+    return status
+
+
 def main():
     name = sys.argv[1] if sys.argv[1:] else "prepaid"
-    return 0 if prove_all(rtlib.Crate(f"{ROOT}/crates/{name}", ROOT, {}).below()) else 1
+    crate = rtlib.Crate(f"{ROOT}/crates/{name}", ROOT, {})
+    if not prove_all(crate.below()):
+        return 1
+    return build_program(crate) if crate.is_program else 0
 
 
 if __name__ == "__main__":
