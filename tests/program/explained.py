@@ -100,6 +100,12 @@ TARIFFS = [
         "mostly the row of 20:00\n",
     ),
     (
+        "prefix,from,fee,rate\n49,20:00,50,1000\n49,08:00,0,500\n",
+        "tariff row 2: NoMidnightBand\nline 2 of the input: 49,20:00,50,1000\n",
+        "prefix 49 counts from 20:00 and 08:00, and nothing from 00:00: add 49,00:00,.. with what counts at midnight, "
+        "mostly the row of 20:00\n",
+    ),
+    (
         "prefix,from,fee,rate\n49,00:00,20.00,1000\n",
         "tariff row 2: Money\nline 2 of the input: 49,00:00,20.00,1000\n",
         "column fee: 20.00 is no decimal of 1 to 20 digits\n",
