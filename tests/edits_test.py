@@ -164,7 +164,7 @@ def main():
     with tempfile.TemporaryDirectory(prefix="edits-test-") as root:
         lay(root)
         lay_edits(root, "edits/gate", GATE)
-        gate = tries(root, program="gate_edits.py")
+        gate, unknown = (tries(root, *names, program="gate_edits.py") for names in ((), ("sample", "other")))
         shutil.rmtree(f"{root}/crates/sample/edits")
         lay_edits(root, "edits", EDITS)
         ran, few = tries(root), tries(root, "sample", "adds_two").stdout
@@ -175,6 +175,8 @@ def main():
         lost = [name for name, _, _, told in of_folder if f"sample/{name}: {told}" not in tried.stdout]
         if lost or not tried.stdout.endswith(last) or tried.returncode != 1:
             sys.exit(f"{tried.stdout}edits: FAILED: {' '.join(lost) or 'its last lines or its status'}")
+    if unknown.returncode != 2 or not unknown.stdout.endswith("error: the gate has no edits of other\n"):
+        sys.exit(f"{unknown.stdout}edits: FAILED: takes a crate without edits for one with them")
     if "sample/adds_two: refused" not in few or not few.endswith("\n1 refused, 0 not refused\n"):
         sys.exit(f"{few}edits: FAILED: tries more than the edit that it was given")
     if said != STALE:

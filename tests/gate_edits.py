@@ -60,9 +60,12 @@ def main():
     asked.add_argument("names", nargs="*")
     words = asked.parse_args()
     rtlib.guarded()
-    names = [it for it in edits.lists(words.root) if os.path.isdir(f"{words.root}/crates/{it}/edits/gate") and (not words.names or it in words.names)]
+    listed = [it for it in edits.lists(words.root) if os.path.isdir(f"{words.root}/crates/{it}/edits/gate")]
+    unknown = [it for it in words.names if it not in listed]
+    if unknown:
+        asked.error(f"the gate has no edits of {', '.join(unknown)}")
     known = {}
-    crates = [rtlib.Crate(f"{words.root}/crates/{it}", words.root, known) for it in names]
+    crates = [rtlib.Crate(f"{words.root}/crates/{it}", words.root, known) for it in words.names or listed]
     libraries = list(dict.fromkeys(below for it in crates for below in it.below()))
     if not are_proved(libraries):
         return 1
