@@ -1,8 +1,11 @@
 //! What is written of an operation and of a reply, in the columns of the table of books.
 
 ghost use Rattle.std.specs.Prelude.{◌≡◌, ◌++◌, [], OnOk, string_bytes};
+ghost use Rattle.std.specs.Fmt.{decimal};
+ghost use Rattle.account_core.specs.Asked.{Reserves};
 ghost use Rattle.account_core.specs.Entries.{asked_of};
-ghost use Rattle.entry_rows.specs.Columns.{reply_fields, answer_text, in_fourth, opening_columns, operation_of, operation_text, settle_of, steps_columns};
+ghost use Rattle.entry_rows.specs.Columns.{reply_fields, answer_text, in_fourth, no_operation, number_or_empty, opening_columns, operation_of, operation_text, settle_of, steps_columns};
+ghost use Rattle.tariff_core.specs.RatesOf.{rates_of};
 
 use crate::{Field, Version};
 use account_core::{Op, Reply};
@@ -19,9 +22,7 @@ pub fn write_opening(
     ensures { OnOk result (string_bytes text.new ≡ string_bytes text.old
         ++ operation_text (opening_columns version opening until)) }
 {
-    let until = Field(until);
-    write!(text, "opening,,{opening},{until},,,,,,")?;
-    write_no_steps(text, version)
+    write_money(text, version, "opening", opening, until)
 }
 
 /// Adds the columns of an operation, from op to x7, in version 4 to x9, each with a comma behind
@@ -31,32 +32,67 @@ pub fn write_operation(text: &mut String, version: Version, op: Op) -> Result<()
         ++ operation_text (operation_of version (asked_of op))) }
 {
     match op {
-        Op::Credit { amount, until } => {
-            let until = Field(until);
-            write!(text, "credit,,{amount},{until},,,,,,")?;
-            write_no_steps(text, version)
-        }
+        Op::Credit { amount, until } => write_money(text, version, "credit", amount, until),
         Op::Reserve {
             call,
             plan,
             wanted,
             least,
             at,
-        } => {
-            let (fee, before, after) = (plan.fee, plan.before, Field(plan.after));
-            let free = plan.free;
-            write!(
-                text,
-                "reserve,{call},{fee},{before},{after},{wanted},{least},{free},{at},"
-            )?;
-            write_steps(text, version, plan)
-        }
+        } => write_reserve(text, version, call, plan, wanted, least, at),
         Op::Settle { call, number, info } => write_settle(text, version, call, number, info),
         Op::Return { call } => {
             write!(text, "return,{call},,,,,,,,")?;
             write_no_steps(text, version)
         }
     }
+}
+
+/// Adds the columns of an opening or a credit, which have this word.
+fn write_money(
+    text: &mut String,
+    version: Version,
+    word: &str,
+    amount: u64,
+    until: Option<u64>,
+) -> Result<(), AllocError>
+    ensures { OnOk result (string_bytes text.new ≡ string_bytes text.old
+        ++ operation_text (record (no_operation version) {
+          op = word.now;
+          x1 = decimal amount;
+          x2 = number_or_empty until;
+        })) }
+{
+    let until = Field(until);
+    write!(text, "{word},,{amount},{until},,,,,,")?;
+    write_no_steps(text, version)
+}
+
+/// Adds the columns of a reserve.
+fn write_reserve(
+    text: &mut String,
+    version: Version,
+    call: u64,
+    plan: Plan,
+    wanted: u32,
+    least: u32,
+    at: u64,
+) -> Result<(), AllocError>
+    ensures { OnOk result (string_bytes text.new ≡ string_bytes text.old ++ operation_text
+        (operation_of version (Reserves call (rates_of plan) wanted least at))) }
+{
+    let Plan {
+        fee,
+        before,
+        free,
+        ..
+    } = plan;
+    let after = Field(plan.after);
+    write!(
+        text,
+        "reserve,{call},{fee},{before},{after},{wanted},{least},{free},{at},"
+    )?;
+    write_steps(text, version, plan)
 }
 
 /// Adds x8 and x9 of a reserve, where the version has them.
@@ -95,13 +131,12 @@ fn write_settle(
     ensures { OnOk result (string_bytes text.new ≡ string_bytes text.old
         ++ operation_text (settle_of version call number info)) }
 {
-    match info {
-        TimeInfo::NoSwitch { t } => write!(text, "settle,{call},{number},n,{t},,,,,")?,
-        TimeInfo::Switch { since, interval } => {
-            let interval = Field::short(interval);
-            write!(text, "settle,{call},{number},s,{since},{interval},,,,")?;
-        }
-    }
+    let (word, time, interval) = match info {
+        TimeInfo::NoSwitch { t } => ("n", t, None),
+        TimeInfo::Switch { since, interval } => ("s", since, interval),
+    };
+    let interval = Field::short(interval);
+    write!(text, "settle,{call},{number},{word},{time},{interval},,,,")?;
     write_no_steps(text, version)
 }
 
@@ -111,22 +146,45 @@ pub fn write_answer(text: &mut String, reply: Reply) -> Result<(), AllocError>
         ++ answer_text (reply_fields reply)) }
 {
     match reply {
-        Reply::Credited { available } => writeln!(text, "credited,,,{available}"),
-        Reply::CreditOver { available } => writeln!(text, "over,,,{available}"),
+        Reply::Credited { available } => write_reply_columns(text, "credited", None, "", available),
+        Reply::CreditOver { available } => write_reply_columns(text, "over", None, "", available),
         Reply::Granted {
             units,
             last,
             available,
         } => {
-            if last {
-                writeln!(text, "granted,{units},last,{available}")
-            } else {
-                writeln!(text, "granted,{units},more,{available}")
-            }
+            let more = if last { "last" } else { "more" };
+            write_reply_columns(text, "granted", Some(u64::from(units)), more, available)
         }
-        Reply::Denied { available } => writeln!(text, "denied,,,{available}"),
-        Reply::Settled { paid, available } => writeln!(text, "settled,{paid},,{available}"),
-        Reply::Forfeit { paid, available } => writeln!(text, "forfeit,{paid},,{available}"),
-        Reply::Returned { paid, available } => writeln!(text, "returned,{paid},,{available}"),
+        Reply::Denied { available } => write_reply_columns(text, "denied", None, "", available),
+        Reply::Settled { paid, available } => {
+            write_reply_columns(text, "settled", Some(paid), "", available)
+        }
+        Reply::Forfeit { paid, available } => {
+            write_reply_columns(text, "forfeit", Some(paid), "", available)
+        }
+        Reply::Returned { paid, available } => {
+            write_reply_columns(text, "returned", Some(paid), "", available)
+        }
     }
+}
+
+/// Adds the columns of a reply by what they say, and the end of the line.
+fn write_reply_columns(
+    text: &mut String,
+    word: &str,
+    y1: Option<u64>,
+    y2: &str,
+    available: u64,
+) -> Result<(), AllocError>
+    ensures { OnOk result (string_bytes text.new ≡ string_bytes text.old
+        ++ answer_text (record {
+          reply = word.now;
+          y1 = number_or_empty y1;
+          y2 = y2.now;
+          y3 = decimal available;
+        })) }
+{
+    let y1 = Field(y1);
+    writeln!(text, "{word},{y1},{y2},{available}")
 }

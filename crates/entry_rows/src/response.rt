@@ -2,7 +2,7 @@
 
 ghost use Rattle.std.specs.Prelude.{◌≡◌, ◌++◌, OnOk, string_bytes};
 ghost use Rattle.account_core.specs.Entries.{asked_of};
-ghost use Rattle.entry_rows.specs.Responses.{granted_text, reply_text, response_text, operation_word};
+ghost use Rattle.entry_rows.specs.Responses.{available_text, granted_text, paid_text, reply_text, response_text, operation_word};
 
 use account_core::{AccountFault, Op, Reply};
 use std::alloc::AllocError;
@@ -39,24 +39,34 @@ pub fn write_reply(text: &mut String, reply: Reply) -> Result<(), AllocError>
     ensures { OnOk result (string_bytes text.new ≡ string_bytes text.old ++ reply_text reply) }
 {
     match reply {
-        Reply::Credited { available } => write!(text, "credited available {available}"),
-        Reply::CreditOver { available } => write!(text, "over available {available}"),
+        Reply::Credited { available } => write_available(text, "credited", available),
+        Reply::CreditOver { available } => write_available(text, "over", available),
         Reply::Granted {
             units,
             last,
             available,
         } => write_granted(text, units, last, available),
-        Reply::Denied { available } => write!(text, "denied available {available}"),
-        Reply::Settled { paid, available } => {
-            write!(text, "settled paid {paid} available {available}")
-        }
-        Reply::Forfeit { paid, available } => {
-            write!(text, "forfeit paid {paid} available {available}")
-        }
-        Reply::Returned { paid, available } => {
-            write!(text, "returned paid {paid} available {available}")
-        }
+        Reply::Denied { available } => write_available(text, "denied", available),
+        Reply::Settled { paid, available } => write_paid(text, "settled", paid, available),
+        Reply::Forfeit { paid, available } => write_paid(text, "forfeit", paid, available),
+        Reply::Returned { paid, available } => write_paid(text, "returned", paid, available),
     }
+}
+
+/// Adds the word of a reply, and what is available.
+fn write_available(text: &mut String, word: &str, available: u64) -> Result<(), AllocError>
+    ensures { OnOk result (string_bytes text.new
+        ≡ string_bytes text.old ++ (word.now ++ available_text available)) }
+{
+    write!(text, "{word} available {available}")
+}
+
+/// Adds the word of a reply, what was paid, and what is available.
+fn write_paid(text: &mut String, word: &str, paid: u64, available: u64) -> Result<(), AllocError>
+    ensures { OnOk result (string_bytes text.new
+        ≡ string_bytes text.old ++ (word.now ++ paid_text paid available)) }
+{
+    write!(text, "{word} paid {paid} available {available}")
 }
 
 /// Adds what was granted.

@@ -1,6 +1,7 @@
 //! The words of operations and of replies, each matched once a row.
 
 ghost use Rattle.std.specs.Prelude.{◌≡◌, ◌+◌, ◌<◌, ◌≤◌, length};
+ghost use Rattle.std.specs.Str.{bytes_eq};
 ghost use Rattle.csv.specs.Records.{fields_of};
 ghost use Rattle.table_core.specs.Fields.{field_in};
 ghost use Rattle.entry_rows.specs.Columns.{answer_at, first_operation_at};
@@ -54,13 +55,13 @@ pub fn read_op_word(row: &ByteRecord, at: usize) -> Result<OpWord, RowKind>
     ensures { result ≡ op_word_in (first_operation_at (fields_of row.now) at) }
 {
     let word = field(row, at);
-    if word == "credit".as_bytes() {
+    if is(word, "credit") {
         Ok(OpWord::Credit)
-    } else if word == "reserve".as_bytes() {
+    } else if is(word, "reserve") {
         Ok(OpWord::Reserve)
-    } else if word == "settle".as_bytes() {
+    } else if is(word, "settle") {
         read_report_word(row, at + X2)
-    } else if word == "return".as_bytes() {
+    } else if is(word, "return") {
         Ok(OpWord::Return)
     } else {
         Err(RowKind::What)
@@ -72,9 +73,9 @@ fn read_report_word(row: &ByteRecord, place: usize) -> Result<OpWord, RowKind>
     ensures { result ≡ report_word_in (field_in (fields_of row.now) place) }
 {
     let word = field(row, place);
-    if word == "n".as_bytes() {
+    if is(word, "n") {
         Ok(OpWord::SettleNoSwitch)
-    } else if word == "s".as_bytes() {
+    } else if is(word, "s") {
         Ok(OpWord::SettleSwitch)
     } else {
         Err(RowKind::What)
@@ -88,19 +89,19 @@ pub fn read_reply_word(row: &ByteRecord, at: usize) -> Result<ReplyWord, RowKind
     ensures { result ≡ reply_word_in (answer_at (fields_of row.now) at) }
 {
     let word = field(row, at);
-    if word == "granted".as_bytes() {
+    if is(word, "granted") {
         read_granted_word(row, at + Y2)
-    } else if word == "settled".as_bytes() {
+    } else if is(word, "settled") {
         Ok(ReplyWord::Settled)
-    } else if word == "returned".as_bytes() {
+    } else if is(word, "returned") {
         Ok(ReplyWord::Returned)
-    } else if word == "credited".as_bytes() {
+    } else if is(word, "credited") {
         Ok(ReplyWord::Credited)
-    } else if word == "over".as_bytes() {
+    } else if is(word, "over") {
         Ok(ReplyWord::CreditOver)
-    } else if word == "denied".as_bytes() {
+    } else if is(word, "denied") {
         Ok(ReplyWord::Denied)
-    } else if word == "forfeit".as_bytes() {
+    } else if is(word, "forfeit") {
         Ok(ReplyWord::Forfeit)
     } else {
         Err(RowKind::What)
@@ -112,11 +113,18 @@ fn read_granted_word(row: &ByteRecord, place: usize) -> Result<ReplyWord, RowKin
     ensures { result ≡ granted_word_in (field_in (fields_of row.now) place) }
 {
     let word = field(row, place);
-    if word == "more".as_bytes() {
+    if is(word, "more") {
         Ok(ReplyWord::GrantedMore)
-    } else if word == "last".as_bytes() {
+    } else if is(word, "last") {
         Ok(ReplyWord::GrantedLast)
     } else {
         Err(RowKind::What)
     }
+}
+
+/// Whether a field is this word, byte for byte.
+fn is(field: &[u8], word: &str) -> bool
+    ensures { result ≡ bytes_eq field.now word.now }
+{
+    field == word.as_bytes()
 }
