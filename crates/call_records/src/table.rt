@@ -1,6 +1,6 @@
 //! The table of calls.
 
-ghost use Rattle.std.specs.Prelude.{◌≡◌, ◌++◌, [], IfOk, OnOk, string_bytes, unwrap_or};
+ghost use Rattle.std.specs.Prelude.{◌≡◌, ◌++◌, [], IfOk, OnOk, codes, string_bytes, unwrap_or};
 ghost use Rattle.call_records.specs.Records.{prefix_of};
 ghost use Rattle.call_records.specs.Tables.{call_text, moments_text, record_row, outcome_word};
 ghost use Rattle.table_core.specs.Decimals.{digits_text};
@@ -36,10 +36,7 @@ fn write_record(text: &mut String, clock: Clock, call: &CallRecord) -> Result<()
     let (calling, called) = (call.calling, call.called);
     write!(text, "{number},{calling},{called},{account},")?;
     write_prefix(text, call)?;
-    write!(text, ",")?;
-    write_moments(text, clock, call)?;
-    let word = word(call.outcome);
-    writeln!(text, "{word}")
+    write_outcome(text, clock, call)
 }
 
 /// Adds the digits of the prefix of a call, if it has one.
@@ -53,10 +50,11 @@ fn write_prefix(text: &mut String, call: &CallRecord) -> Result<(), AllocError>
     }
 }
 
-/// Adds the moments of a call, its times and what it has paid, each with a comma behind it.
-fn write_moments(text: &mut String, clock: Clock, call: &CallRecord) -> Result<(), AllocError>
-    ensures { OnOk result (string_bytes text.new
-        ≡ string_bytes text.old ++ moments_text clock call.now) }
+/// Adds the moments of a call, its times, what it has paid and what became of it, each behind a
+/// comma, and the end of the line.
+fn write_outcome(text: &mut String, clock: Clock, call: &CallRecord) -> Result<(), AllocError>
+    ensures { OnOk result (string_bytes text.new ≡ string_bytes text.old ++ (codes ","
+        ++ (moments_text clock call.now ++ (outcome_word call.now.outcome ++ codes "\n")))) }
 {
     let start = MomentField(clock, Some(call.start));
     let (answer, end) = (
@@ -64,7 +62,11 @@ fn write_moments(text: &mut String, clock: Clock, call: &CallRecord) -> Result<(
         MomentField(clock, call.end),
     );
     let (before, after, paid) = (call.times.before(), call.times.after(), call.paid);
-    write!(text, "{start},{answer},{end},{before},{after},{paid},")
+    let word = word(call.outcome);
+    writeln!(
+        text,
+        ",{start},{answer},{end},{before},{after},{paid},{word}"
+    )
 }
 
 /// The word for what became of a call.
