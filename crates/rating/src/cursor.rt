@@ -10,7 +10,7 @@ use crate::call::MAX_SHOWN;
 use memchr::{memchr, memrchr};
 
 /// Where a table is within a row.
-#[derive(Clone, Copy, PartialEq, Eq)]
+#[derive(Clone, Copy)]
 pub(crate) enum Within {
     /// At the start of a field, where a quote opens it.
     StartField,

@@ -144,8 +144,8 @@ impl Rater<'_> {
 /// printed of the header.
 fn rate_rows<I: Read + Drop, O: Write>(
     rater: &Rater<'_>,
-    rows: Rows<I>,
-    text: Vec<u8>,
+    mut rows: Rows<I>,
+    mut text: Vec<u8>,
     output: &mut O,
 ) -> Result<Score, RateFault>
     requires { HasAllColumns rater.now.width rater.now.columns }
@@ -162,7 +162,6 @@ fn rate_rows<I: Read + Drop, O: Write>(
     ensures stopped { IfErr result MayStop }
     ensures bounded { IfOk result IsBoundedScore }
 {
-    let (mut rows, mut text) = (rows, text);
     let mut score = Score::new();
     for _turn in 0..u64::MAX {
         let found = match rows.next_row() {
