@@ -1,7 +1,7 @@
 //! Fields that must be empty and aren't.
 
 use crate::Slip;
-use crate::found_rows::{field_at, shown_at};
+use crate::found_rows::{field_at, has_word, is_word, shown_at};
 use crate::row_line::Shown;
 use csv::ByteRecord;
 use std::alloc::AllocError;
@@ -31,7 +31,7 @@ fn word_for(slip: Slip, row: &ByteRecord, place: usize) -> &[u8] {
         Slip::Ops(_) => field_at(row, 1),
         Slip::Book(_) => {
             let reply = row.len().saturating_sub(4);
-            if place < reply || field_at(row, 2) == b"opening".as_slice() {
+            if place < reply || has_word(row, 2, "opening") {
                 field_at(row, 2)
             } else {
                 field_at(row, reply)
@@ -54,11 +54,11 @@ fn takes_nothing(slip: Slip, row: &ByteRecord, place: usize) -> bool {
 
 /// The same of a script.
 fn script_takes_nothing(what: &[u8], place: usize) -> bool {
-    if what == b"start".as_slice() {
+    if is_word(what, "start") {
         place == 5
-    } else if what == b"disconnect".as_slice() {
+    } else if is_word(what, "disconnect") {
         place > 3
-    } else if what == b"recharge".as_slice() {
+    } else if is_word(what, "recharge") {
         place == 1
     } else {
         place > 2
@@ -70,16 +70,16 @@ fn operation_takes_nothing(row: &ByteRecord, op: usize, end: usize, place: usize
     let word = field_at(row, op);
     let column = place.saturating_sub(op);
     let has_moments = end.saturating_sub(op) > 8;
-    if word == b"reserve".as_slice() || column == 0 {
+    if is_word(word, "reserve") || column == 0 {
         false
-    } else if word == b"settle".as_slice() {
-        let last = if field_at(row, op.saturating_add(3)) == b"s".as_slice() {
+    } else if is_word(word, "settle") {
+        let last = if has_word(row, op.saturating_add(3), "s") {
             5
         } else {
             4
         };
         column > last
-    } else if word == b"return".as_slice() {
+    } else if is_word(word, "return") {
         column > 1
     } else {
         column == 1 || column > 3 || column == 3 && !has_moments
@@ -89,7 +89,7 @@ fn operation_takes_nothing(row: &ByteRecord, op: usize, end: usize, place: usize
 /// The same of a book.
 fn book_takes_nothing(row: &ByteRecord, place: usize) -> bool {
     let reply = row.len().saturating_sub(4);
-    let is_opening = field_at(row, 2) == b"opening".as_slice();
+    let is_opening = has_word(row, 2, "opening");
     if place < 2 {
         return is_opening && place == 1;
     }
@@ -101,7 +101,7 @@ fn book_takes_nothing(row: &ByteRecord, place: usize) -> bool {
     }
     let word = field_at(row, reply);
     let column = place - reply;
-    if word == b"granted".as_slice() || column == 0 || column == 3 {
+    if is_word(word, "granted") || column == 0 || column == 3 {
         false
     } else if is_money(word) {
         true
@@ -112,5 +112,5 @@ fn book_takes_nothing(row: &ByteRecord, place: usize) -> bool {
 
 /// Whether a reply says nothing but what is available.
 pub(crate) fn is_money(word: &[u8]) -> bool {
-    word == b"credited".as_slice() || word == b"over".as_slice() || word == b"denied".as_slice()
+    is_word(word, "credited") || is_word(word, "over") || is_word(word, "denied")
 }

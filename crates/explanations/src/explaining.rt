@@ -5,7 +5,7 @@ ghost use Rattle.explanations.specs.Slips.{Explains, IsLineOf};
 
 use crate::Slip;
 use crate::open_quote::open_quote;
-use crate::reasons::{Faulty, reason};
+use crate::reasons::{Faulty, push_reason};
 use crate::row_line::push_row_line;
 use crate::sections::find_section;
 use crate::starts::row_start;
@@ -42,14 +42,13 @@ fn line_of(alloc: Global, before: &[u8], table: &[u8], row: u32) -> Result<Strin
 /// What is wrong with a row of a table, and where a quote is open in it.
 fn more_of(alloc: Global, before: &[u8], table: &[u8], slip: Slip) -> Result<String, AllocError> {
     let row = slip.row();
-    let mut text = reason(
-        alloc,
-        Faulty {
-            text: table,
-            slip,
-            row,
-        },
-    )?;
+    let faulty = Faulty {
+        text: table,
+        slip,
+        row,
+    };
+    let mut text = String::new(alloc);
+    push_reason(&mut text, alloc, faulty)?;
     if let Some(start) = row_start(table, row) {
         if let Some(line) = open_quote(before, table, start) {
             writeln!(text, "a quote is open since line {line}")?;

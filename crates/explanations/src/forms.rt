@@ -2,7 +2,7 @@
 
 use crate::Slip;
 use crate::empties::is_money;
-use crate::found_rows::field_at;
+use crate::found_rows::{field_at, has_word, is_word};
 use crate::wants::{Column, Wants, first_refused};
 use csv::ByteRecord;
 use tariff_core::{DAY, HORIZON, MAX_MOMENT, MAX_MONEY, MAX_RATE};
@@ -61,11 +61,11 @@ pub(crate) fn refused_in_script(row: &ByteRecord) -> Option<Column> {
 
 /// The columns of a row of a script with this word, as the reader judges them.
 fn columns_of_script(what: &[u8]) -> &'static [(usize, Wants)] {
-    if what == b"start".as_slice() {
+    if is_word(what, "start") {
         &[(0, MOMENT), (1, CALL), (3, PARTY), (4, PARTY)]
-    } else if what == b"disconnect".as_slice() {
+    } else if is_word(what, "disconnect") {
         &[(0, MOMENT), (1, CALL), (3, Wants::Number(1, 2))]
-    } else if what == b"recharge".as_slice() {
+    } else if is_word(what, "recharge") {
         &[(0, MOMENT), (3, ACCOUNT), (4, MONEY), (5, UNTIL_MOMENT)]
     } else {
         &[(0, MOMENT), (1, CALL)]
@@ -74,7 +74,7 @@ fn columns_of_script(what: &[u8]) -> &'static [(usize, Wants)] {
 
 /// The column of a row of a setup whose field the reader refuses.
 pub(crate) fn refused_in_setup(row: &ByteRecord) -> Option<Column> {
-    let columns: &[(usize, Wants)] = if field_at(row, 0) == b"account".as_slice() {
+    let columns: &[(usize, Wants)] = if has_word(row, 0, "account") {
         &[(1, ACCOUNT), (2, MONEY), (3, UNTIL_MOMENT)]
     } else {
         &[(1, PARTY), (2, ACCOUNT)]
@@ -96,7 +96,7 @@ pub(crate) fn refused_in_ops(row: &ByteRecord) -> Option<Column> {
 /// The column of a row of a book whose field the reader refuses.
 pub(crate) fn refused_in_book(row: &ByteRecord) -> Option<Column> {
     let reply = row.len().saturating_sub(4);
-    if field_at(row, OP_OF_BOOK) == b"opening".as_slice() {
+    if has_word(row, OP_OF_BOOK, "opening") {
         return first_refused(row, 0, reply, &[(0, ACCOUNT), (4, MONEY), (5, UNTIL)]);
     }
     first_refused(row, 0, reply, &[(0, ACCOUNT), (1, SEAT)])
@@ -107,7 +107,7 @@ pub(crate) fn refused_in_book(row: &ByteRecord) -> Option<Column> {
 /// The column of an operation whose field the reader refuses, its columns from one place on to
 /// before another.
 fn refused_operation(row: &ByteRecord, op: usize, end: usize) -> Option<Column> {
-    let has_before = field_at(row, op.saturating_add(3)) == b"s".as_slice();
+    let has_before = has_word(row, op.saturating_add(3), "s");
     first_refused(
         row,
         op,
@@ -118,11 +118,11 @@ fn refused_operation(row: &ByteRecord, op: usize, end: usize) -> Option<Column> 
 
 /// The columns of an operation with this word, counted from it on, as the reader judges them.
 fn columns_of_operation(word: &[u8], has_before: bool) -> &'static [(usize, Wants)] {
-    if word == b"credit".as_slice() {
+    if is_word(word, "credit") {
         &[(2, MONEY), (3, UNTIL)]
-    } else if word == b"reserve".as_slice() {
+    } else if is_word(word, "reserve") {
         RESERVE
-    } else if word != b"settle".as_slice() {
+    } else if !is_word(word, "settle") {
         &[(1, CALL)]
     } else if has_before {
         &[
@@ -162,7 +162,7 @@ fn refused_reply(row: &ByteRecord, reply: usize) -> Option<Column> {
 
 /// The columns of a reply with this word, counted from it on, as the reader judges them.
 fn columns_of_reply(word: &[u8]) -> &'static [(usize, Wants)] {
-    if word == b"granted".as_slice() {
+    if is_word(word, "granted") {
         &[(1, TIME), (3, MONEY)]
     } else if is_money(word) {
         &[(3, MONEY)]

@@ -32,6 +32,16 @@ pub(crate) fn field_at(row: &ByteRecord, place: usize) -> &[u8] {
     }
 }
 
+/// Whether a field is this word.
+pub(crate) fn is_word(field: &[u8], word: &str) -> bool {
+    field == word.as_bytes()
+}
+
+/// Whether the field of a row at a place is this word.
+pub(crate) fn has_word(row: &ByteRecord, place: usize, word: &str) -> bool {
+    is_word(field_at(row, place), word)
+}
+
 /// The field of a row at a place, as it is shown.
 pub(crate) fn shown_at(row: &ByteRecord, place: usize) -> Shown<'_> {
     Shown(field_at(row, place))

@@ -62,10 +62,10 @@ pub(crate) fn push_no_midnight(
 /// Adds what is missing of a prefix, whose latest start is known.
 fn push_missing(text: &mut String, latest: &str, row: &ByteRecord) -> Result<(), AllocError> {
     if latest.is_empty() {
-        return writeln!(text);
+        return text.push('\n');
     }
     if row.len() > 7 {
-        return writeln!(text, ", and not from 00:00 on each day of the week");
+        return text.push_str(", and not from 00:00 on each day of the week\n");
     }
     let prefix = shown_at(row, 0);
     writeln!(

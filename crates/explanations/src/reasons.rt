@@ -27,30 +27,17 @@ pub(crate) struct Faulty<'a> {
     pub row: u32,
 }
 
-/// The lines that say what is wrong with a row.
-pub(crate) fn reason(alloc: Global, table: Faulty<'_>) -> Result<String, AllocError> {
-    let mut text = String::new(alloc);
-    push_reason(&mut text, alloc, table)?;
-    Ok(text)
-}
-
-/// Adds what is wrong with a row.
-fn push_reason(text: &mut String, alloc: Global, table: Faulty<'_>) -> Result<(), AllocError> {
-    match rows_at(alloc, table.text, 1)? {
-        Some(header) => push_found_reason(text, alloc, table, header.row()),
-        None => push_header(text, table.slip, None),
-    }
-}
-
-/// Adds what is wrong with a row of a table that has this header.
-fn push_found_reason(
+/// Adds the lines that say what is wrong with a row.
+pub(crate) fn push_reason(
     text: &mut String,
     alloc: Global,
     table: Faulty<'_>,
-    names: &ByteRecord,
 ) -> Result<(), AllocError> {
+    let Some(header) = rows_at(alloc, table.text, 1)? else {
+        return push_header(text, table.slip, None);
+    };
     match rows_at(alloc, table.text, table.row)? {
-        Some(found) => push_any_reason(text, alloc, table, names, found.row()),
+        Some(found) => push_any_reason(text, alloc, table, header.row(), found.row()),
         None => Ok(()),
     }
 }
@@ -171,7 +158,7 @@ fn push_csv(text: &mut String, names: &ByteRecord, row: &ByteRecord) -> Result<(
     let fields = if found == 1 { "field" } else { "fields" };
     write!(text, "{found} {fields}, and the header has {wanted}: ")?;
     push_fields(text, names)?;
-    writeln!(text)
+    text.push('\n')
 }
 
 /// Adds the fields of a row, with commas between them.
@@ -198,9 +185,9 @@ fn push_header(
     write!(text, "wanted: {wanted}\nfound: ")?;
     push_fields(text, row)?;
     if row.len() == 1 && is_separated(field_at(row, 0)) {
-        writeln!(text, "\nthe separator is a comma")
+        text.push_str("\nthe separator is a comma\n")
     } else {
-        writeln!(text)
+        text.push('\n')
     }
 }
 

@@ -2,7 +2,7 @@
 
 use crate::Slip;
 use crate::forms::SCRIPT_WORDS;
-use crate::found_rows::{field_at, shown_at};
+use crate::found_rows::{field_at, has_word, is_word, shown_at};
 use csv::ByteRecord;
 use std::alloc::AllocError;
 
@@ -38,7 +38,7 @@ fn push_operation_word(
     op: usize,
     words: &[&str],
 ) -> Result<(), AllocError> {
-    if field_at(row, op) == b"settle".as_slice() {
+    if has_word(row, op, "settle") {
         push_word(text, names, row, op.saturating_add(3), &["n", "s"])
     } else {
         push_word(text, names, row, op, words)
@@ -52,7 +52,7 @@ fn push_book_word(
     row: &ByteRecord,
 ) -> Result<(), AllocError> {
     let reply = row.len().saturating_sub(4);
-    let is_settle = field_at(row, 2) == b"settle".as_slice();
+    let is_settle = has_word(row, 2, "settle");
     let is_report = is_one_of(field_at(row, 5), &["n", "s"]);
     if !is_one_of(field_at(row, 2), BOOK_OPERATIONS) || is_settle && !is_report {
         push_operation_word(text, names, row, 2, BOOK_OPERATIONS)
@@ -66,7 +66,7 @@ fn push_book_word(
 /// Whether a field is one of these words.
 fn is_one_of(field: &[u8], words: &[&str]) -> bool {
     for word in words {
-        if field == word.as_bytes() {
+        if is_word(field, word) {
             return true;
         }
     }
@@ -87,7 +87,7 @@ fn push_word(
     push_words(text, words)?;
     match nearest(field_at(row, place), words) {
         Some(word) => writeln!(text, "\nthe nearest is {word}"),
-        None => writeln!(text),
+        None => text.push('\n'),
     }
 }
 

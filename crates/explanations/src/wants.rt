@@ -91,7 +91,7 @@ pub(crate) fn push_refusal(
         write!(text, "column {column}: {found} is ")?;
     }
     push_wanted(text, field, wants)?;
-    writeln!(text)
+    text.push('\n')
 }
 
 /// Adds what is wanted in place of a field.
@@ -104,23 +104,19 @@ fn push_wanted(text: &mut String, field: &[u8], wants: Wants) -> Result<(), Allo
             if is_decimal(field) {
                 write!(text, "above {most}")
             } else {
-                let wanted = "no moment: a decimal, or a date and a time like 1970-01-01T18:00:08";
-                write!(text, "{wanted}")
+                text.push_str("no moment: a decimal, or a date and a time like 1970-01-01T18:00:08")
             }
         }
         Wants::Digits(least, most) => write!(text, "no {least} to {most} digits"),
-        Wants::TimeOfDay => write!(text, "no time of day from 00:00 to 23:59"),
-        Wants::Days => write!(
-            text,
-            "no days: digits from 1 to 7 in their order, each once"
-        ),
+        Wants::TimeOfDay => text.push_str("no time of day from 00:00 to 23:59"),
+        Wants::Days => text.push_str("no days: digits from 1 to 7 in their order, each once"),
     }
 }
 
 /// Adds what is wrong with a number.
 fn push_range(text: &mut String, field: &[u8], least: u64, most: u64) -> Result<(), AllocError> {
     if !is_decimal(field) {
-        write!(text, "no decimal of 1 to 20 digits")
+        text.push_str("no decimal of 1 to 20 digits")
     } else if decimal(field, most).is_some() {
         write!(text, "below {least}")
     } else {
