@@ -92,10 +92,7 @@ fn said_of_words<S: AsStr>(alloc: Global, words: &[S]) -> Option<String> {
 fn full_lines(alloc: Global, said: &str) -> Result<String, AllocError> {
     let mut text = String::new(alloc);
     if said.is_empty() {
-        writeln!(
-            text,
-            "an option has a value that it doesn't take: see prepaid help COMMAND"
-        )?;
+        text.push_str("an option has a value that it doesn't take: see prepaid help COMMAND\n")?;
     }
     for line in said.split('\n') {
         if !line.is_empty() {

@@ -39,15 +39,15 @@ impl fmt::Display for TableName {
     ghost output = { λ name. Some (text_of_table_name name) };
 
     fn fmt<W: fmt::Write>(&self, f: &mut fmt::Formatter<W>) -> fmt::Result {
-        match self {
-            TableName::Reports => f.write_str("reports"),
-            TableName::Ops => f.write_str("ops"),
-            TableName::Setup => f.write_str("setup"),
-            TableName::Script => f.write_str("script"),
-            TableName::Book => f.write_str("book"),
-            TableName::Records => f.write_str("records"),
-            TableName::Messages => f.write_str("messages"),
-        }
+        f.write_str(match self {
+            TableName::Reports => "reports",
+            TableName::Ops => "ops",
+            TableName::Setup => "setup",
+            TableName::Script => "script",
+            TableName::Book => "book",
+            TableName::Records => "records",
+            TableName::Messages => "messages",
+        })
     }
 }
 

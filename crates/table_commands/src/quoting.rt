@@ -24,7 +24,7 @@ pub(crate) fn print_quote(
 {
     let mut text = String::new(alloc);
     let Some(quote) = tariff.quote(ask.called.as_bytes(), ask.at) else {
-        writeln!(text, "no route")?;
+        text.push_str("no route\n")?;
         return Ok(text);
     };
     write_quote(&mut text, ask, &quote)?;
@@ -86,7 +86,7 @@ fn write_band(text: &mut String, prefix: &[u8], start: u32, plan: &Plan) -> Resu
     ensures { OnOk result (string_bytes text.new ≡ string_bytes text.old
         ++ band_line prefix.now start (rates_of plan.now)) }
 {
-    write!(text, "prefix ")?;
+    text.push_str("prefix ")?;
     write_prefix(text, prefix)?;
     let start = TimeOfDay(start);
     let Plan {
@@ -105,7 +105,7 @@ fn write_steps(text: &mut String, plan: &Plan) -> Result<(), AllocError>
         ++ (steps_text (rates_of plan.now) ++ codes "\n")) }
 {
     if !plan.has_steps() {
-        return writeln!(text);
+        return text.push('\n');
     }
     let Plan { first, step, .. } = plan;
     writeln!(text, " first {first} step {step}")
@@ -117,7 +117,7 @@ fn write_prefix(text: &mut String, prefix: &[u8]) -> Result<(), AllocError>
         ++ prefix_text prefix.now) }
 {
     if prefix.is_empty() {
-        return write!(text, "-");
+        return text.push('-');
     }
     write_digits(text, prefix)
 }
