@@ -48,21 +48,19 @@ fn push_rising(
     options: &ArgMatches<'_>,
     times: &[(&'static str, u32)],
 ) -> Result<(), AllocError> {
-    let mut below: Option<(&'static str, u32)> = None;
-    for (name, time) in times {
-        let is_low = match below {
-            None => *time < 1,
-            Some((_, least)) => *time < least,
-        };
-        if is_low {
-            return push_low(text, options, below, (*name, *time));
+    let mut below = None;
+    let mut least = 1;
+    for &time in times {
+        if time.1 < least {
+            return push_low(text, options, below, time);
         }
-        below = Some((*name, *time));
+        below = Some(time);
+        least = time.1;
     }
     match below {
-        Some(last) if last.1 > DAY => {
-            push_time(text, options, last)?;
-            writeln!(text, " is above {DAY}")
+        Some(last) if least > DAY => {
+            push_time(text, options, last, " is above ")?;
+            writeln!(text, "{DAY}")
         }
         _ => Ok(()),
     }
@@ -76,28 +74,25 @@ fn push_low(
     time: (&'static str, u32),
 ) -> Result<(), AllocError> {
     match before {
-        None => {
-            push_time(text, options, time)?;
-            writeln!(text, " is below 1")
-        }
+        None => push_time(text, options, time, " is below 1\n"),
         Some(before) => {
-            push_time(text, options, before)?;
-            text.push_str(" is above ")?;
-            push_time(text, options, time)?;
-            text.push('\n')
+            push_time(text, options, before, " is above ")?;
+            push_time(text, options, time, "\n")
         }
     }
 }
 
-/// Adds the name of a time, and what its option says, or what it is where that is left out.
+/// Adds the name of a time, and what its option says, or what it is where that is left out; `end`
+/// is behind it.
 fn push_time(
     text: &mut String,
     options: &ArgMatches<'_>,
     time: (&'static str, u32),
+    end: &str,
 ) -> Result<(), AllocError> {
     let (name, units) = time;
     match option_text(options, name) {
-        Some(said) => write!(text, "{name} {said}"),
-        None => write!(text, "{name} {units}"),
+        Some(said) => write!(text, "{name} {said}{end}"),
+        None => write!(text, "{name} {units}{end}"),
     }
 }
