@@ -17,7 +17,7 @@ use account_core::MAX_LIMIT;
 use book_texts::{book_table, run_lines};
 use call_records::{call_table, records};
 use live_answers::{Answered, LiveFault, Replay, answer_live};
-use live_log::{OpenLog, Skipping, log_head, open_log};
+use live_log::{LogFault, OpenLog, Skipping, log_head, open_log};
 use moment_texts::Clock;
 use rating::write_text;
 use run_options::{LiveOptions, LiveOutput, LogAsk};
@@ -59,8 +59,8 @@ pub fn serve_input<R: Wait + Threads + Sync + Files<File = File>, I: BufRead + D
 {
     let mut input = Recording::new(alloc, input);
     let Head { tariff, directory } = read_head(alloc, &mut input)?;
-    let (input, head) = input.into_parts();
     let setup = RunSetup::of(alloc, directory, tariff, options.service, MAX_LIMIT)?;
+    let (input, head) = input.into_parts();
     let Some(log) = log else {
         let rows = Rows {
             input,
@@ -69,8 +69,7 @@ pub fn serve_input<R: Wait + Threads + Sync + Files<File = File>, I: BufRead + D
         };
         return serve_rows(rt, alloc, options.output, &setup, rows, output);
     };
-    let head = log_head(alloc, options.service, head.as_slice())?;
-    let OpenLog { file, lines } = open_log(rt, alloc, log.path, head.as_slice())?;
+    let OpenLog { file, lines } = open_log_of(rt, alloc, options, log.path, head.as_slice())?;
     let lines = lines.as_slice();
     let rows = Rows {
         input: lines.chain(input),
@@ -78,6 +77,20 @@ pub fn serve_input<R: Wait + Threads + Sync + Files<File = File>, I: BufRead + D
         replay: replay_of(alloc, lines, log.again)?,
     };
     serve_rows(rt, alloc, options.output, &setup, rows, output)
+}
+
+/// Opens the log of an input that begins with these bytes.
+fn open_log_of<R: Files<File = File>>(
+    rt: &R,
+    alloc: Global,
+    options: &LiveOptions,
+    path: &str,
+    input: &[u8],
+) -> Result<OpenLog, LogFault> {
+    let Ok(head) = log_head(alloc, options.service, input) else {
+        return Err(LogFault::OutOfMemory);
+    };
+    open_log(rt, alloc, path, head.as_slice())
 }
 
 /// Serves rows, and prints the header before them and the end behind them.
