@@ -1,5 +1,6 @@
 //! The names and the numbers of faults.
 
+use crate::looking::gives;
 use run_values::SetupFault;
 use runs_core::RunFault;
 use std::alloc::Global;
@@ -39,19 +40,19 @@ fn expect<T: Display>(
     name: &str,
 ) -> Result<(), Fail> {
     let text = format!(in alloc; "{fault}")?;
-    assert_eq!(rt; (found, text.as_str()), (number, name));
+    gives(rt, &name, &(found, text.as_str()), &(number, name));
     Ok(())
 }
 
 #[test]
 fn faults_have_names_and_numbers(rt: HostRuntime) -> Result<(), Fail> {
-    for (fault, number, name) in SETUP_FAULTS {
+    for &(fault, number, name) in &SETUP_FAULTS {
         expect(&rt, rt.alloc(), &fault, fault as u8, number, name)?;
     }
-    for (fault, number, name) in WORKER_FAULTS {
+    for &(fault, number, name) in &WORKER_FAULTS {
         expect(&rt, rt.alloc(), &fault, fault as u8, number, name)?;
     }
-    for (fault, number, name) in RUN_FAULTS {
+    for &(fault, number, name) in &RUN_FAULTS {
         expect(&rt, rt.alloc(), &fault, fault as u8, number, name)?;
     }
     Ok(())

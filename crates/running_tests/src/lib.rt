@@ -5,6 +5,8 @@
 #[cfg(test)]
 mod faults;
 #[cfg(test)]
+mod looking;
+#[cfg(test)]
 mod mailboxes;
 #[cfg(test)]
 mod meeting;

@@ -1,5 +1,6 @@
 //! A mailbox of two places.
 
+use crate::looking::gives;
 use crate::messages::recharge;
 use run_values::Post;
 use std::alloc::Global;
@@ -19,11 +20,11 @@ fn work(number: u64) -> Mail<Post> {
 /// Mails come in the order in which they were sent, up to the last, behind which none is sent.
 fn come_in_order<R: Abort + Wait>(rt: &R, alloc: Global) -> Result<(), Fail> {
     let (mut outbox, mut inbox) = mailbox::<Post>(alloc, 2)?;
-    assert_eq!(rt; outbox.send_mail(rt, work(0)), Ok(()));
-    assert_eq!(rt; outbox.send_mail(rt, Mail::Close), Ok(()));
-    assert_eq!(rt; outbox.send_mail(rt, work(1)), Err(work(1)));
-    assert_eq!(rt; inbox.take_mail(rt), Ok(work(0)));
-    assert_eq!(rt; inbox.take_mail(rt), Ok(Mail::Close));
+    gives(rt, &"work", &outbox.send_mail(rt, work(0)), &Ok(()));
+    gives(rt, &"last", &outbox.send_mail(rt, Mail::Close), &Ok(()));
+    gives(rt, &"more", &outbox.send_mail(rt, work(1)), &Err(work(1)));
+    gives(rt, &"work", &inbox.take_mail(rt), &Ok(work(0)));
+    gives(rt, &"last", &inbox.take_mail(rt), &Ok(Mail::Close));
     compare_ends(outbox, inbox);
     Ok(())
 }
@@ -32,17 +33,17 @@ fn come_in_order<R: Abort + Wait>(rt: &R, alloc: Global) -> Result<(), Fail> {
 fn come_back<R: Abort + Wait>(rt: &R, alloc: Global) -> Result<(), Fail> {
     let (mut outbox, inbox) = mailbox::<Post>(alloc, 1)?;
     drop(inbox);
-    assert_eq!(rt; outbox.send_mail(rt, work(0)), Err(work(0)));
+    gives(rt, &"work", &outbox.send_mail(rt, work(0)), &Err(work(0)));
     Ok(())
 }
 
 /// What was sent is taken once its sender is gone, and no more.
 fn are_left<R: Abort + Wait>(rt: &R, alloc: Global) -> Result<(), Fail> {
     let (mut outbox, mut inbox) = mailbox::<Post>(alloc, 1024)?;
-    assert_eq!(rt; outbox.send_mail(rt, work(0)), Ok(()));
+    gives(rt, &"work", &outbox.send_mail(rt, work(0)), &Ok(()));
     drop(outbox);
-    assert_eq!(rt; inbox.take_mail(rt), Ok(work(0)));
-    assert_eq!(rt; inbox.take_mail(rt), Err(Gone));
+    gives(rt, &"work", &inbox.take_mail(rt), &Ok(work(0)));
+    gives(rt, &"more", &inbox.take_mail(rt), &Err(Gone));
     Ok(())
 }
 

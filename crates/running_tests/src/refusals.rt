@@ -1,6 +1,7 @@
 //! The refusals of a run, beside the posts that they are of, and the records of calls that were
 //! refused.
 
+use crate::looking::gives;
 use crate::messages::{Round, Say, bodies_of};
 use crate::rounds::{Heard, Rounds};
 use crate::runs::{ONE, play, set_up_two};
@@ -8,8 +9,8 @@ use account_core::{AccountFault, MIN_LIMIT};
 use arrayvec::ArrayVec;
 use call_records::{call_table, records};
 use moment_texts::Clock;
-use run_values::{Answer, Body, RunSetup};
-use runs_core::{Driver, RunFault, handled, refusals};
+use run_values::{Answer, RunSetup};
+use runs_core::{Driver, handled, refusals};
 use shared_account::{Book, OpenGate, TurnAccount};
 use std::alloc::{AllocError, Global};
 use std::process::Abort;
@@ -98,28 +99,12 @@ fn expect_refusals(
     assert!(rt; answers.len() == driver.given().len());
     let found = refusals(alloc, 2, driver.given(), answers.as_slice())?;
     let shares = handled(alloc, 2, driver.given())?;
-    assert_eq!(rt; (found.len(), shares.len()), (2, 2));
-    assert_eq!(rt;
-        (found[0].as_slice(), found[1].as_slice()),
-        (of_first, of_second)
-    );
-    assert_eq!(rt;
-        (shares[0].len(), shares[1].len()),
-        (of_first.len(), of_second.len())
-    );
+    assert!(rt; found.len() == 2 && shares.len() == 2);
+    gives(rt, &0, &found[0].as_slice(), &of_first);
+    gives(rt, &1, &found[1].as_slice(), &of_second);
+    gives(rt, &0, &shares[0].len(), &of_first.len());
+    gives(rt, &1, &shares[1].len(), &of_second.len());
     Ok(())
-}
-
-/// The driver of a run that has ended.
-fn driver_of<'a, R: Threads + Wait + Sync>(
-    rt: &R,
-    alloc: Global,
-    setup: &RunSetup,
-    bodies: &'a [(Body, Option<Body>)],
-) -> Result<Rounds<'a>, RunFault> {
-    let (books, driver) = play::<TurnAccount, _, _>(rt, alloc, setup, bodies, &OpenGate);
-    books?;
-    Ok(driver)
 }
 
 /// Serves posts by two workers, and compares their refusals.
@@ -131,14 +116,14 @@ fn expect_row<R: Abort + Threads + Wait + Sync>(
     let (limit, rounds, of_first, of_second) = row;
     let setup = set_up_two(alloc, 7, limit)?;
     let bodies = bodies_of(alloc, rounds)?;
-    let driver = driver_of(rt, alloc, &setup, bodies.as_slice())?;
+    let (_, driver) = play::<TurnAccount, _, _>(rt, alloc, &setup, bodies.as_slice(), &OpenGate)?;
     expect_refusals(rt, alloc, &driver, of_first, of_second)
 }
 
 #[test]
 fn refusals_stand_beside_the_posts(rt: HostRuntime) -> Result<(), Fail> {
-    for row in ROWS {
-        expect_row(&rt, rt.alloc(), row)?;
+    for row in &ROWS {
+        expect_row(&rt, rt.alloc(), *row)?;
     }
     Ok(())
 }
@@ -166,7 +151,7 @@ fn expect_records(
 ) -> Result<(), Fail> {
     let calls = records(alloc, setup, driver.given(), books)?;
     let table = call_table(alloc, Clock::Digits, calls.as_slice())?;
-    assert_eq!(rt; table.as_str(), RECORDS);
+    gives(rt, &"records", &table.as_str(), &RECORDS);
     Ok(())
 }
 
@@ -181,6 +166,6 @@ fn records_say_what_no_script_makes(rt: HostRuntime) -> Result<(), Fail> {
         &setup,
         bodies.as_slice(),
         &OpenGate,
-    );
-    expect_records(&rt, alloc, &setup, &driver, books?.as_slice())
+    )?;
+    expect_records(&rt, alloc, &setup, &driver, books.as_slice())
 }

@@ -1,5 +1,6 @@
 //! Runs of a few posts over two accounts of 1500, of either form.
 
+use crate::looking::gives;
 use crate::meeting::{Meeting, Of};
 use crate::messages::{Round, Say, Sends, bodies_of, last_of};
 use crate::rounds::{Heard, Rounds};
@@ -30,8 +31,8 @@ pub(crate) fn set_up_two(alloc: Global, second: u32, limit: u32) -> Result<RunSe
     Ok(set_up(alloc, TABLE, &accounts, &subscribers, limit)??)
 }
 
-/// A run that has ended: its books, or its fault, and the driver, which has heard of it.
-pub(crate) type Played<'a> = (Result<Vec<Book>, RunFault>, Rounds<'a>);
+/// A run that has ended well: its books, and the driver, which has heard of it.
+pub(crate) type Played<'a> = (Vec<Book>, Rounds<'a>);
 
 /// Plays rounds by two workers over accounts of a form.
 pub(crate) fn play<'a, S: Shared, R: Wait + Threads + Sync, G: Gate + Sync>(
@@ -40,10 +41,10 @@ pub(crate) fn play<'a, S: Shared, R: Wait + Threads + Sync, G: Gate + Sync>(
     setup: &RunSetup,
     rounds: &'a [(Body, Option<Body>)],
     gate: &G,
-) -> Played<'a> {
+) -> Result<Played<'a>, RunFault> {
     let mut driver = Rounds::new(alloc, rounds);
-    let books = serve_over::<_, S, _, _>(rt, alloc, setup, &mut driver, 2, gate);
-    (books, driver)
+    let books = serve_over::<_, S, _, _>(rt, alloc, setup, &mut driver, 2, gate)?;
+    Ok((books, driver))
 }
 
 /// The entries in the book of account 7.
@@ -246,10 +247,10 @@ const ROWS: [Row; 7] = [
 
 /// Compares what a driver heard.
 fn expect_heard(rt: &impl Abort, heard: &[Heard], answered: &[Answered], limit: u32) {
-    assert_eq!(rt; heard.len(), answered.len(), "with {limit}");
+    gives(rt, &limit, &heard.len(), &answered.len());
     for (said, (sends, stray, refused)) in heard.iter().zip(answered) {
         let found = (said.last, said.stray, said.refused);
-        assert_eq!(rt; found, (last_of(*sends), *stray, *refused), "with {limit}");
+        gives(rt, &limit, &found, &(last_of(*sends), *stray, *refused));
     }
 }
 
@@ -268,11 +269,12 @@ pub(crate) fn expect_entries(
     replies: &[Reply],
     is_one_call: bool,
 ) {
-    assert_eq!(rt; entries.len(), replies.len());
+    gives(rt, &"entries", &entries.len(), &replies.len());
     for (entry, reply) in entries.iter().zip(replies) {
-        assert_eq!(rt; entry.reply, *reply);
+        gives(rt, &entry.op, &entry.reply, reply);
     }
-    assert_eq!(rt; are_of_one_call(entries), Some(is_one_call));
+    let found = are_of_one_call(entries);
+    gives(rt, &"the first two", &found, &Some(is_one_call));
 }
 
 /// Plays the rounds of a row over accounts of a form, and compares what comes of them.
@@ -284,21 +286,23 @@ fn expect_row<S: Shared, R: Abort + Wait + Threads + Sync>(
     let (limit, rounds, answered, replies, is_one_call) = row;
     let setup = set_up_two(alloc, 7, limit)?;
     let bodies = bodies_of(alloc, rounds)?;
-    let (books, driver) = play::<S, _, _>(rt, alloc, &setup, bodies.as_slice(), &OpenGate);
+    let (books, driver) = play::<S, _, _>(rt, alloc, &setup, bodies.as_slice(), &OpenGate)?;
     expect_heard(rt, driver.heard(), answered, limit);
-    let books = books?;
     expect_entries(rt, entries_of(books.as_slice()), replies, is_one_call);
     Ok(())
 }
 
 #[test]
 fn posts_are_answered_and_entered(rt: HostRuntime) -> Result<(), Fail> {
-    for row in ROWS {
-        expect_row::<TurnAccount, _>(&rt, rt.alloc(), row)?;
-        expect_row::<SharedAccount, _>(&rt, rt.alloc(), row)?;
+    for row in &ROWS {
+        expect_row::<TurnAccount, _>(&rt, rt.alloc(), *row)?;
+        expect_row::<SharedAccount, _>(&rt, rt.alloc(), *row)?;
     }
     Ok(())
 }
+
+/// How many entries each of two books has, where there are two.
+type Counts = Option<(usize, usize)>;
 
 /// Plays a round of two calls past a gate; the second subscriber is of the account `second`.
 fn play_past<R: Wait + Threads + Sync, G: Gate + Sync>(
@@ -307,14 +311,16 @@ fn play_past<R: Wait + Threads + Sync, G: Gate + Sync>(
     second: u32,
     rounds: &[Round],
     gate: &G,
-) -> Result<Result<Vec<Book>, RunFault>, Fail> {
+) -> Result<Result<Counts, RunFault>, Fail> {
     let setup = set_up_two(alloc, second, 1000)?;
     let bodies = bodies_of(alloc, rounds)?;
-    Ok(play::<TurnAccount, _, _>(rt, alloc, &setup, bodies.as_slice(), gate).0)
+    match play::<TurnAccount, _, _>(rt, alloc, &setup, bodies.as_slice(), gate) {
+        Ok((books, _)) => Ok(Ok(counts_of(books.as_slice()))),
+        Err(fault) => Ok(Err(fault)),
+    }
 }
 
-/// How many entries each of two books has.
-fn counts_of(books: &[Book]) -> Option<(usize, usize)> {
+fn counts_of(books: &[Book]) -> Counts {
     match books {
         [one, other] => Some((one.history().len(), other.history().len())),
         _ => None,
@@ -333,8 +339,8 @@ fn expect_met<R: Abort + Wait + Threads + Sync>(
         Of::Calls => Meeting::new(of, 1, 2),
         Of::Accounts => Meeting::new(of, 7, 8),
     };
-    let books = play_past(rt, alloc, second, &AT_ONCE, &gate)??;
-    assert_eq!(rt; counts_of(books.as_slice()), Some(entries));
+    let counts = play_past(rt, alloc, second, &AT_ONCE, &gate)?;
+    gives(rt, &second, &counts, &Ok(Some(entries)));
     Ok(())
 }
 
@@ -343,11 +349,9 @@ const REFUSED_FIRST: [Round; 1] = [(Say::Begins(2, TWO), Some(Say::Begins(1, ONE
 /// Where a worker has failed, the other one is waited for, though it is held.
 fn waits_for_all<R: Abort + Threads + Wait + Sync>(rt: &R, alloc: Global) -> Result<(), Fail> {
     let gate = Holding::new(2);
-    let fault = play_past(rt, alloc, 7, &REFUSED_FIRST, &gate)?.err();
-    assert_eq!(rt;
-        (gate.was_said(), fault),
-        (true, Some(RunFault::GateClosed))
-    );
+    let counts = play_past(rt, alloc, 7, &REFUSED_FIRST, &gate)?;
+    gives(rt, &"said", &gate.was_said(), &true);
+    gives(rt, &"the run", &counts, &Err(RunFault::GateClosed));
     Ok(())
 }
 

@@ -2,6 +2,7 @@
 
 ghost use Rattle.std.specs.Prelude.{◌≡◌, [], IfOk};
 
+use crate::looking::gives;
 use crate::runs::{
     ALL_RETURNED, ALL_SETTLED, ONE, REST, RETURNED, SETTLED, WHOLE, entries_of, expect_entries,
 };
@@ -79,7 +80,7 @@ fn expect_book(rt: &impl Abort, alloc: Global, books: &[Book], row: Row) -> Resu
     };
     for book in books {
         let calls = book.summary(alloc)?.calls;
-        assert_eq!(rt; calls.as_slice(), [sum].as_slice(), "with {limit}");
+        gives(rt, &limit, &calls.as_slice(), &[sum].as_slice());
     }
     Ok(())
 }
@@ -107,17 +108,16 @@ fn ends_past<R: Abort + Threads + Wait + Sync>(
 ) -> Result<(), Fail> {
     let gate = Shutting::new(before, inside);
     let fault = serve_script(rt, alloc, ENDED, 1000, &gate)?.err();
-    let closed = Some(RunFault::GateClosed);
-    assert_eq!(rt; fault, closed, "past {before} and {inside}");
+    gives(rt, &(before, inside), &fault, &Some(RunFault::GateClosed));
     Ok(())
 }
 
 #[test]
 fn scripts_are_served_within_limits_and_past_gates(rt: HostRuntime) -> Result<(), Fail> {
-    for row in ROWS {
-        serves_within(&rt, rt.alloc(), row)?;
+    for row in &ROWS {
+        serves_within(&rt, rt.alloc(), *row)?;
     }
-    for (before, inside) in SHUT {
+    for &(before, inside) in &SHUT {
         ends_past(&rt, rt.alloc(), before, inside)?;
     }
     Ok(())

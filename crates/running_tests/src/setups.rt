@@ -1,5 +1,6 @@
 //! Setups that are made, and setups that aren't.
 
+use crate::looking::gives;
 use cap_values::Number;
 use dialogue_core::ServiceConfig;
 use run_texts::read_setup;
@@ -104,11 +105,9 @@ fn fault_of(
 
 #[test]
 fn faults_are_wanted(rt: HostRuntime) -> Result<(), Fail> {
-    let mut place: usize = 0;
-    for (accounts, payers, limit, want) in ROWS {
+    for &(accounts, payers, limit, want) in &ROWS {
         let fault = fault_of(rt.alloc(), accounts, payers, limit)?;
-        assert_eq!(rt; fault, want, "row {place}");
-        place = place.saturating_add(1);
+        gives(&rt, &(accounts, payers, limit), &fault, &want);
     }
     Ok(())
 }
@@ -135,24 +134,27 @@ const PAYERS: [(u32, Result<(), SetupFault>); 3] = [
 
 /// Gives a directory those accounts.
 fn judge_accounts(rt: &impl Abort, directory: &mut Directory) {
-    for (number, amount, until, made) in ACCOUNTS {
+    for &(number, amount, until, made) in &ACCOUNTS {
         let opening = OpeningCredit { amount, until };
-        assert_eq!(rt; directory.account(number, opening), made, "at {number}");
+        gives(rt, &number, &directory.account(number, opening), &made);
     }
 }
 
 /// Gives it those subscribers.
 fn judge_payers(rt: &impl Abort, directory: &mut Directory, one: Number) {
-    for (account, made) in PAYERS {
-        assert_eq!(rt; directory.subscriber(one, account), made, "of {account}");
+    for &(account, made) in &PAYERS {
+        gives(rt, &account, &directory.subscriber(one, account), &made);
     }
 }
 
+/// Numbers, and whether it has their accounts then.
+const LISTED: [(u32, bool); 4] = [(2, true), (7, true), (8, false), (9, true)];
+
 /// Compares the accounts that it has then.
 fn expect_listed(rt: &impl Abort, directory: &Directory) {
-    assert_eq!(rt; directory.account_count(), 3);
-    for (number, is_there) in [(2, true), (7, true), (8, false), (9, true)] {
-        assert_eq!(rt; directory.has_account(number), is_there, "at {number}");
+    gives(rt, &"accounts", &directory.account_count(), &3);
+    for &(number, is_there) in &LISTED {
+        gives(rt, &number, &directory.has_account(number), &is_there);
     }
 }
 
@@ -182,9 +184,9 @@ const CALLING: [(&str, Option<u32>); 4] = [
 
 /// Compares the accounts of a setup with those that were read.
 fn expect_places(rt: &impl Abort, setup: &RunSetup) {
-    assert_eq!(rt; setup.account_count(), PLACES.len());
+    gives(rt, &"accounts", &setup.account_count(), &PLACES.len());
     let mut place: usize = 0;
-    for (number, amount, until) in PLACES {
+    for &(number, amount, until) in &PLACES {
         let opening = OpeningCredit { amount, until };
         assert!(rt; place < setup.account_count());
         let found = (
@@ -192,30 +194,33 @@ fn expect_places(rt: &impl Abort, setup: &RunSetup) {
             setup.number(place),
             setup.opening(place),
         );
-        assert_eq!(rt; found, (Some(place), number, opening));
-        assert_eq!(rt; setup.accounts().get(place), Some(&(number, opening)));
+        gives(rt, &place, &found, &(Some(place), number, opening));
+        let account = setup.accounts().get(place);
+        gives(rt, &place, &account, &Some(&(number, opening)));
         place = place.saturating_add(1);
     }
-    assert_eq!(rt; setup.place_of(8), None);
+    gives(rt, &8, &setup.place_of(8), &None);
 }
 
 /// Compares the account of each calling number.
 fn expect_payers(rt: &impl Abort, setup: &RunSetup) -> Result<(), Fail> {
-    for (calling, account) in CALLING {
-        assert_eq!(rt;
-            setup.account_of(Number::new(calling)?),
-            account,
-            "of {calling}"
-        );
+    for &(calling, account) in &CALLING {
+        let found = setup.account_of(Number::new(calling)?);
+        gives(rt, &calling, &found, &account);
     }
     Ok(())
 }
 
+/// Called numbers, and whether the band charges them.
+const CALLED: [(&str, bool); 2] = [("491700002", true), ("331700002", false)];
+
 /// Compares the limit, the service and the tariff of a setup.
 fn expect_terms(rt: &impl Abort, setup: &RunSetup, service: ServiceConfig) {
-    assert_eq!(rt; (setup.limit(), setup.service()), (30, service));
-    for (called, is_charged) in [(b"491700002", true), (b"331700002", false)] {
-        assert_eq!(rt; setup.tariff().plan(called, 0).is_some(), is_charged);
+    let found = (setup.limit(), setup.service());
+    gives(rt, &"terms", &found, &(30, service));
+    for &(called, is_charged) in &CALLED {
+        let plan = setup.tariff().plan(called.as_bytes(), 0);
+        gives(rt, &called, &plan.is_some(), &is_charged);
     }
 }
 

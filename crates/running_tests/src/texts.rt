@@ -1,6 +1,7 @@
 //! Readers that fail: the tables of a setup and of a script keep that fault, unless a row in front
 //! of it has one. Each fault of their rows is tried in tests/program.
 
+use crate::looking::gives;
 use crate::setups::list;
 use run_texts::{read_script, read_setup};
 use run_values::Directory;
@@ -89,11 +90,8 @@ fn expect_of_setup(rt: &impl Abort, alloc: Global, text: &[u8], row: u32, kind: 
     for length in 0..=text.len() {
         let bytes = &text[..length];
         let fault = read_setup(alloc, Failing { bytes }).err();
-        assert_eq!(rt;
-            fault,
-            fault_at(length, text, row, kind),
-            "after {length} of {kind:?}"
-        );
+        let want = fault_at(length, text, row, kind);
+        gives(rt, &(kind, length), &fault, &want);
     }
 }
 
@@ -109,21 +107,18 @@ fn expect_of_script(
     for length in 0..=text.len() {
         let bytes = &text[..length];
         let fault = read_script(alloc, directory, Failing { bytes }).err();
-        assert_eq!(rt;
-            fault,
-            fault_at(length, text, row, kind),
-            "after {length} of {kind:?}"
-        );
+        let want = fault_at(length, text, row, kind);
+        gives(rt, &(kind, length), &fault, &want);
     }
 }
 
 #[test]
 fn names_a_reader_that_fails(rt: HostRuntime) -> Result<(), Fail> {
-    for (text, row, kind) in SETUPS {
+    for &(text, row, kind) in &SETUPS {
         expect_of_setup(&rt, rt.alloc(), text, row, kind);
     }
     let directory = list(rt.alloc(), &[(7, 1500), (9, 0)])?;
-    for (text, row, kind) in SCRIPTS {
+    for &(text, row, kind) in &SCRIPTS {
         expect_of_script(&rt, rt.alloc(), &directory, text, row, kind);
     }
     Ok(())

@@ -5,6 +5,7 @@ ghost use Rattle.std.specs.Map.{keys_of};
 ghost use Rattle.shared_account.specs.Seats.{seat_reads};
 ghost use Rattle.workers_core.specs.Workers.{IsReady};
 
+use crate::looking::gives;
 use crate::messages::{Round, Say, Sends, are_sent, bodies_of_round, body_of};
 use crate::runs::ONE;
 use crate::setups::{BAND, set_up};
@@ -20,9 +21,13 @@ use std::test::Fail;
 use workers_core::{Worker, WorkerFault};
 
 /// Account 7, whose history has this limit, and subscriber 491700001 of it.
-fn set_up_seven(alloc: Global, limit: u32) -> Result<RunSetup, Fail> {
+fn set_up_seven(rt: &impl Abort, alloc: Global, limit: u32) -> Result<RunSetup, Fail>
+    ensures { IfOk result (λ setup. keys_of setup.accounts ≡ 7 ∷ []) }
+{
     let subscribers = [(Number::new(ONE)?, 7)];
-    Ok(set_up(alloc, BAND, &[(7, 1500)], &subscribers, limit)??)
+    let setup = set_up(alloc, BAND, &[(7, 1500)], &subscribers, limit)??;
+    assert!(rt; has_seven(&setup));
+    Ok(setup)
 }
 
 /// Whether account 7 is the only one.
@@ -145,11 +150,11 @@ fn handle<R: Abort + Wait>(
 {
     let (say, sends, stray, refused, credit) = row;
     let answer = worker.handle(rt, post(number, body_of(say)?), &OpenGate)?;
-    assert!(rt; are_sent(sends, answer.ops.as_slice())?, "at {number}");
     let found = (answer.number, answer.stray, answer.refused);
-    assert_eq!(rt; found, (number, stray, refused), "at {number}");
+    gives(rt, &number, &found, &(number, stray, refused));
+    gives(rt, &number, &are_sent(sends, answer.ops.as_slice())?, &true);
     if credit.is_some() {
-        assert_eq!(rt; entered(worker), credit, "at {number}");
+        gives(rt, &number, &entered(worker), &credit);
     }
     Ok(())
 }
@@ -181,8 +186,7 @@ fn handle_all<R: Abort + Wait>(
     limit: u32,
     rows: &[Row],
 ) -> Result<usize, Fail> {
-    let setup = set_up_seven(alloc, limit)?;
-    assert!(rt; has_seven(&setup));
+    let setup = set_up_seven(rt, alloc, limit)?;
     let (account, seats) = account_seven(rt, alloc, limit)?;
     let accounts = [account];
     let mut worker = Worker::new(alloc, 1, &setup, &accounts, seats)?;
@@ -192,12 +196,8 @@ fn handle_all<R: Abort + Wait>(
 
 #[test]
 fn posts_are_handled(rt: HostRuntime) -> Result<(), Fail> {
-    for (limit, rows) in TALKS {
-        assert_eq!(rt;
-            handle_all(&rt, rt.alloc(), limit, rows)?,
-            1,
-            "with {limit}"
-        );
+    for &(limit, rows) in &TALKS {
+        gives(&rt, &limit, &handle_all(&rt, rt.alloc(), limit, rows)?, &1);
     }
     Ok(())
 }
@@ -227,8 +227,7 @@ fn fault_past<R: Abort + Wait>(
     round: Round,
 ) -> Result<Option<WorkerFault>, Fail> {
     let (first, second) = bodies_of_round(round)?;
-    let setup = set_up_seven(alloc, 1000)?;
-    assert!(rt; has_seven(&setup));
+    let setup = set_up_seven(rt, alloc, 1000)?;
     let (account, seats) = account_seven(rt, alloc, 1000)?;
     let accounts = [account];
     let mut worker = Worker::new(alloc, 1, &setup, &accounts, seats)?;
@@ -267,11 +266,11 @@ const GATES: [GateRow; 11] = [
 
 #[test]
 fn gates_are_asked_for_calls_alone(rt: HostRuntime) -> Result<(), Fail> {
-    for (before, inside, round, fault, counts) in GATES {
+    for &(before, inside, round, fault, counts) in &GATES {
         let gate = Shutting::new(before, inside);
         let met = fault_past(&rt, rt.alloc(), &gate, round)?;
         let found = (met, gate.counts());
-        assert_eq!(rt; found, (fault, counts), "past {before} and {inside}");
+        gives(&rt, &(before, inside), &found, &(fault, counts));
     }
     Ok(())
 }
