@@ -3,9 +3,10 @@
 ghost use Rattle.std.specs.Prelude.{◌≡◌, ◌≤◌};
 
 use crate::forms::{
-    Answer, Ask, Said, answer_of, close, entries_of_each, op_of, two_seats, two_seats_within,
+    Answer, Ask, Said, close, entries_of_each, op_of, says, two_seats, two_seats_within,
 };
 use crate::histories::{RUNS, Row, Run};
+use crate::looking::gives;
 use account_core::{Account, AccountFault, Op, Port};
 use shared_account::{
     Book, CloseFault, Gate, OpenGate, Seat, Shared, SharedAccount, SharedPort, Summary, TurnAccount,
@@ -20,7 +21,7 @@ use tariff_core::MAX_MONEY;
 fn refuses_an_exchange<S: Shared, R: Abort>(rt: &R, alloc: Global) -> Result<(), Fail> {
     let (account, first, second) = two_seats::<S, R>(rt, alloc, 1, 1500, None)?;
     let closed = close(alloc, account, second, first)?;
-    assert_eq!(rt; closed.err(), Some(CloseFault::Seats));
+    gives(rt, &"exchanged", &closed.err(), &Some(CloseFault::Seats));
     Ok(())
 }
 
@@ -29,7 +30,8 @@ fn refuses_a_lack<S: Shared, R: Abort>(rt: &R, alloc: Global) -> Result<(), Fail
     let (account, first, _) = two_seats::<S, R>(rt, alloc, 1, 1500, None)?;
     let mut seats = Vec::with_capacity(alloc, 1)?;
     seats.push_reserved(first);
-    assert_eq!(rt; account.close(seats).err(), Some(CloseFault::Seats));
+    let fault = account.close(seats).err();
+    gives(rt, &"a lack", &fault, &Some(CloseFault::Seats));
     Ok(())
 }
 
@@ -102,7 +104,7 @@ fn book_of<S: Shared, R: Abort + Wait>(
     for (seat, open, ask, want) in rows {
         let (op, gate) = (op_of(*ask), Door { open: *open });
         let answer = ask_one(rt, &account, &mut first, &mut second, *seat, op, gate);
-        assert_eq!(rt; answer, answer_of(*want), "at {op:?}");
+        says(rt, op, answer, *want);
     }
     Ok(close(alloc, account, first, second)??)
 }
@@ -110,19 +112,20 @@ fn book_of<S: Shared, R: Abort + Wait>(
 /// Compares a book with what its account was opened with.
 fn expect_terms(rt: &impl Abort, book: &Book, run: &Run) {
     let (opening, until, limit, _, made, _, _) = run;
-    assert_eq!(rt; (book.account(), book.limit()), (1, *limit));
-    assert_eq!(rt; (book.opening(), book.until()), (*opening, *until));
-    assert_eq!(rt; entries_of_each(book), *made);
-    assert_eq!(rt; book.history().len(), made.0.saturating_add(made.1));
+    let found = (book.account(), book.opening(), book.until(), book.limit());
+    gives(rt, made, &found, &(1, *opening, *until, *limit));
+    let entries = made.0.saturating_add(made.1);
+    let found = (entries_of_each(book), book.history().len());
+    gives(rt, made, &found, &(*made, entries));
 }
 
 /// Compares what a book sums up to.
 fn expect_summary(rt: &impl Abort, summary: &Summary, run: &Run) {
     let (opening, _, _, _, made, available, calls) = run;
-    assert_eq!(rt; (summary.account, summary.opening), (1, *opening));
-    assert_eq!(rt; summary.available, *available, "after {made:?} entries");
-    assert_eq!(rt; summary.entries, made.0.saturating_add(made.1));
-    assert_eq!(rt; summary.calls.as_slice(), *calls, "after {made:?} entries");
+    let found = (summary.account, summary.opening, summary.available);
+    gives(rt, made, &found, &(1, *opening, *available));
+    gives(rt, made, &summary.entries, &made.0.saturating_add(made.1));
+    gives(rt, made, &summary.calls.as_slice(), calls);
 }
 
 /// Compares the book of an account of a form, and what it sums up to.
@@ -137,9 +140,9 @@ fn sums_up<S: Shared, R: Abort + Wait>(rt: &R, alloc: Global, run: &Run) -> Resu
 
 #[test]
 fn sums_up_its_calls(rt: HostRuntime) -> Result<(), Fail> {
-    for run in RUNS {
-        sums_up::<SharedAccount, _>(&rt, rt.alloc(), &run)?;
-        sums_up::<TurnAccount, _>(&rt, rt.alloc(), &run)?;
+    for run in &RUNS {
+        sums_up::<SharedAccount, _>(&rt, rt.alloc(), run)?;
+        sums_up::<TurnAccount, _>(&rt, rt.alloc(), run)?;
     }
     Ok(())
 }
@@ -148,10 +151,11 @@ fn sums_up_its_calls(rt: HostRuntime) -> Result<(), Fail> {
 fn asks_by_port<S: Shared, R: Abort + Wait>(rt: &R, alloc: Global) -> Result<(), Fail> {
     let (account, mut first, mut second) = two_seats::<S, R>(rt, alloc, 1, 1500, None)?;
     let mut port = SharedPort::new(&account, &mut second, rt, &OpenGate);
-    let answer = port.ask(op_of(Ask::Reserve(1, 0)));
-    assert_eq!(rt; answer, answer_of(Said::Granted(600, false, 450)));
-    let answer = account.call(rt, &mut first, op_of(Ask::Credit(10, None)), &OpenGate);
-    assert_eq!(rt; answer, answer_of(Said::Credited(460)));
+    let op = op_of(Ask::Reserve(1, 0));
+    says(rt, op, port.ask(op), Said::Granted(600, false, 450));
+    let op = op_of(Ask::Credit(10, None));
+    let answer = account.call(rt, &mut first, op, &OpenGate);
+    says(rt, op, answer, Said::Credited(460));
     Ok(())
 }
 
@@ -164,21 +168,20 @@ const KEPT: [(Ask, Said); 4] = [
 
 /// Asks an account from a seat.
 fn ask_from(rt: &impl Abort, seat: &mut Seat, account: &mut Account) {
-    for (ask, want) in KEPT {
+    for &(ask, want) in &KEPT {
         let op = op_of(ask);
-        let answer = seat.apply_to(account, op);
-        assert_eq!(rt; answer, answer_of(want), "at {op:?}");
+        says(rt, op, seat.apply_to(account, op), want);
     }
 }
 
 /// A seat keeps what it enters into an account of its own.
 fn keeps_its_entries(rt: &impl Abort, alloc: Global) -> Result<(), Fail> {
     let (_, mut seat, other) = two_seats::<SharedAccount, _>(rt, alloc, 1, 1500, None)?;
-    assert_eq!(rt; (seat.number(), other.number()), (0, 1));
+    gives(rt, &"seats", &(seat.number(), other.number()), &(0, 1));
     let mut account = Account::new(alloc, 1500, None, 100);
     ask_from(rt, &mut seat, &mut account);
-    assert_eq!(rt; seat.mine().len(), 3);
-    assert_eq!(rt; seat.mine(), account.history());
+    gives(rt, &"entries", &seat.mine().len(), &3);
+    gives(rt, &"entries", &seat.mine(), &account.history());
     Ok(())
 }
 
@@ -200,9 +203,10 @@ const FAULTS: [(CloseFault, u8, &str); 2] = [
 
 #[test]
 fn names_its_faults(rt: HostRuntime) -> Result<(), Fail> {
-    for (fault, number, want) in FAULTS {
+    for &(fault, number, want) in &FAULTS {
         let text = format!(in rt.alloc(); "{fault}")?;
-        assert_eq!(rt; (fault.code(), text.as_str()), (number, want));
+        let found = (fault.code(), text.as_str());
+        gives(&rt, &number, &found, &(number, want));
     }
     assert!(rt; OpenGate.before(0, 1) && OpenGate.inside(1));
     Ok(())

@@ -2,6 +2,7 @@
 
 ghost use Rattle.std.specs.Prelude.{◌≡◌, ◌≤◌, IfOk};
 
+use crate::looking::gives;
 use account_core::{AccountFault, Op, Reply};
 use shared_account::{Book, CloseFault, Shared};
 use std::alloc::{AllocError, Global};
@@ -129,6 +130,11 @@ pub(crate) enum Said {
     Credited(u64),
     Over(u64),
     Refused(AccountFault),
+}
+
+/// Compares an answer with what is to be said.
+pub(crate) fn says(rt: &impl Abort, op: Op, answer: Answer, said: Said) {
+    gives(rt, &op, &answer, &answer_of(said));
 }
 
 /// The answer that says it.

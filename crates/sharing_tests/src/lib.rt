@@ -9,6 +9,8 @@ mod forms;
 #[cfg(test)]
 mod histories;
 #[cfg(test)]
+mod looking;
+#[cfg(test)]
 mod threads;
 #[cfg(test)]
 mod turns;

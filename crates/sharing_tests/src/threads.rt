@@ -3,6 +3,7 @@
 ghost use Rattle.std.specs.Prelude.{◌≡◌};
 
 use crate::forms::{Answer, Ask, Said, answer_of, close, op_of, two_seats};
+use crate::looking::gives;
 use account_core::{AccountFault, Op};
 use shared_account::{Gate, OpenGate, Shared, SharedAccount, TurnAccount};
 use std::alloc::Global;
@@ -164,7 +165,7 @@ fn grants_what_there_is<S: Shared, R: Abort + Threads + Wait + Sync>(
     let whole = answer_of(Said::Granted(600, false, 450));
     let rest = answer_of(Said::Granted(240, true, 0));
     assert!(rt; (one == whole && other == rest) || (one == rest && other == whole));
-    assert_eq!(rt; entries, 2);
+    gives(rt, &"what there is", &entries, &2);
     Ok(())
 }
 
@@ -182,15 +183,12 @@ fn grants_more_later<S: Shared, R: Abort + Threads + Wait + Sync>(
     );
     let gate = Holds::new(2, 0, 1);
     let (one, other, entries) = ask_one_account::<S, R, _>(rt, alloc, ops, &gate)?;
-    assert_eq!(rt;
-        one,
-        (
-            answer_of(Said::Granted(600, false, 450)),
-            Some(answer_of(Said::Credited(1050)))
-        )
-    );
-    assert_eq!(rt; other, (answer_of(Said::Granted(600, false, 0)), None));
-    assert_eq!(rt; entries, 3);
+    let granted = answer_of(Said::Granted(600, false, 450));
+    let credited = answer_of(Said::Credited(1050));
+    gives(rt, &"more later", &one, &(granted, Some(credited)));
+    let granted_more = answer_of(Said::Granted(600, false, 0));
+    gives(rt, &"more later", &other, &(granted_more, None));
+    gives(rt, &"more later", &entries, &3);
     Ok(())
 }
 
@@ -213,8 +211,9 @@ fn holds_one_alone<S: Shared, R: Abort + Threads + Wait + Sync>(
         ops,
         &gate,
     );
-    assert_eq!(rt; one, (answer_of(Said::Granted(600, false, 450)), None));
-    assert_eq!(rt; other, (answer_of(Said::Granted(600, false, 450)), None));
+    let granted = (answer_of(Said::Granted(600, false, 450)), None);
+    gives(rt, &"one alone", &one, &granted);
+    gives(rt, &"one alone", &other, &granted);
     Ok(())
 }
 

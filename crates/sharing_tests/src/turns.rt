@@ -2,7 +2,8 @@
 
 ghost use Rattle.std.specs.Prelude.{◌≡◌};
 
-use crate::forms::{Ask, Said, answer_of, close, entries_of_each, op_of, two_seats};
+use crate::forms::{Ask, Said, close, entries_of_each, op_of, says, two_seats};
+use crate::looking::gives;
 use shared_account::{Book, Gate, OpenGate, TurnAccount, TurnSeat};
 use std::alloc::Global;
 use std::process::Abort;
@@ -13,27 +14,29 @@ use std::thread::Threads;
 
 /// The book of an account whose two seats met, and credited once more or not.
 fn book_of_met<R: Abort + Wait>(rt: &R, alloc: Global, more: bool) -> Result<Book, Fail> {
-    let reserve = op_of(Ask::Reserve(1, 0));
     let (account, mut first, mut second) = two_seats::<TurnAccount, R>(rt, alloc, 1, 0, None)?;
-    let answer = account.call(rt, &mut first, op_of(Ask::Credit(600, None)), &OpenGate);
-    assert_eq!(rt; answer, answer_of(Said::Credited(600)));
-    assert_eq!(rt; (first.number(), second.number()), (0, 1));
+    let op = op_of(Ask::Credit(600, None));
+    let answer = account.call(rt, &mut first, op, &OpenGate);
+    says(rt, op, answer, Said::Credited(600));
+    gives(rt, &"seats", &(first.number(), second.number()), &(0, 1));
     account.meet(&mut first, &mut second);
-    let answer = account.call(rt, &mut second, reserve, &OpenGate);
-    assert_eq!(rt; answer, answer_of(Said::Granted(330, true, 0)));
+    let op = op_of(Ask::Reserve(1, 0));
+    let answer = account.call(rt, &mut second, op, &OpenGate);
+    says(rt, op, answer, Said::Granted(330, true, 0));
     if more {
         account.meet(&mut second, &mut first);
-        let answer = account.call(rt, &mut first, op_of(Ask::Credit(1, None)), &OpenGate);
-        assert_eq!(rt; answer, answer_of(Said::Credited(1)));
+        let op = op_of(Ask::Credit(1, None));
+        let answer = account.call(rt, &mut first, op, &OpenGate);
+        says(rt, op, answer, Said::Credited(1));
     }
     Ok(close(alloc, account, first, second)??)
 }
 
 #[test]
 fn meets_share_one_history(rt: HostRuntime) -> Result<(), Fail> {
-    for (more, entries) in [(false, (1, 1)), (true, (2, 1))] {
+    for &(more, entries) in &[(false, (1, 1)), (true, (2, 1))] {
         let book = book_of_met(&rt, rt.alloc(), more)?;
-        assert_eq!(rt; entries_of_each(&book), entries);
+        gives(&rt, &more, &entries_of_each(&book), &entries);
     }
     Ok(())
 }
@@ -108,8 +111,8 @@ fn lets_one_thread_in_at_a_time(rt: HostRuntime) -> Result<(), Fail> {
     let (account, first, second) = two_seats::<TurnAccount, _>(&rt, rt.alloc(), 1, 0, None)?;
     let (first, second) = credit_both(&rt, &account, first, second, 50, &SlowGate);
     let book = close(rt.alloc(), account, first, second)??;
-    assert_eq!(rt; entries_of_each(&book), (50, 50));
-    assert_eq!(rt; book.history().len(), 100);
-    assert_eq!(rt; book.summary(rt.alloc())?.available, 100);
+    gives(&rt, &"of each", &entries_of_each(&book), &(50, 50));
+    gives(&rt, &"entries", &book.history().len(), &100);
+    gives(&rt, &"credit", &book.summary(rt.alloc())?.available, &100);
     Ok(())
 }
