@@ -1,7 +1,8 @@
 //! Inputs that fail, and inputs that are too long.
 
 use crate::devices::{Failing, Zeros};
-use crate::program::{expect_refusal, run};
+use crate::looking::gives;
+use crate::program::{expect_fault, expect_refusal};
 use crate::texts::{BOOK, OPERATIONS, PRICE, REPORTS, RUN, SWITCHED};
 use std::io::ErrorKind;
 use std::test::Fail;
@@ -58,7 +59,7 @@ called,answer,time,paid
 
 #[test]
 fn reports_a_failed_input(rt: HostRuntime) -> Result<(), Fail> {
-    for (words, text, kind, status, fault) in READERS {
+    for &(words, text, kind, status, fault) in &READERS {
         for length in 0..=text.len() {
             let bytes = &text.as_bytes()[..length];
             let input = Failing { bytes, kind };
@@ -70,11 +71,7 @@ fn reports_a_failed_input(rt: HostRuntime) -> Result<(), Fail> {
             bytes: &RATED.as_bytes()[..length],
             kind: ErrorKind::Other,
         };
-        let mut output = Vec::new(rt.alloc());
-        let mut faults = Vec::new(rt.alloc());
-        let status = run(&rt, "rate", input, &mut output, &mut faults)?;
-        assert_eq!(rt; status, 2, "after {length} bytes");
-        assert_eq!(rt; faults.as_slice(), DEVICE.as_bytes());
+        expect_fault(&rt, "rate", input, length as u64, (2, DEVICE))?;
     }
     Ok(())
 }
@@ -89,14 +86,14 @@ const LENGTHS: [(u64, u64, &str); 3] = [
 
 #[test]
 fn bounds_the_input(rt: HostRuntime) -> Result<(), Fail> {
-    for (left, want, fault) in LENGTHS {
+    for &(left, want, fault) in &LENGTHS {
         let mut taken = 0;
         let input = Zeros {
             left,
             taken: &mut taken,
         };
         expect_refusal(&rt, PRICE, input, left, (1, fault))?;
-        assert_eq!(rt; taken, want, "of {left} bytes");
+        gives(&rt, &left, &taken, &want);
     }
     Ok(())
 }

@@ -8,6 +8,8 @@ mod devices;
 #[cfg(test)]
 mod inputs;
 #[cfg(test)]
+mod looking;
+#[cfg(test)]
 mod outputs;
 #[cfg(test)]
 mod program;

@@ -1,6 +1,7 @@
 //! Outputs and error writers that fail.
 
 use crate::devices::Full;
+use crate::looking::gives;
 use crate::program::run;
 use crate::texts::{BOOK, OPERATIONS, PRICE, REPORTS, RUN, SWITCHED};
 use std::fs::File;
@@ -94,18 +95,10 @@ fn expect_front<R: Abort + AllocGlobal + Wait + Threads + Sync + Files<File = Fi
     } else {
         (wanted, line)
     };
-    assert_eq!(rt;
-        status,
-        wanted,
-        "of {words:?} with room for {room}, which it passes on: {flushes}"
-    );
+    let (place, found) = ((words, room, flushes), (status, faults.as_slice()));
+    gives(rt, &place, &found, &(wanted, line.as_bytes()));
     let front = text.as_bytes().get(..room).unwrap_or(&[]);
-    assert_eq!(rt; output.taken.as_slice(), front, "of {words:?}");
-    assert_eq!(rt;
-        faults.as_slice(),
-        line.as_bytes(),
-        "of {words:?} with room for {room}"
-    );
+    gives(rt, &place, &output.taken.as_slice(), &front);
     Ok(())
 }
 
@@ -114,9 +107,9 @@ pub(crate) fn expect_fronts<R: Abort + AllocGlobal + Wait + Threads + Sync + Fil
     rt: &R,
     printed: Printed<'_>,
 ) -> Result<(), Fail> {
-    for step in STEPS {
+    for step in &STEPS {
         for room in 0..=printed.2.len() {
-            expect_front(rt, printed, room, step, true)?;
+            expect_front(rt, printed, room, *step, true)?;
         }
     }
     Ok(())
@@ -124,27 +117,40 @@ pub(crate) fn expect_fronts<R: Abort + AllocGlobal + Wait + Threads + Sync + Fil
 
 #[test]
 fn a_failed_output_has_a_front_of_what_is_printed(rt: HostRuntime) -> Result<(), Fail> {
-    for printed in PRINTED {
-        expect_fronts(&rt, printed)?;
+    for printed in &PRINTED {
+        expect_fronts(&rt, *printed)?;
     }
-    for step in STEPS {
-        expect_front(&rt, PRINTED[0], PRINTED[0].2.len(), step, false)?;
+    for step in &STEPS {
+        expect_front(&rt, PRINTED[0], PRINTED[0].2.len(), *step, false)?;
     }
+    Ok(())
+}
+
+/// Runs words over an input, where the error writer has room for so much. It has a front of the
+/// line, and the output has all that is printed.
+fn expect_line<R: Abort + AllocGlobal + Wait + Threads + Sync + Files<File = File>>(
+    rt: &R,
+    printed: Printed<'_>,
+    room: usize,
+    step: usize,
+) -> Result<(), Fail> {
+    let (words, input, text, wanted, line) = printed;
+    let mut output = Vec::new(rt.alloc());
+    let mut faults = Full::new(rt.alloc(), room, step);
+    let status = run(rt, words, input.as_bytes(), &mut output, &mut faults)?;
+    let (place, found) = ((words, room), (status, output.as_slice()));
+    gives(rt, &place, &found, &(wanted, text.as_bytes()));
+    let front = line.as_bytes().get(..room).unwrap_or(line.as_bytes());
+    gives(rt, &place, &faults.taken.as_slice(), &front);
     Ok(())
 }
 
 #[test]
 fn a_failed_error_writer_has_a_front_of_the_line(rt: HostRuntime) -> Result<(), Fail> {
-    for (words, input, text, wanted, line) in PRINTED {
-        for step in STEPS {
-            for room in 0..=line.len().saturating_add(1) {
-                let mut output = Vec::new(rt.alloc());
-                let mut faults = Full::new(rt.alloc(), room, step);
-                let status = run(&rt, words, input.as_bytes(), &mut output, &mut faults)?;
-                assert_eq!(rt; status, wanted, "of {words:?} with room for {room}");
-                assert_eq!(rt; output.as_slice(), text.as_bytes(), "of {words:?}");
-                let front = line.as_bytes().get(..room).unwrap_or(line.as_bytes());
-                assert_eq!(rt; faults.taken.as_slice(), front, "of {words:?}");
+    for printed in &PRINTED {
+        for step in &STEPS {
+            for room in 0..=printed.4.len().saturating_add(1) {
+                expect_line(&rt, *printed, room, *step)?;
             }
         }
     }

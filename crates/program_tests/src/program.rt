@@ -1,5 +1,6 @@
 //! The program over words and a reader.
 
+use crate::looking::gives;
 use prepaid_command::command;
 use run_command::Unwatched;
 use std::alloc::{AllocError, Global};
@@ -40,25 +41,27 @@ where
     Ok(command(rt, words.as_slice(), input, &mut output, faults, &Unwatched))
 }
 
-/// Runs a line of words over a reader of this length, and compares the status and the fault.
-/// Nothing else is written.
-pub(crate) fn expect_refusal<
+/// Runs a line of words over a reader of this length, compares the status and the fault, and gives
+/// what is printed.
+pub(crate) fn expect_fault<
     R: Abort + AllocGlobal + Wait + Threads + Sync + Files<File = File>,
     I: Read + Drop,
->(rt: &R, line: &str, input: I, length: u64, want: (u8, &str)) -> Result<(), Fail> {
+>(rt: &R, line: &str, input: I, length: u64, want: (u8, &str)) -> Result<Vec<u8>, Fail> {
     let mut output = Vec::new(rt.alloc());
     let mut faults = Vec::new(rt.alloc());
     let status = run(rt, line, input, &mut output, &mut faults)?;
     let (wanted, fault) = want;
-    assert_eq!(rt;
-        (status, output.len()),
-        (wanted, 0),
-        "of {line:?} at {length}"
-    );
-    assert_eq!(rt;
-        faults.as_slice(),
-        fault.as_bytes(),
-        "of {line:?} at {length}"
-    );
+    let found = (status, faults.as_slice());
+    gives(rt, &(line, length), &found, &(wanted, fault.as_bytes()));
+    Ok(output)
+}
+
+/// The same, where nothing is printed.
+pub(crate) fn expect_refusal<
+    R: Abort + AllocGlobal + Wait + Threads + Sync + Files<File = File>,
+    I: Read + Drop,
+>(rt: &R, line: &str, input: I, length: u64, want: (u8, &str)) -> Result<(), Fail> {
+    let output = expect_fault(rt, line, input, length, want)?;
+    gives(rt, &(line, length), &output.len(), &0);
     Ok(())
 }

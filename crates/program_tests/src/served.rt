@@ -1,9 +1,12 @@
 //! The service on a pipe that fails.
 
 use crate::devices::Failing;
+use crate::looking::gives;
 use crate::outputs::expect_fronts;
-use crate::program::run;
+use crate::program::expect_fault;
+use std::alloc::Global;
 use std::io::ErrorKind;
+use std::process::Abort;
 use std::test::Fail;
 
 /// A tariff and a setup, each with its line `%%`.
@@ -74,32 +77,38 @@ fn answered(rows: &str) -> usize {
     printed
 }
 
+/// Compares what is printed of so many bytes: nothing up to the header of messages, and then the
+/// answers and a book.
+fn expect_answers(
+    rt: &impl Abort,
+    alloc: Global,
+    output: &[u8],
+    length: usize,
+) -> Result<(), Fail> {
+    let above = HEAD.len() + HEADER.len();
+    if length < above {
+        gives(rt, &length, &output.len(), &0);
+        return Ok(());
+    }
+    let rows = answered(CALL.get(..length - above).unwrap_or(""));
+    let answers = ANSWERED.get(..rows).unwrap_or("");
+    let front = format!(in alloc; "{HEADER}{answers}%%\naccount,")?;
+    gives(rt, &length, &output.starts_with(front.as_bytes()), &true);
+    Ok(())
+}
+
 #[test]
 fn a_failed_input_ends_the_run_with_its_books(rt: HostRuntime) -> Result<(), Fail> {
     let input = format!(in rt.alloc(); "{HEAD}{HEADER}{CALL}")?;
-    let above = HEAD.len() + HEADER.len();
     for length in 0..=input.len() {
         let bytes = input.as_bytes().get(..length).unwrap_or(&[]);
         let reader = Failing {
             bytes,
             kind: ErrorKind::Other,
         };
-        let mut output = Vec::new(rt.alloc());
-        let mut faults = Vec::new(rt.alloc());
-        let status = run(&rt, "serve --book", reader, &mut output, &mut faults)?;
-        assert_eq!(rt; status, 2, "after {length} bytes");
-        assert_eq!(rt; faults.as_slice(), b"prepaid: run: Device\n".as_slice());
-        if length < above {
-            assert_eq!(rt; output.len(), 0, "after {length} bytes");
-        } else {
-            let rows = answered(CALL.get(..length - above).unwrap_or(""));
-            let answers = ANSWERED.get(..rows).unwrap_or("");
-            let front = format!(in rt.alloc(); "{HEADER}{answers}%%\naccount,")?;
-            assert!(rt;
-                output.starts_with(front.as_bytes()),
-                "after {length} bytes"
-            );
-        }
+        let fault = (2, "prepaid: run: Device\n");
+        let output = expect_fault(&rt, "serve --book", reader, length as u64, fault)?;
+        expect_answers(&rt, rt.alloc(), output.as_slice(), length)?;
     }
     Ok(())
 }
