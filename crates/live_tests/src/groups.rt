@@ -1,6 +1,7 @@
 //! Lines that are at hand at once: they are logged together, and answered together. A live run
 //! that is given them by a switch at the other end, which waits for the answers to those before.
 
+use crate::looking::gives;
 use crate::talk::{Has, Kept, LOGGED, TALK, set_up_seven};
 use live_answers::{LiveFault, MAX_GROUP, Replay, answer_live};
 use std::alloc::Global;
@@ -46,7 +47,7 @@ fn is_printed(text: &[u8], lines: usize) -> bool {
 /// Whether a text is a front of what is printed of the talk.
 fn is_front(text: &[u8]) -> bool {
     let mut rest = text;
-    for (_, rows) in TALK {
+    for (_, rows) in &TALK {
         match rest.strip_prefix(rows.as_bytes()) {
             Some(behind) => rest = behind,
             None => return rows.as_bytes().starts_with(rest),
@@ -208,12 +209,14 @@ type Calls = ((usize, usize), (usize, usize));
 
 /// The whole talk is answered and logged, by so many calls, where that is said.
 fn expect_whole(rt: &impl Abort, served: &Served, calls: Option<Calls>) {
-    assert_eq!(rt; (served.fault, served.given), (None, 7));
-    assert!(rt; is_printed(served.output.text.as_slice(), TALK.len()));
-    assert_eq!(rt; served.log.text.as_slice(), LOGGED.as_bytes());
-    assert_eq!(rt; served.log.flushed, LOGGED.len());
+    gives(rt, &calls, &(served.fault, served.given), &(None, 7));
+    let is_whole = is_printed(served.output.text.as_slice(), TALK.len());
+    gives(rt, &calls, &is_whole, &true);
+    gives(rt, &calls, &served.log.text.as_slice(), &LOGGED.as_bytes());
+    gives(rt, &calls, &served.log.flushed, &LOGGED.len());
     if let Some(calls) = calls {
-        assert_eq!(rt; (served.output.calls, served.log.calls), calls);
+        let found = (served.output.calls, served.log.calls);
+        gives(rt, &"calls", &found, &calls);
     }
 }
 
@@ -229,14 +232,13 @@ fn flushes_lines_together_that_come_together(rt: HostRuntime) -> Result<(), Fail
 /// A log has a front of the lines that are accepted, and no more of it was flushed than it has.
 fn expect_log(rt: &impl Abort, served: &Served) {
     let text = served.log.text.as_slice();
-    assert!(rt; LOGGED.as_bytes().starts_with(text));
-    assert!(rt; served.log.flushed <= text.len());
+    assert!(rt; LOGGED.as_bytes().starts_with(text) && served.log.flushed <= text.len());
 }
 
 /// How many lines are printed once so many messages are accepted, and all that came before is
 /// answered.
 fn lines_printed(given: usize) -> Option<usize> {
-    for (messages, lines) in ANSWERED {
+    for &(messages, lines) in &ANSWERED {
         if messages == given {
             return Some(lines);
         }
@@ -246,10 +248,10 @@ fn lines_printed(given: usize) -> Option<usize> {
 
 /// A log that has failed after so many calls: all that came before is answered, and nothing else.
 fn expect_none(rt: &impl Abort, served: &Served, calls: usize) {
-    assert_eq!(rt; served.fault, Some(LiveFault::Log), "after {calls}");
+    gives(rt, &calls, &served.fault, &Some(LiveFault::Log));
     let text = served.output.text.as_slice();
     let is_answered = lines_printed(served.given).is_some_and(|lines| is_printed(text, lines));
-    assert!(rt; is_answered, "after {calls}");
+    gives(rt, &calls, &is_answered, &true);
     expect_log(rt, served);
 }
 
@@ -269,12 +271,9 @@ fn a_log_that_fails_among_lines_answers_none_of_them(rt: HostRuntime) -> Result<
 
 /// A log or an output that has failed after so many calls: what is printed and logged is a front.
 fn expect_end(rt: &impl Abort, served: &Served, fault: LiveFault, given: usize, calls: usize) {
-    assert_eq!(rt;
-        (served.fault, served.given),
-        (Some(fault), given),
-        "after {calls}"
-    );
-    assert!(rt; is_front(served.output.text.as_slice()), "after {calls}");
+    let found = (served.fault, served.given);
+    gives(rt, &calls, &found, &(Some(fault), given));
+    gives(rt, &calls, &is_front(served.output.text.as_slice()), &true);
     expect_log(rt, served);
 }
 
@@ -297,15 +296,12 @@ fn a_log_or_an_output_that_fails_ends_it(rt: HostRuntime) -> Result<(), Fail> {
 fn expect_answered(rt: &impl Abort, served: &Served, lines: usize) {
     let (output, log) = (served.output.text.as_slice(), served.log.text.as_slice());
     let found = (served.fault, served.given);
-    assert_eq!(rt;
-        found,
-        (Some(LiveFault::Input), lines_in(log)),
-        "after {lines}"
-    );
-    assert!(rt; is_printed(output, lines), "after {lines}");
+    let want = (Some(LiveFault::Input), lines_in(log));
+    gives(rt, &lines, &found, &want);
+    gives(rt, &lines, &is_printed(output, lines), &true);
     let flushed = (served.output.flushed, served.log.flushed);
-    assert_eq!(rt; flushed, (output.len(), log.len()), "after {lines}");
-    assert!(rt; served.log.calls.1 <= 1, "after {lines}");
+    gives(rt, &lines, &flushed, &(output.len(), log.len()));
+    gives(rt, &lines, &(served.log.calls.1 <= 1), &true);
 }
 
 #[test]
@@ -328,9 +324,10 @@ fn recharges(alloc: Global, count: usize) -> Result<Vec<u8>, Fail> {
 
 /// All that came at once is logged, and each writer has flushed three times.
 fn expect_groups(rt: &impl Abort, served: &Served, text: &[u8], count: usize) {
-    assert_eq!(rt; served.given, count);
+    gives(rt, &count, &served.given, &count);
     assert!(rt; served.log.text.as_slice() == text);
-    assert_eq!(rt; (served.output.calls.1, served.log.calls.1), (3, 3));
+    let flushes = (served.output.calls.1, served.log.calls.1);
+    gives(rt, &count, &flushes, &(3, 3));
 }
 
 #[test]

@@ -9,4 +9,6 @@ mod lines;
 #[cfg(test)]
 mod logs;
 #[cfg(test)]
+mod looking;
+#[cfg(test)]
 mod talk;

@@ -1,5 +1,6 @@
 //! A log whose lines are heard again.
 
+use crate::looking::gives;
 use crate::talk::Kept;
 use live_log::Skipping;
 use std::cell::Cell;
@@ -17,9 +18,10 @@ fn passes_over_what_is_there(rt: HostRuntime) -> Result<(), Fail> {
     log.flush()?;
     assert!(rt; log.write(b"tww").is_err());
     log.write_all(b"two\nthree\n")?;
-    assert_eq!(rt; flushed.get(), 0);
+    gives(&rt, &"flushed", &flushed.get(), &0);
     log.flush()?;
-    assert_eq!(rt; flushed.get(), 14);
-    assert_eq!(rt; kept.text.as_slice(), b"one\ntwo\nthree\n".as_slice());
+    gives(&rt, &"flushed", &flushed.get(), &14);
+    let text = b"one\ntwo\nthree\n".as_slice();
+    gives(&rt, &"kept", &kept.text.as_slice(), &text);
     Ok(())
 }
