@@ -1,6 +1,7 @@
 //! An account that one alone asks: by itself, or from a seat.
 
 use crate::asks::{Account as Looks, LIMIT, OPENING, Seen, Watched, are_all, ask_all, counted};
+use crate::closing;
 use crate::forms::two_seats;
 use crate::outcome::{Course, Outcome, expect};
 use account_core::{Account, AccountFault, AccountPort, Entry, Op, Port, Reply};
@@ -35,14 +36,14 @@ impl Watched for AccountPort {
 
 /// An account that is asked from a seat.
 #[derive(Drop)]
-pub(crate) struct SeatPort {
+struct SeatPort {
     account: Account,
     seat: Seat,
 }
 
 impl SeatPort {
     /// A new account, and the first seat of another one.
-    pub(crate) fn open<R>(rt: &R, alloc: Global) -> Result<SeatPort, Outcome> {
+    fn open<R>(rt: &R, alloc: Global) -> Result<SeatPort, Outcome> {
         let (_, seat, _) = two_seats::<SharedAccount, R>(rt, alloc)?;
         Ok(SeatPort {
             account: account(alloc),
@@ -84,6 +85,16 @@ pub(crate) fn applies_from_seat<R>(rt: &R, alloc: Global) -> Course {
     let outcome = ask_all(&mut port)?;
     expect(are_all(port.account.history(), 0) && are_all(port.seat.mine(), 0))?;
     Ok(outcome)
+}
+
+/// Closes a call of an account by itself.
+pub(crate) fn closes_a_call(alloc: Global) -> Course {
+    closing::closes(&mut AccountPort::new(account(alloc), 0))
+}
+
+/// Closes a call of an account from a seat.
+pub(crate) fn closes_a_call_from_seat<R>(rt: &R, alloc: Global) -> Course {
+    closing::closes(&mut SeatPort::open(rt, alloc)?)
 }
 
 /// Checks the history of an account, which is legal, and is so after its own opening alone.

@@ -148,7 +148,7 @@ fn are_first(entries: &[Entry], seat: u32) -> bool {
 
 /// What is seen of an account: how many entries it has, the last one, the credit that is left, and
 /// what calls 1 and 2 have paid.
-#[derive(Clone, Copy, Debug, PartialEq, Eq)]
+#[derive(Clone, Copy, PartialEq, Eq)]
 pub(crate) struct Account {
     pub entries: (usize, Option<Entry>),
     pub available: u64,
@@ -157,7 +157,7 @@ pub(crate) struct Account {
 
 /// What is seen from outside: the account, where nobody shares it, and the entries of the seat that
 /// asks, where it has a list of its own: how many there are, and the last one.
-#[derive(Clone, Copy, Debug, PartialEq, Eq)]
+#[derive(Clone, Copy, PartialEq, Eq)]
 pub(crate) struct Seen {
     pub account: Option<Account>,
     pub mine: Option<(usize, Option<Entry>)>,

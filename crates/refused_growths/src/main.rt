@@ -18,10 +18,7 @@ mod sharing;
 mod tariffs;
 mod workers;
 
-use crate::accounts::{SeatPort, account};
 use crate::outcome::{Course, Outcome};
-use crate::sharing::Desk;
-use account_core::AccountPort;
 use shared_account::{SharedAccount, TurnAccount};
 use std::process::ExitCode;
 use std::sync::Wait;
@@ -151,9 +148,9 @@ fn make<R: AllocGlobal + Threads + Wait + Sync>(rt: &R, call: Call) -> Course {
         Call::Serve => runs::serves(rt, alloc),
         Call::Round => runs::plays(alloc),
         Call::Drive => driven::drives(alloc),
-        Call::CloseByAccount => closing::closes(&mut AccountPort::new(account(alloc), 0)),
-        Call::CloseBySeat => closing::closes(&mut SeatPort::open(rt, alloc)?),
-        Call::CloseByLock => closing::closes(&mut Desk::<SharedAccount, R>::open(rt, alloc)?),
-        Call::CloseByTurns => closing::closes(&mut Desk::<TurnAccount, R>::open(rt, alloc)?),
+        Call::CloseByAccount => accounts::closes_a_call(alloc),
+        Call::CloseBySeat => accounts::closes_a_call_from_seat(rt, alloc),
+        Call::CloseByLock => sharing::closes_a_call::<SharedAccount, R>(rt, alloc),
+        Call::CloseByTurns => sharing::closes_a_call::<TurnAccount, R>(rt, alloc),
     }
 }

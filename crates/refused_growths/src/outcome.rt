@@ -13,7 +13,7 @@ use tariff_core::{TariffFault, TariffKind};
 use workers_core::WorkerFault;
 
 /// How a call went. It is the program's exit status.
-#[derive(Clone, Copy, Debug, PartialEq, Eq)]
+#[derive(Clone, Copy, PartialEq, Eq)]
 pub(crate) enum Outcome {
     /// It answered as with memory.
     Answered = 0,

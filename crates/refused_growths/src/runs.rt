@@ -7,13 +7,13 @@ use crate::forms::NUMBER;
 use crate::outcome::{Course, Outcome, expect};
 use crate::service::{SWITCH, answered, begun, hung_up, last_report, of_call, ops_for};
 use crate::workers::{lasting, set_up};
-use account_core::{AccountFault, Entry, Reply};
+use account_core::{AccountFault, Reply};
 use cap_values::SsfMsg;
 use run_texts::read_script;
 use run_values::{Answer, Body, Directory};
 use runs_core::{Driver, handled, serve};
 use script_player::ScriptPlayer;
-use shared_account::OpenGate;
+use shared_account::{Book, OpenGate};
 use std::alloc::{AllocError, Global};
 use std::sync::Wait;
 use std::thread::Threads;
@@ -62,10 +62,7 @@ pub(crate) fn serves<R: Wait + Threads + Sync>(rt: &R, alloc: Global) -> Course 
     };
     let books = serve(rt, alloc, &setup, &mut hearing, 2, &OpenGate)?;
     expect(are_handled(alloc, &hearing)?)?;
-    match books.as_slice() {
-        [book] => outcome_of(book.history(), hearing.refused),
-        _ => Err(Outcome::Wrong),
-    }
+    outcome_of(books.as_slice(), hearing.refused)
 }
 
 /// Whether the two workers have as many posts as were given.
@@ -120,7 +117,11 @@ fn refused_in(answers: &[Answer]) -> Option<AccountFault> {
 
 /// The call has its entries, and no refusal; or, where there was no memory for its grant, none, and
 /// a refusal that says so.
-fn outcome_of(entries: &[Entry], refused: Option<AccountFault>) -> Course {
+fn outcome_of(books: &[Book], refused: Option<AccountFault>) -> Course {
+    let entries = match books {
+        [book] => book.history(),
+        _ => return Err(Outcome::Wrong),
+    };
     if entries.is_empty() {
         expect(refused == Some(AccountFault::OutOfMemory))?;
         return Ok(Outcome::Refused);
@@ -178,6 +179,15 @@ pub(crate) fn plays(alloc: Global) -> Course {
     let items = sent()?;
     let mut player = player(alloc)?;
     let played = play(alloc, &mut player);
+    outcome_of_play(&items, &player, played)
+}
+
+/// How the script was played.
+fn outcome_of_play(
+    items: &[(u64, Body)],
+    player: &ScriptPlayer,
+    played: Result<(), Outcome>,
+) -> Course {
     expect(items.starts_with(player.given()))?;
     played?;
     expect(player.ended() && player.given().len() == items.len())?;

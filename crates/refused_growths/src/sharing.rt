@@ -4,6 +4,7 @@ ghost use Rattle.std.specs.Prelude.{◌≡◌, IfOk};
 ghost use Rattle.std.specs.Coded.{Coded-set};
 
 use crate::asks::{OPENING, Seen, Watched, are_all, ask_all, counted};
+use crate::closing;
 use crate::forms::{Form, NUMBER, close, two_seats};
 use crate::outcome::{Course, Outcome, expect};
 use account_core::{AccountFault, CallSum, Fate, Op, Port, Reply};
@@ -13,7 +14,7 @@ use std::sync::Wait;
 
 /// A shared account with its two seats. It is asked from the first one.
 #[derive(Drop)]
-pub(crate) struct Desk<'a, S: Form, R: Wait> {
+struct Desk<'a, S: Form, R: Wait> {
     rt: &'a R,
     account: S,
     first: S::Seat,
@@ -26,7 +27,7 @@ pub(crate) struct Desk<'a, S: Form, R: Wait> {
 
 impl<'a, S: Form, R: Wait> Desk<'a, S, R> {
     /// A new account.
-    pub(crate) fn open(rt: &'a R, alloc: Global) -> Result<Desk<'a, S, R>, Outcome> {
+    fn open(rt: &'a R, alloc: Global) -> Result<Desk<'a, S, R>, Outcome> {
         let (account, first, second) = two_seats::<S, R>(rt, alloc)?;
         Ok(Desk {
             rt,
@@ -73,12 +74,13 @@ impl<S: Form, R: Wait> Watched for Desk<'_, S, R> {
 /// Opens an account.
 pub(crate) fn opens<S: Form, R>(rt: &R, alloc: Global) -> Course {
     let (_, first, second) = two_seats::<S, R>(rt, alloc)?;
-    for seat in [&first, &second] {
-        if let Some(mine) = S::mine(seat) {
-            expect(mine.is_empty())?;
-        }
-    }
+    expect(is_new::<S>(&first) && is_new::<S>(&second))?;
     Ok(Outcome::Answered)
+}
+
+/// Whether a seat keeps no entries.
+fn is_new<S: Form>(seat: &S::Seat) -> bool {
+    matches!(S::mine(seat), None | Some([]))
 }
 
 /// The book of an account that was asked all.
@@ -91,9 +93,16 @@ fn book_of<S: Form, R: Wait>(rt: &R, alloc: Global) -> Result<(Book, Outcome), O
 /// Asks an account from a seat, and closes it. The book has what was answered, and nothing else.
 pub(crate) fn asks<S: Form, R: Wait>(rt: &R, alloc: Global) -> Course {
     let (book, outcome) = book_of::<S, R>(rt, alloc)?;
-    expect(book.account() == NUMBER && book.opening() == OPENING)?;
-    expect(are_all(book.history(), 0) && are_of_first(&book))?;
+    expect(has_all(&book))?;
     Ok(outcome)
+}
+
+/// Whether a book has all that was asked from the first seat.
+fn has_all(book: &Book) -> bool {
+    book.account() == NUMBER
+        && book.opening() == OPENING
+        && are_all(book.history(), 0)
+        && are_of_first(book)
 }
 
 /// Whether the first seat has made all entries.
@@ -106,6 +115,11 @@ fn are_of_first(book: &Book) -> bool {
         }
     }
     own.next().is_none() && book.own(1).next().is_none()
+}
+
+/// Closes a call that was granted, though all memory is gone.
+pub(crate) fn closes_a_call<S: Form, R: Wait>(rt: &R, alloc: Global) -> Course {
+    closing::closes(&mut Desk::<S, R>::open(rt, alloc)?)
 }
 
 /// Closes an account that nobody has asked.

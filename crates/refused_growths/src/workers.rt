@@ -13,7 +13,7 @@ use crate::service::{
 };
 use account_core::AccountFault;
 use cap_values::{Cause, Number, ScfOp, SsfMsg};
-use run_values::{Body, OpeningCredit, Post, RunSetup};
+use run_values::{Answer, Body, OpeningCredit, Post, RunSetup};
 use shared_account::{OpenGate, Seat, SharedAccount};
 use std::alloc::Global;
 use std::sync::Wait;
@@ -58,8 +58,15 @@ fn set_up_with(alloc: Global, accounts: &[(u32, OpeningCredit)]) -> Result<RunSe
 }
 
 /// A setup of account 7 alone.
-pub(crate) fn set_up(alloc: Global) -> Result<RunSetup, Outcome> {
-    set_up_with(alloc, &[(NUMBER, lasting(OPENING))])
+pub(crate) fn set_up(alloc: Global) -> Result<RunSetup, Outcome>
+    ensures { IfOk result (λ setup. keys_of setup.accounts ≡ 7 ∷ []) }
+{
+    let setup = set_up_with(alloc, &[(NUMBER, lasting(OPENING))])?;
+    if has_seven(&setup) {
+        Ok(setup)
+    } else {
+        Err(Outcome::Wrong)
+    }
 }
 
 /// Makes a setup of some accounts.
@@ -147,11 +154,38 @@ struct Row {
     refused: Option<Says>,
 }
 
+/// A post that takes no memory.
+fn never_refused(body: Body, says: Says, entries: usize) -> Row {
+    Row {
+        body,
+        says,
+        entries,
+        refused: None,
+    }
+}
+
 /// How many entries the worker's seat has.
 fn entries_of(worker: &Worker<'_, SharedAccount>) -> usize {
     match worker.seats().first() {
         Some(seat) => seat.mine().len(),
         None => 0,
+    }
+}
+
+/// How a post went, by its answer and how many entries it has made.
+fn outcome_of(answer: &Answer, number: u64, row: Row, entered: usize) -> Course {
+    expect(answer.number == number && !answer.stray)?;
+    let ops = answer.ops.as_slice();
+    match (answer.refused, row.refused) {
+        (None, _) => {
+            expect(row.says.is_said(ops)? && entered == row.entries)?;
+            Ok(Outcome::Answered)
+        }
+        (Some(AccountFault::OutOfMemory), Some(says)) => {
+            expect(says.is_said(ops)? && entered == 0)?;
+            Ok(Outcome::Refused)
+        }
+        _ => Err(Outcome::Wrong),
     }
 }
 
@@ -168,26 +202,15 @@ fn handle<R: Wait>(rt: &R, worker: &mut Worker<'_, SharedAccount>, number: u64, 
         at: 0,
         body: row.body,
     };
-    let answer = match worker.handle(rt, post, &OpenGate) {
-        Ok(answer) => answer,
+    match worker.handle(rt, post, &OpenGate) {
+        Ok(answer) => {
+            let entered = entries_of(worker).saturating_sub(before);
+            outcome_of(&answer, number, row, entered)
+        }
         Err(fault) => {
             expect(entries_of(worker) == before)?;
-            return Err(Outcome::from(fault));
+            Err(Outcome::from(fault))
         }
-    };
-    expect(answer.number == number && !answer.stray)?;
-    let ops = answer.ops.as_slice();
-    let entered = entries_of(worker).saturating_sub(before);
-    match (answer.refused, row.refused) {
-        (None, _) => {
-            expect(row.says.is_said(ops)? && entered == row.entries)?;
-            Ok(Outcome::Answered)
-        }
-        (Some(AccountFault::OutOfMemory), Some(says)) => {
-            expect(says.is_said(ops)? && entered == 0)?;
-            Ok(Outcome::Refused)
-        }
-        _ => Err(Outcome::Wrong),
     }
 }
 
@@ -219,9 +242,6 @@ fn is_released(handled: Outcome, row: &Row) -> bool {
 /// Handles posts by one worker, and is handed back its seat.
 fn handle_all<R: Wait>(rt: &R, alloc: Global, rows: &[Row]) -> Course {
     let setup = set_up(alloc)?;
-    if !has_seven(&setup) {
-        return Err(Outcome::Wrong);
-    }
     let (account, seats) = account_seven(rt, alloc)?;
     let accounts = [account];
     let mut worker = Worker::new(alloc, 1, &setup, &accounts, seats)?;
@@ -243,17 +263,11 @@ pub(crate) fn handles_a_call<R: Wait>(rt: &R, alloc: Global) -> Course {
         entries: 1,
         refused: Some(Says::Releases),
     };
-    let row = |body, says, entries| Row {
-        body,
-        says,
-        entries,
-        refused: None,
-    };
     let rows = [
         begins,
-        row(last_report(), Says::Nothing, 2),
-        row(hung_up(), Says::GoesOn, 0),
-        row(of_call(SsfMsg::Ended), Says::Nothing, 0),
+        never_refused(last_report(), Says::Nothing, 2),
+        never_refused(hung_up(), Says::GoesOn, 0),
+        never_refused(of_call(SsfMsg::Ended), Says::Nothing, 0),
     ];
     handle_all(rt, alloc, &rows)
 }
