@@ -2,14 +2,14 @@
 //! refused.
 
 use crate::looking::gives;
-use crate::messages::{Round, Say, bodies_of};
+use crate::messages::{Round, Say};
 use crate::rounds::{Heard, Rounds};
-use crate::runs::{ONE, play, set_up_two};
+use crate::runs::{ONE, play, stage};
 use account_core::{AccountFault, MIN_LIMIT};
 use arrayvec::ArrayVec;
 use call_records::{call_table, records};
 use moment_texts::Clock;
-use run_values::{Answer, RunSetup};
+use run_values::{Answer, Post, RunSetup};
 use runs_core::{Driver, handled, refusals};
 use shared_account::{Book, OpenGate, TurnAccount};
 use std::alloc::{AllocError, Global};
@@ -87,6 +87,21 @@ fn answers_of(alloc: Global, heard: &[Heard]) -> Result<Vec<Answer>, AllocError>
     Ok(answers)
 }
 
+/// Compares the refusals of the posts of two workers, and how many posts each has.
+fn expect_lists(
+    rt: &impl Abort,
+    found: &[Vec<Option<AccountFault>>],
+    shares: &[Vec<Post>],
+    of_first: &[Option<AccountFault>],
+    of_second: &[Option<AccountFault>],
+) {
+    assert!(rt; found.len() == 2 && shares.len() == 2);
+    gives(rt, &0, &found[0].as_slice(), &of_first);
+    gives(rt, &1, &found[1].as_slice(), &of_second);
+    gives(rt, &0, &shares[0].len(), &of_first.len());
+    gives(rt, &1, &shares[1].len(), &of_second.len());
+}
+
 /// Compares the refusals of two workers with those that the answers say.
 fn expect_refusals(
     rt: &impl Abort,
@@ -99,11 +114,7 @@ fn expect_refusals(
     assert!(rt; answers.len() == driver.given().len());
     let found = refusals(alloc, 2, driver.given(), answers.as_slice())?;
     let shares = handled(alloc, 2, driver.given())?;
-    assert!(rt; found.len() == 2 && shares.len() == 2);
-    gives(rt, &0, &found[0].as_slice(), &of_first);
-    gives(rt, &1, &found[1].as_slice(), &of_second);
-    gives(rt, &0, &shares[0].len(), &of_first.len());
-    gives(rt, &1, &shares[1].len(), &of_second.len());
+    expect_lists(rt, found.as_slice(), shares.as_slice(), of_first, of_second);
     Ok(())
 }
 
@@ -111,19 +122,18 @@ fn expect_refusals(
 fn expect_row<R: Abort + Threads + Wait + Sync>(
     rt: &R,
     alloc: Global,
-    row: Row,
+    row: &Row,
 ) -> Result<(), Fail> {
-    let (limit, rounds, of_first, of_second) = row;
-    let setup = set_up_two(alloc, 7, limit)?;
-    let bodies = bodies_of(alloc, rounds)?;
-    let (_, driver) = play::<TurnAccount, _, _>(rt, alloc, &setup, bodies.as_slice(), &OpenGate)?;
+    let &(limit, rounds, of_first, of_second) = row;
+    let staged = stage(alloc, 7, limit, rounds)?;
+    let (_, driver) = play::<TurnAccount, _, _>(rt, alloc, &staged, &OpenGate)?;
     expect_refusals(rt, alloc, &driver, of_first, of_second)
 }
 
 #[test]
 fn refusals_stand_beside_the_posts(rt: HostRuntime) -> Result<(), Fail> {
     for row in &ROWS {
-        expect_row(&rt, rt.alloc(), *row)?;
+        expect_row(&rt, rt.alloc(), row)?;
     }
     Ok(())
 }
@@ -158,14 +168,7 @@ fn expect_records(
 #[test]
 fn records_say_what_no_script_makes(rt: HostRuntime) -> Result<(), Fail> {
     let alloc = rt.alloc();
-    let setup = set_up_two(alloc, 7, MIN_LIMIT)?;
-    let bodies = bodies_of(alloc, &CALLS)?;
-    let (books, driver) = play::<TurnAccount, _, _>(
-        &rt,
-        alloc,
-        &setup,
-        bodies.as_slice(),
-        &OpenGate,
-    )?;
-    expect_records(&rt, alloc, &setup, &driver, books.as_slice())
+    let staged = stage(alloc, 7, MIN_LIMIT, &CALLS)?;
+    let (books, driver) = play::<TurnAccount, _, _>(&rt, alloc, &staged, &OpenGate)?;
+    expect_records(&rt, alloc, &staged.setup, &driver, books.as_slice())
 }

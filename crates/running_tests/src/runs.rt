@@ -25,10 +25,29 @@ const TWO: &str = "491700002";
 
 /// Accounts 7 and 8 with histories of this limit, a subscriber of account 7, and another one of the
 /// account `second`.
-pub(crate) fn set_up_two(alloc: Global, second: u32, limit: u32) -> Result<RunSetup, Fail> {
+fn set_up_two(alloc: Global, second: u32, limit: u32) -> Result<RunSetup, Fail> {
     let subscribers = [(Number::new(ONE)?, 7), (Number::new(TWO)?, second)];
     let accounts = [(7, 1500), (8, 1500)];
     Ok(set_up(alloc, TABLE, &accounts, &subscribers, limit)??)
+}
+
+/// A run that is to be played: its setup, and the bodies of its rounds.
+#[derive(Drop)]
+pub(crate) struct Staged {
+    pub setup: RunSetup,
+    pub bodies: Vec<(Body, Option<Body>)>,
+}
+
+/// Stages rounds over those accounts.
+pub(crate) fn stage(
+    alloc: Global,
+    second: u32,
+    limit: u32,
+    rounds: &[Round],
+) -> Result<Staged, Fail> {
+    let setup = set_up_two(alloc, second, limit)?;
+    let bodies = bodies_of(alloc, rounds)?;
+    Ok(Staged { setup, bodies })
 }
 
 /// A run that has ended well: its books, and the driver, which has heard of it.
@@ -38,12 +57,11 @@ pub(crate) type Played<'a> = (Vec<Book>, Rounds<'a>);
 pub(crate) fn play<'a, S: Shared, R: Wait + Threads + Sync, G: Gate + Sync>(
     rt: &R,
     alloc: Global,
-    setup: &RunSetup,
-    rounds: &'a [(Body, Option<Body>)],
+    staged: &'a Staged,
     gate: &G,
 ) -> Result<Played<'a>, RunFault> {
-    let mut driver = Rounds::new(alloc, rounds);
-    let books = serve_over::<_, S, _, _>(rt, alloc, setup, &mut driver, 2, gate)?;
+    let mut driver = Rounds::new(alloc, staged.bodies.as_slice());
+    let books = serve_over::<_, S, _, _>(rt, alloc, &staged.setup, &mut driver, 2, gate)?;
     Ok((books, driver))
 }
 
@@ -281,12 +299,11 @@ pub(crate) fn expect_entries(
 fn expect_row<S: Shared, R: Abort + Wait + Threads + Sync>(
     rt: &R,
     alloc: Global,
-    row: Row,
+    row: &Row,
 ) -> Result<(), Fail> {
-    let (limit, rounds, answered, replies, is_one_call) = row;
-    let setup = set_up_two(alloc, 7, limit)?;
-    let bodies = bodies_of(alloc, rounds)?;
-    let (books, driver) = play::<S, _, _>(rt, alloc, &setup, bodies.as_slice(), &OpenGate)?;
+    let &(limit, rounds, answered, replies, is_one_call) = row;
+    let staged = stage(alloc, 7, limit, rounds)?;
+    let (books, driver) = play::<S, _, _>(rt, alloc, &staged, &OpenGate)?;
     expect_heard(rt, driver.heard(), answered, limit);
     expect_entries(rt, entries_of(books.as_slice()), replies, is_one_call);
     Ok(())
@@ -295,8 +312,8 @@ fn expect_row<S: Shared, R: Abort + Wait + Threads + Sync>(
 #[test]
 fn posts_are_answered_and_entered(rt: HostRuntime) -> Result<(), Fail> {
     for row in &ROWS {
-        expect_row::<TurnAccount, _>(&rt, rt.alloc(), *row)?;
-        expect_row::<SharedAccount, _>(&rt, rt.alloc(), *row)?;
+        expect_row::<TurnAccount, _>(&rt, rt.alloc(), row)?;
+        expect_row::<SharedAccount, _>(&rt, rt.alloc(), row)?;
     }
     Ok(())
 }
@@ -312,9 +329,8 @@ fn play_past<R: Wait + Threads + Sync, G: Gate + Sync>(
     rounds: &[Round],
     gate: &G,
 ) -> Result<Result<Counts, RunFault>, Fail> {
-    let setup = set_up_two(alloc, second, 1000)?;
-    let bodies = bodies_of(alloc, rounds)?;
-    match play::<TurnAccount, _, _>(rt, alloc, &setup, bodies.as_slice(), gate) {
+    let staged = stage(alloc, second, 1000, rounds)?;
+    match play::<TurnAccount, _, _>(rt, alloc, &staged, gate) {
         Ok((books, _)) => Ok(Ok(counts_of(books.as_slice()))),
         Err(fault) => Ok(Err(fault)),
     }

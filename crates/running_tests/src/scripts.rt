@@ -70,8 +70,8 @@ const ROWS: [Row; 3] = [
 ];
 
 /// Compares the entries of account 7, and what its only call came to.
-fn expect_book(rt: &impl Abort, alloc: Global, books: &[Book], row: Row) -> Result<(), Fail> {
-    let (limit, replies, paid) = row;
+fn expect_book(rt: &impl Abort, alloc: Global, books: &[Book], row: &Row) -> Result<(), Fail> {
+    let &(limit, replies, paid) = row;
     expect_entries(rt, entries_of(books), replies, true);
     let sum = CallSum {
         call: 1,
@@ -89,7 +89,7 @@ fn expect_book(rt: &impl Abort, alloc: Global, books: &[Book], row: Row) -> Resu
 fn serves_within<R: Abort + Threads + Wait + Sync>(
     rt: &R,
     alloc: Global,
-    row: Row,
+    row: &Row,
 ) -> Result<(), Fail> {
     let gate = Shutting::new(ALWAYS, ALWAYS);
     let books = serve_script(rt, alloc, UNENDED, row.0, &gate)??;
@@ -115,7 +115,7 @@ fn ends_past<R: Abort + Threads + Wait + Sync>(
 #[test]
 fn scripts_are_served_within_limits_and_past_gates(rt: HostRuntime) -> Result<(), Fail> {
     for row in &ROWS {
-        serves_within(&rt, rt.alloc(), *row)?;
+        serves_within(&rt, rt.alloc(), row)?;
     }
     for &(before, inside) in &SHUT {
         ends_past(&rt, rt.alloc(), before, inside)?;

@@ -141,14 +141,14 @@ fn handle<R: Abort + Wait>(
     rt: &R,
     worker: &mut Worker<'_, SharedAccount>,
     number: u64,
-    row: Row,
+    row: &Row,
 ) -> Result<(), Fail>
     requires { IsReady (λ account. account.number) (λ account. account.number)
         seat_reads worker.old }
     ensures { OnOk result (IsReady (λ account. account.number) (λ account. account.number)
         seat_reads worker.new) }
 {
-    let (say, sends, stray, refused, credit) = row;
+    let &(say, sends, stray, refused, credit) = row;
     let answer = worker.handle(rt, post(number, body_of(say)?), &OpenGate)?;
     let found = (answer.number, answer.stray, answer.refused);
     gives(rt, &number, &found, &(number, stray, refused));
@@ -172,7 +172,7 @@ fn handle_rows<R: Abort + Wait>(
 {
     let mut number = 0u64;
     for row in rows {
-        handle(rt, worker, number, *row)?;
+        handle(rt, worker, number, row)?;
         number = number.saturating_add(1);
     }
     Ok(())
