@@ -9,7 +9,7 @@ use crate::histories::{RUNS, Row, Run};
 use crate::looking::gives;
 use account_core::{Account, AccountFault, Op, Port};
 use shared_account::{
-    Book, CloseFault, Gate, OpenGate, Seat, Shared, SharedAccount, SharedPort, Summary, TurnAccount,
+    Book, CloseFault, Gate, OpenGate, Seat, Shared, SharedAccount, SharedPort, TurnAccount,
 };
 use std::alloc::Global;
 use std::process::Abort;
@@ -120,12 +120,14 @@ fn expect_terms(rt: &impl Abort, book: &Book, run: &Run) {
 }
 
 /// Compares what a book sums up to.
-fn expect_summary(rt: &impl Abort, summary: &Summary, run: &Run) {
+fn expect_summary(rt: &impl Abort, alloc: Global, book: &Book, run: &Run) -> Result<(), Fail> {
     let (opening, _, _, _, made, available, calls) = run;
+    let summary = book.summary(alloc)?;
     let found = (summary.account, summary.opening, summary.available);
     gives(rt, made, &found, &(1, *opening, *available));
     gives(rt, made, &summary.entries, &made.0.saturating_add(made.1));
     gives(rt, made, &summary.calls.as_slice(), calls);
+    Ok(())
 }
 
 /// Compares the book of an account of a form, and what it sums up to.
@@ -134,8 +136,7 @@ fn sums_up<S: Shared, R: Abort + Wait>(rt: &R, alloc: Global, run: &Run) -> Resu
     assert!(rt; *opening <= MAX_MONEY);
     let book = book_of::<S, R>(rt, alloc, (*opening, *until, *limit), rows)?;
     expect_terms(rt, &book, run);
-    expect_summary(rt, &book.summary(alloc)?, run);
-    Ok(())
+    expect_summary(rt, alloc, &book, run)
 }
 
 #[test]
@@ -166,12 +167,14 @@ const KEPT: [(Ask, Said); 4] = [
     (Ask::Return(1), Said::Refused(AccountFault::NotOpen)),
 ];
 
-/// Asks an account from a seat.
+/// Asks an account from a seat, which keeps what it has entered.
 fn ask_from(rt: &impl Abort, seat: &mut Seat, account: &mut Account) {
     for &(ask, want) in &KEPT {
         let op = op_of(ask);
         says(rt, op, seat.apply_to(account, op), want);
     }
+    gives(rt, &"entries", &seat.mine().len(), &3);
+    gives(rt, &"entries", &seat.mine(), &account.history());
 }
 
 /// A seat keeps what it enters into an account of its own.
@@ -180,8 +183,6 @@ fn keeps_its_entries(rt: &impl Abort, alloc: Global) -> Result<(), Fail> {
     gives(rt, &"seats", &(seat.number(), other.number()), &(0, 1));
     let mut account = Account::new(alloc, 1500, None, 100);
     ask_from(rt, &mut seat, &mut account);
-    gives(rt, &"entries", &seat.mine().len(), &3);
-    gives(rt, &"entries", &seat.mine(), &account.history());
     Ok(())
 }
 

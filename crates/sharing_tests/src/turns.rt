@@ -106,13 +106,18 @@ fn credit_both<R: Threads + Wait + Sync, G: Gate + Sync>(
     )
 }
 
+/// Compares the book of an account that was credited 50 times from each seat.
+fn expect_credited(rt: &impl Abort, alloc: Global, book: &Book) -> Result<(), Fail> {
+    gives(rt, &"of each", &entries_of_each(book), &(50, 50));
+    gives(rt, &"entries", &book.history().len(), &100);
+    gives(rt, &"credit", &book.summary(alloc)?.available, &100);
+    Ok(())
+}
+
 #[test]
 fn lets_one_thread_in_at_a_time(rt: HostRuntime) -> Result<(), Fail> {
     let (account, first, second) = two_seats::<TurnAccount, _>(&rt, rt.alloc(), 1, 0, None)?;
     let (first, second) = credit_both(&rt, &account, first, second, 50, &SlowGate);
     let book = close(rt.alloc(), account, first, second)??;
-    gives(&rt, &"of each", &entries_of_each(&book), &(50, 50));
-    gives(&rt, &"entries", &book.history().len(), &100);
-    gives(&rt, &"credit", &book.summary(rt.alloc())?.available, &100);
-    Ok(())
+    expect_credited(&rt, rt.alloc(), &book)
 }
