@@ -4,8 +4,8 @@
 The crate is prepaid where none is named, and its program comes into crates/prepaid/out.
 
 `rt` proves the libraries below a crate one after another, and keeps their proofs, which each crate above loads again.
-This gives all processors to the longest chain of crates, what they leave to the other crates, and keeps of a library
-what crates above can name, its statements, as the gate does. A library is proved from nothing where its files or those
+This gives two processors to the longest chain of crates, those that it leaves to the other crates, and keeps of a
+library what crates above can name, its statements, as the gate does. A library is proved from nothing where its files or those
 of a library below have changed. `rt` finds each where it keeps its own. JOBS says how many processors there are.
 """
 import copy
@@ -19,8 +19,12 @@ from concurrent.futures import FIRST_COMPLETED, ThreadPoolExecutor, wait
 ROOT = os.path.dirname(os.path.dirname(os.path.abspath(__file__)))
 # More jobs on one crate than these take more time of the processors and end hardly sooner.
 MOST_JOBS = 4
+# The next crate of the longest chain has these at least. Each job more on a crate costs some 10 % of its time.
+CHAIN_JOBS = 2
 # As many lines of code take as long as what is done of a library before its first function.
 FIRST_LINES = 200
+# How long a line of these takes, in lines elsewhere: threads over accounts of any form have the dearest proofs.
+DEAR_LINES = {"runs_core": 3}
 # The niceness of a crate with nothing behind it; those of the longest chain have none.
 NICENESS = 19
 sys.path.insert(0, os.path.dirname(os.path.realpath(shutil.which("rt") or sys.exit("rt isn't there"))))
@@ -51,12 +55,12 @@ rtlib.Crate.stamp = stamp
 
 def lines_of(library):
     """How long a library takes, in lines of code. Definitions and proofs say less of that."""
-    count = FIRST_LINES
+    count = 0
     for file in rtlib.files_of(library.folder):
         if file.endswith(".rt"):
             with open(file, "rb") as it:
                 count += it.read().count(b"\n")
-    return count
+    return FIRST_LINES + count * DEAR_LINES.get(library.name, 1)
 
 
 def work_behind(libraries):
@@ -115,16 +119,18 @@ def prove(libraries, processors):
     """Proves the libraries, each once those that it uses are proved. Whether all are."""
     behind, left, running, proved = work_behind(libraries), list(libraries), {}, set()
     most = min(MOST_JOBS, processors)
-    with ThreadPoolExecutor(processors) as pool:
+    with ThreadPoolExecutor(len(libraries) or 1) as pool:
         while left or running:
             ready = sorted((it for it in left if proved.issuperset(it.below())), key=behind.get, reverse=True)
             longest = max(map(behind.get, left), default=0)
-            share = max(1, min(most, processors // max(1, len(ready) + len(running))))
-            for it in ready[: processors - len(running)]:
-                # All processors are for the longest chain, unless one of its crates has them.
-                is_next = behind[it] == longest and all(jobs < most for _, jobs in running.values())
-                # So they are for the last two, beside which the others end soon.
-                jobs = most if is_next or len(left) <= 2 else share
+            for place, it in enumerate(ready, 1):
+                idle = processors - sum(jobs for _, jobs in running.values())
+                # The longest chain waits for no processor.
+                is_next = behind[it] == longest
+                if idle <= 0 and not is_next:
+                    break
+                # The others get the processors that no other library waits for.
+                jobs = max(min(most, CHAIN_JOBS) if is_next else 1, min(most, idle - (len(ready) - place)))
                 niceness = 0 if is_next else NICENESS * (longest - behind[it]) // longest
                 running[pool.submit(build, it, jobs, niceness)] = it, jobs
                 left.remove(it)
