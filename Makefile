@@ -12,8 +12,7 @@ HELD := serve dist docs explain words report pipe into divide program
 .PHONY: test-edits test-tries test-prove test-growths test-random $(HELD:%=test-%)
 
 # Proves what is below the program, several crates at once, and builds bin/prepaid; out/proved/prepaid says by which
-# toolchain. A process takes 0.7 to 3.5 GB; with four processors it took 6 GB in all, before
-# the last two libraries got all processors.
+# toolchain. A process takes 0.7 to 3.5 GB; with four processors it took 6.4 GB in all.
 all: bin/prepaid
 
 bin/prepaid: $(SOURCES)

@@ -4,9 +4,10 @@
 The crate is prepaid where none is named, and its program comes into crates/prepaid/out.
 
 `rt` proves the libraries below a crate one after another, and keeps their proofs, which each crate above loads again.
-This gives two processors to the longest chain of crates, those that it leaves to the other crates, and keeps of a
-library what crates above can name, its statements, as the gate does. A library is proved from nothing where its files or those
-of a library below have changed. `rt` finds each where it keeps its own. JOBS says how many processors there are.
+This gives the longest chain of crates two processors at least, each other crate those that no further one waits for, and
+keeps of a library what crates above can name, its statements, as the gate does. A library is proved from nothing where
+its files or those of a library below have changed. `rt` finds each where it keeps its own. JOBS says how many processors
+there are.
 """
 import copy
 import os
