@@ -5,8 +5,7 @@ ghost use Rattle.tariff_core.specs.declared.times.TheConstants.{HORIZON};
 ghost use Rattle.run_values.specs.declared.post.Body.TheVariants as body;
 
 use cap_values::{Charge, Event, Leg, Mode, Number, ScfOp, SsfMsg};
-use run_values::{Answer, Body};
-use runs_core::Driver;
+use run_values::{Answer, Body, Driver};
 use std::alloc::{AllocError, Global};
 use tariff_core::{DAY, HORIZON, TimeInfo};
 

@@ -10,8 +10,7 @@ use crate::group::{Group, take_group};
 use crate::judging::last_moment;
 use crate::saying::{give, put_down, say};
 use crate::stage::{Left, Stage};
-use run_values::{Answer, Body};
-use runs_core::Driver;
+use run_values::{Answer, Body, Driver};
 use std::alloc::AllocError;
 use std::io::{BufRead, Write};
 

@@ -10,7 +10,7 @@ ghost use Rattle.run_values.specs.declared.post.Answer.{Answer};
 use run_laws::{
     calls_pay_their_route, records_sum_up, runs_pass_the_audit, unrouted_calls_pay_nothing,
 };
-use runs_core::Driver;
+use run_values::Driver;
 use script_player::ScriptPlayer;
 use shared_account::TurnAccount;
 use ssf_core::{initial_dp_is_first, reports_are_in_range};

@@ -7,8 +7,7 @@ ghost use Rattle.run_options.specs.Options.{is_trace};
 use arrayvec::ArrayVec;
 use run_options::RunOutput;
 use run_remarks::Refusals;
-use run_values::{Answer, Body};
-use runs_core::Driver;
+use run_values::{Answer, Body, Driver};
 use script_player::ScriptPlayer;
 use std::alloc::{AllocError, Global};
 

@@ -2,8 +2,7 @@
 
 use crate::listening::Listener;
 use crate::watching::{Watch, Watcher};
-use run_values::{Answer, Body};
-use runs_core::Driver;
+use run_values::{Answer, Body, Driver};
 use std::alloc::AllocError;
 
 /// Plays a script as a listener does, and shows how far it is.

@@ -1,13 +1,16 @@
-//! The values of a run: what it is set up with, what its workers are sent, and what they answer.
+//! The values of a run: what it is set up with, what its workers are sent, and what they answer;
+//! and what drives it.
 #![tactic(auto)]
 
 mod directory;
+mod driver;
 mod laws;
 mod post;
 mod setup;
 mod setup_fault;
 
 pub use directory::{Directory, OpeningCredit};
+pub use driver::Driver;
 pub use laws::limits_in_numbers;
 pub use post::{Answer, Body, Post};
 pub use setup::{MAX_ACCOUNTS, MAX_SUBSCRIBERS, RunSetup};

@@ -5,8 +5,7 @@ ghost use Rattle.tariff_core.specs.declared.times.TheConstants.{HORIZON};
 
 use account_core::AccountFault;
 use cap_values::ScfOp;
-use run_values::{Answer, Body};
-use runs_core::Driver;
+use run_values::{Answer, Body, Driver};
 use std::alloc::{AllocError, Global};
 use tariff_core::HORIZON;
 

@@ -3,7 +3,6 @@
 #![tactic(auto)]
 
 mod crew;
-mod driver;
 mod laws;
 mod opened;
 mod rounds;
@@ -13,7 +12,6 @@ mod shares;
 mod threads;
 mod worker_link;
 
-pub use driver::Driver;
 pub use laws::{
     books_are_right, recharges_are_in_the_books, reserves_are_in_the_books,
     run_calls_are_of_one_worker, run_entries_are_served, run_lists_are_worked,

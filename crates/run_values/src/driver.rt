@@ -1,6 +1,6 @@
 //! What drives a run.
 
-use run_values::{Answer, Body};
+use crate::{Answer, Body};
 use std::alloc::AllocError;
 use tariff_core::HORIZON;
 
@@ -9,7 +9,7 @@ use tariff_core::HORIZON;
 /// A driver stores all that it has given, in order, each with its moment in units of 100 ms, and
 /// whether it has ended. It states an agenda, which no round changes; of one that has none it is
 /// `tt`. It may state what it becomes by the answers that it hears in a round; what it says of
-/// that, `serve` says of all the rounds of a run.
+/// that, `runs_core::serve` says of all the rounds of a run.
 pub trait Driver {
     ghost use Rattle.std.specs.Prelude.{◌≡◌, ◌≤◌, ◌++◌, ℕ, List, Bool, not, false, All, IfOk};
     ghost use Rattle.run_values.specs.declared.post.Answer.{Answer};
