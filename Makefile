@@ -53,13 +53,16 @@ TREE = $(shell git rev-parse HEAD) $(if $(shell git status --porcelain),changed,
 # packages and uses them, compares reports with their tables, runs in parts with whole ones and the files of a run with
 # what runs print, drives the service over a pipe, compares what is said of faults with a table, on a terminal too, cuts
 # and kills a service with a log, refuses memory to each call that takes any, and compares the program with its model.
-# Once all has passed, out/passed.txt says so of the commit; make expands TREE before the first line.
+# Libraries that an earlier gate left, which have no stamp, are removed: where rt ci has kept all proofs it would put them
+# back as they were, and the edits would be tried over them. Once all has passed, out/passed.txt says so of the commit;
+# make expands TREE before the first line.
 test:
 	mkdir -p out
 	rm -f out/passed.txt
 	tests/edits_test.py --stale
 	tests/definitions.py
 	tests/proofs_test.py
+	@for it in crates/*/out/rlib; do test -e $$it/stamp || rm -rf $$it; done
 	set -o pipefail; rt ci | tee out/gate.txt
 	$(MAKE) --jobs=$(JOBS) --output-sync=target test-edits test-tries test-prove test-growths test-random $(HELD:%=test-%)
 	@printf '%s\n' '$(TREE)' "$$(tail -n 1 out/gate.txt)" > out/passed.txt
