@@ -24,8 +24,6 @@ MOST_JOBS = 4
 CHAIN_JOBS = 2
 # As many lines of code take as long as what is done of a library before its first function.
 FIRST_LINES = 200
-# How long a line of these takes, in lines elsewhere: threads over accounts of any form have the dearest proofs.
-DEAR_LINES = {"runs_core": 3}
 # The niceness of a crate with nothing behind it; those of the longest chain have none.
 NICENESS = 19
 sys.path.insert(0, os.path.dirname(os.path.realpath(shutil.which("rt") or sys.exit("rt isn't there"))))
@@ -61,7 +59,7 @@ def lines_of(library):
         if file.endswith(".rt"):
             with open(file, "rb") as it:
                 count += it.read().count(b"\n")
-    return FIRST_LINES + count * DEAR_LINES.get(library.name, 1)
+    return FIRST_LINES + count
 
 
 def work_behind(libraries):
