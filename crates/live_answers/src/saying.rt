@@ -132,8 +132,8 @@ fn give_one(given: &mut Vec<(u64, Body)>, said: Said) -> Result<(), AllocError>
     Ok(())
 }
 
-/// Writes a text, unless it is empty, and flushes it, and answers whether the writer did both. Where
-/// it didn't, what it took is a front of the text.
+/// Writes a text, unless it is empty, and flushes it, and answers whether the writer did both.
+/// Where it didn't, what it took is a front of the text.
 fn send<W: Write>(writer: &mut W, text: &[u8]) -> bool
     ensures { Writes (W.contents writer.old) (W.contents writer.new) text.now result }
 {

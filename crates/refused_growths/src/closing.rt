@@ -1,4 +1,4 @@
-//! A call that was granted is closed, though all memory is gone.
+//! A call that was granted is closed while no memory is left.
 
 ghost use Rattle.std.specs.Prelude.{◌≤◌, IfOk};
 ghost use Rattle.refused_growths.specs.declared.closing.TheConstants.{CREDITS};

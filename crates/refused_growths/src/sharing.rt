@@ -117,7 +117,7 @@ fn are_of_first(book: &Book) -> bool {
     own.next().is_none() && book.own(1).next().is_none()
 }
 
-/// Closes a call that was granted, though all memory is gone.
+/// Closes a call that was granted, while no memory is left.
 pub(crate) fn closes_a_call<S: Form, R: Wait>(rt: &R, alloc: Global) -> Course {
     closing::closes(&mut Desk::<S, R>::open(rt, alloc)?)
 }

@@ -96,6 +96,7 @@ pub(crate) fn start<'s, E, S: Shared, R: Wait + Threads + Sync, G: Gate + Sync>(
             child,
         }),
         Err(_) => {
+            // Dropped by name, they make the proof shorter.
             drop(inbox);
             drop(outbox);
             Err(RunFault::Thread)
@@ -182,6 +183,7 @@ impl<S: Shared, G: Gate> WorkerLink<'_, S, G> {
                 Ok(())
             }
             Err(why) => {
+                // As above.
                 drop(inbox);
                 drop(outbox);
                 Err(why)
@@ -222,8 +224,8 @@ fn take_last<R: Wait>(rt: &R, inbox: &mut Inbox<Vec<Answer>>) -> Result<(), RunF
     }
 }
 
-/// Handles the posts of a worker up to the last mail, and gives its seats and its ends back. After a
-/// fault its ends are gone.
+/// Handles the posts of a worker up to the last mail, and gives its seats and its ends back. After
+/// a fault its ends are gone.
 fn work<S: Shared, R: Wait, G: Gate>(
     rt: &R,
     alloc: Global,
@@ -264,6 +266,7 @@ fn work<S: Shared, R: Wait, G: Gate>(
             outbox,
         }),
         Err(why) => {
+            // As above.
             drop(outbox);
             drop(inbox);
             Err(why)
