@@ -14,7 +14,7 @@ use entry_rows::{
     Version, is_money_blank, is_op_blank, is_reply_blank, read_op, read_op_word, read_reply,
     read_reply_word, read_seat, read_until,
 };
-use table_core::{RowKind, is_blank, is_word, number};
+use table_core::{RowKind, has_word, is_blank, number};
 use tariff_core::MAX_MONEY;
 
 /// Where the columns are, and where those of the operation begin.
@@ -54,7 +54,7 @@ pub(crate) fn read_row(row: &ByteRecord, version: Version) -> Result<BookRow, Ro
         ≡ row_said_in (columns_in version (fields_of row.now)) }
     ensures affordable { IfOk result IsAffordable }
 {
-    if is_word(row, OP, "opening") {
+    if has_word(row, OP, "opening") {
         read_opening(row, version)
     } else {
         read_entry(row, version)

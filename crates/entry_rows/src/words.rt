@@ -1,7 +1,6 @@
 //! The words of operations and of replies, each matched once a row.
 
 ghost use Rattle.std.specs.Prelude.{◌≡◌, ◌+◌, ◌<◌, ◌≤◌, length};
-ghost use Rattle.std.specs.Str.{bytes_eq};
 ghost use Rattle.csv.specs.Records.{fields_of};
 ghost use Rattle.table_core.specs.Fields.{field_in};
 ghost use Rattle.entry_rows.specs.Columns.{answer_at, first_operation_at};
@@ -9,7 +8,7 @@ ghost use Rattle.entry_rows.specs.Words.{granted_word_in, op_word_in, reply_word
 
 use crate::offsets::{X2, Y2};
 use csv::ByteRecord;
-use table_core::{RowKind, field};
+use table_core::{RowKind, field, is_word};
 
 /// The word of an operation, with the word of its report for a settle.
 #[derive(Clone, Copy)]
@@ -55,13 +54,13 @@ pub fn read_op_word(row: &ByteRecord, at: usize) -> Result<OpWord, RowKind>
     ensures { result ≡ op_word_in (first_operation_at (fields_of row.now) at) }
 {
     let word = field(row, at);
-    if is(word, "credit") {
+    if is_word(word, "credit") {
         Ok(OpWord::Credit)
-    } else if is(word, "reserve") {
+    } else if is_word(word, "reserve") {
         Ok(OpWord::Reserve)
-    } else if is(word, "settle") {
+    } else if is_word(word, "settle") {
         read_report_word(row, at + X2)
-    } else if is(word, "return") {
+    } else if is_word(word, "return") {
         Ok(OpWord::Return)
     } else {
         Err(RowKind::What)
@@ -73,9 +72,9 @@ fn read_report_word(row: &ByteRecord, place: usize) -> Result<OpWord, RowKind>
     ensures { result ≡ report_word_in (field_in (fields_of row.now) place) }
 {
     let word = field(row, place);
-    if is(word, "n") {
+    if is_word(word, "n") {
         Ok(OpWord::SettleNoSwitch)
-    } else if is(word, "s") {
+    } else if is_word(word, "s") {
         Ok(OpWord::SettleSwitch)
     } else {
         Err(RowKind::What)
@@ -89,19 +88,19 @@ pub fn read_reply_word(row: &ByteRecord, at: usize) -> Result<ReplyWord, RowKind
     ensures { result ≡ reply_word_in (answer_at (fields_of row.now) at) }
 {
     let word = field(row, at);
-    if is(word, "granted") {
+    if is_word(word, "granted") {
         read_granted_word(row, at + Y2)
-    } else if is(word, "settled") {
+    } else if is_word(word, "settled") {
         Ok(ReplyWord::Settled)
-    } else if is(word, "returned") {
+    } else if is_word(word, "returned") {
         Ok(ReplyWord::Returned)
-    } else if is(word, "credited") {
+    } else if is_word(word, "credited") {
         Ok(ReplyWord::Credited)
-    } else if is(word, "over") {
+    } else if is_word(word, "over") {
         Ok(ReplyWord::CreditOver)
-    } else if is(word, "denied") {
+    } else if is_word(word, "denied") {
         Ok(ReplyWord::Denied)
-    } else if is(word, "forfeit") {
+    } else if is_word(word, "forfeit") {
         Ok(ReplyWord::Forfeit)
     } else {
         Err(RowKind::What)
@@ -113,18 +112,11 @@ fn read_granted_word(row: &ByteRecord, place: usize) -> Result<ReplyWord, RowKin
     ensures { result ≡ granted_word_in (field_in (fields_of row.now) place) }
 {
     let word = field(row, place);
-    if is(word, "more") {
+    if is_word(word, "more") {
         Ok(ReplyWord::GrantedMore)
-    } else if is(word, "last") {
+    } else if is_word(word, "last") {
         Ok(ReplyWord::GrantedLast)
     } else {
         Err(RowKind::What)
     }
-}
-
-/// Whether a field is this word, byte for byte.
-fn is(field: &[u8], word: &str) -> bool
-    ensures { result ≡ bytes_eq field.now word.now }
-{
-    field == word.as_bytes()
 }

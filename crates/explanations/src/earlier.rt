@@ -1,7 +1,7 @@
 //! Rows that don't go with the rows above them.
 
 use crate::Slip;
-use crate::found_rows::{Sought, field_at, find_above, has_word, rows_at, shown_at};
+use crate::found_rows::{Sought, field_at, find_above, is_word_at, rows_at, shown_at};
 use crate::reasons::Faulty;
 use crate::row_line::Shown;
 use csv::ByteRecord;
@@ -87,7 +87,7 @@ pub(crate) fn push_unknown(
     row: &ByteRecord,
 ) -> Result<(), AllocError> {
     let (name, place, why) = match slip {
-        Slip::Script(_) if has_word(row, 2, "recharge") => ("account", 3, "isn't in the setup"),
+        Slip::Script(_) if is_word_at(row, 2, "recharge") => ("account", 3, "isn't in the setup"),
         Slip::Script(_) => ("call", 1, "isn't started in an earlier row"),
         Slip::Setup(_) => ("account", 2, "isn't above this row"),
         _ => ("account", 0, "isn't opened in an earlier row"),

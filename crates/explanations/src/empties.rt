@@ -1,10 +1,11 @@
 //! Fields that must be empty and aren't.
 
 use crate::Slip;
-use crate::found_rows::{field_at, has_word, is_word, shown_at};
+use crate::found_rows::{field_at, is_word_at, shown_at};
 use crate::row_line::Shown;
 use csv::ByteRecord;
 use std::alloc::AllocError;
+use table_core::is_word;
 
 /// Adds which field of a row must be empty, and for what.
 pub(crate) fn push_not_empty(
@@ -31,7 +32,7 @@ fn word_for(slip: Slip, row: &ByteRecord, place: usize) -> &[u8] {
         Slip::Ops(_) => field_at(row, 1),
         Slip::Book(_) => {
             let reply = row.len().saturating_sub(4);
-            if place < reply || has_word(row, 2, "opening") {
+            if place < reply || is_word_at(row, 2, "opening") {
                 field_at(row, 2)
             } else {
                 field_at(row, reply)
@@ -73,7 +74,7 @@ fn operation_takes_nothing(row: &ByteRecord, op: usize, end: usize, place: usize
     if is_word(word, "reserve") || column == 0 {
         false
     } else if is_word(word, "settle") {
-        let last = if has_word(row, op.saturating_add(3), "s") {
+        let last = if is_word_at(row, op.saturating_add(3), "s") {
             5
         } else {
             4
@@ -89,7 +90,7 @@ fn operation_takes_nothing(row: &ByteRecord, op: usize, end: usize, place: usize
 /// The same of a book.
 fn book_takes_nothing(row: &ByteRecord, place: usize) -> bool {
     let reply = row.len().saturating_sub(4);
-    let is_opening = has_word(row, 2, "opening");
+    let is_opening = is_word_at(row, 2, "opening");
     if place < 2 {
         return is_opening && place == 1;
     }

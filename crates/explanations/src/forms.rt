@@ -2,9 +2,10 @@
 
 use crate::Slip;
 use crate::empties::is_money;
-use crate::found_rows::{field_at, has_word, is_word};
+use crate::found_rows::{field_at, is_word_at};
 use crate::wants::{Column, Wants, first_refused};
 use csv::ByteRecord;
+use table_core::is_word;
 use tariff_core::{DAY, HORIZON, MAX_MOMENT, MAX_MONEY, MAX_RATE};
 
 /// Where the columns of an operation begin in a table of operations, and in one of books.
@@ -74,7 +75,7 @@ fn columns_of_script(what: &[u8]) -> &'static [(usize, Wants)] {
 
 /// The column of a row of a setup whose field the reader refuses.
 pub(crate) fn refused_in_setup(row: &ByteRecord) -> Option<Column> {
-    let columns: &[(usize, Wants)] = if has_word(row, 0, "account") {
+    let columns: &[(usize, Wants)] = if is_word_at(row, 0, "account") {
         &[(1, ACCOUNT), (2, MONEY), (3, UNTIL_MOMENT)]
     } else {
         &[(1, PARTY), (2, ACCOUNT)]
@@ -96,7 +97,7 @@ pub(crate) fn refused_in_ops(row: &ByteRecord) -> Option<Column> {
 /// The column of a row of a book whose field the reader refuses.
 pub(crate) fn refused_in_book(row: &ByteRecord) -> Option<Column> {
     let reply = row.len().saturating_sub(4);
-    if has_word(row, OP_OF_BOOK, "opening") {
+    if is_word_at(row, OP_OF_BOOK, "opening") {
         return first_refused(row, 0, reply, &[(0, ACCOUNT), (4, MONEY), (5, UNTIL)]);
     }
     first_refused(row, 0, reply, &[(0, ACCOUNT), (1, SEAT)])
@@ -107,7 +108,7 @@ pub(crate) fn refused_in_book(row: &ByteRecord) -> Option<Column> {
 /// The column of an operation whose field the reader refuses, its columns from one place on to
 /// before another.
 fn refused_operation(row: &ByteRecord, op: usize, end: usize) -> Option<Column> {
-    let has_before = has_word(row, op.saturating_add(3), "s");
+    let has_before = is_word_at(row, op.saturating_add(3), "s");
     first_refused(
         row,
         op,

@@ -4,7 +4,7 @@ use crate::midnight::is_repeated;
 use crate::row_line::Shown;
 use csv::ByteRecord;
 use std::alloc::{AllocError, Global};
-use table_core::{Rows, decimal};
+use table_core::{Rows, decimal, is_word};
 
 /// A reader of the rows of a table that has taken the row of this number; none where there are
 /// fewer.
@@ -32,13 +32,8 @@ pub(crate) fn field_at(row: &ByteRecord, place: usize) -> &[u8] {
     }
 }
 
-/// Whether a field is this word.
-pub(crate) fn is_word(field: &[u8], word: &str) -> bool {
-    field == word.as_bytes()
-}
-
 /// Whether the field of a row at a place is this word.
-pub(crate) fn has_word(row: &ByteRecord, place: usize, word: &str) -> bool {
+pub(crate) fn is_word_at(row: &ByteRecord, place: usize, word: &str) -> bool {
     is_word(field_at(row, place), word)
 }
 

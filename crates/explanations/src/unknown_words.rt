@@ -2,9 +2,10 @@
 
 use crate::Slip;
 use crate::forms::SCRIPT_WORDS;
-use crate::found_rows::{field_at, has_word, is_word, shown_at};
+use crate::found_rows::{field_at, is_word_at, shown_at};
 use csv::ByteRecord;
 use std::alloc::AllocError;
+use table_core::is_word;
 
 const OPERATIONS: &[&str] = &["credit", "reserve", "settle", "return"];
 
@@ -38,7 +39,7 @@ fn push_operation_word(
     op: usize,
     words: &[&str],
 ) -> Result<(), AllocError> {
-    if has_word(row, op, "settle") {
+    if is_word_at(row, op, "settle") {
         push_word(text, names, row, op.saturating_add(3), &["n", "s"])
     } else {
         push_word(text, names, row, op, words)
@@ -52,7 +53,7 @@ fn push_book_word(
     row: &ByteRecord,
 ) -> Result<(), AllocError> {
     let reply = row.len().saturating_sub(4);
-    let is_settle = has_word(row, 2, "settle");
+    let is_settle = is_word_at(row, 2, "settle");
     let is_report = is_one_of(field_at(row, 5), &["n", "s"]);
     if !is_one_of(field_at(row, 2), BOOK_OPERATIONS) || is_settle && !is_report {
         push_operation_word(text, names, row, 2, BOOK_OPERATIONS)

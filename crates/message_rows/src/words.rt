@@ -6,7 +6,7 @@ ghost use Rattle.message_rows.specs.Messages.{event_message_in, mode_in, report_
 
 use cap_values::{Event, Mode};
 use csv::ByteRecord;
-use table_core::{RowKind, is_word};
+use table_core::{RowKind, has_word};
 
 /// What a message row is about, with all that its words say.
 #[derive(Clone, Copy)]
@@ -28,9 +28,9 @@ pub(crate) fn read_word(row: &ByteRecord) -> Result<Word, RowKind>
     requires { 8 < length (fields_of row.now) }
     ensures { result ≡ message_word_in (fields_of row.now) }
 {
-    if is_word(row, 3, "switch") {
+    if has_word(row, 3, "switch") {
         read_switch_word(row)
-    } else if is_word(row, 3, "operator") && is_word(row, 4, "Recharge") {
+    } else if has_word(row, 3, "operator") && has_word(row, 4, "Recharge") {
         Ok(Word::Recharge)
     } else {
         Err(RowKind::What)
@@ -42,17 +42,17 @@ fn read_switch_word(row: &ByteRecord) -> Result<Word, RowKind>
     requires { 8 < length (fields_of row.now) }
     ensures { result ≡ switch_word_in (fields_of row.now) }
 {
-    if is_word(row, 4, "InitialDP") {
+    if has_word(row, 4, "InitialDP") {
         Ok(Word::InitialDp)
-    } else if is_word(row, 4, "EventReportBCSM") {
+    } else if has_word(row, 4, "EventReportBCSM") {
         let event = read_event(row)?;
         let mode = read_mode(row)?;
         Ok(Word::EventReport(event, mode))
-    } else if is_word(row, 4, "ApplyChargingReport") {
+    } else if has_word(row, 4, "ApplyChargingReport") {
         let active = read_state(row)?;
         let switched = read_switched(row)?;
         Ok(Word::ChargingReport(active, switched))
-    } else if is_word(row, 4, "Ended") {
+    } else if has_word(row, 4, "Ended") {
         Ok(Word::Ended)
     } else {
         Err(RowKind::What)
@@ -64,19 +64,19 @@ fn read_event(row: &ByteRecord) -> Result<Event, RowKind>
     requires { 8 < length (fields_of row.now) }
     ensures { result ≡ event_message_in (fields_of row.now) }
 {
-    if is_word(row, 5, "collectedInfo") {
+    if has_word(row, 5, "collectedInfo") {
         Ok(Event::CollectedInfo)
-    } else if is_word(row, 5, "routeSelectFailure") {
+    } else if has_word(row, 5, "routeSelectFailure") {
         Ok(Event::RouteSelectFailure)
-    } else if is_word(row, 5, "busy") {
+    } else if has_word(row, 5, "busy") {
         Ok(Event::CalledPartyBusy)
-    } else if is_word(row, 5, "noAnswer") {
+    } else if has_word(row, 5, "noAnswer") {
         Ok(Event::NoAnswer)
-    } else if is_word(row, 5, "answer") {
+    } else if has_word(row, 5, "answer") {
         Ok(Event::Answer)
-    } else if is_word(row, 5, "disconnect") {
+    } else if has_word(row, 5, "disconnect") {
         Ok(Event::Disconnect)
-    } else if is_word(row, 5, "abandon") {
+    } else if has_word(row, 5, "abandon") {
         Ok(Event::Abandon)
     } else {
         Err(RowKind::What)
@@ -88,11 +88,11 @@ fn read_mode(row: &ByteRecord) -> Result<Mode, RowKind>
     requires { 8 < length (fields_of row.now) }
     ensures { result ≡ mode_in (fields_of row.now) }
 {
-    if is_word(row, 7, "interrupted") {
+    if has_word(row, 7, "interrupted") {
         Ok(Mode::Interrupted)
-    } else if is_word(row, 7, "notify") {
+    } else if has_word(row, 7, "notify") {
         Ok(Mode::NotifyAndContinue)
-    } else if is_word(row, 7, "transparent") {
+    } else if has_word(row, 7, "transparent") {
         Ok(Mode::Transparent)
     } else {
         Err(RowKind::What)
@@ -104,9 +104,9 @@ fn read_state(row: &ByteRecord) -> Result<bool, RowKind>
     requires { 8 < length (fields_of row.now) }
     ensures { result ≡ report_state_in (fields_of row.now) }
 {
-    if is_word(row, 5, "active") {
+    if has_word(row, 5, "active") {
         Ok(true)
-    } else if is_word(row, 5, "inactive") {
+    } else if has_word(row, 5, "inactive") {
         Ok(false)
     } else {
         Err(RowKind::What)
@@ -118,9 +118,9 @@ fn read_switched(row: &ByteRecord) -> Result<bool, RowKind>
     requires { 8 < length (fields_of row.now) }
     ensures { result ≡ switched_in (fields_of row.now) }
 {
-    if is_word(row, 6, "n") {
+    if has_word(row, 6, "n") {
         Ok(false)
-    } else if is_word(row, 6, "s") {
+    } else if has_word(row, 6, "s") {
         Ok(true)
     } else {
         Err(RowKind::What)

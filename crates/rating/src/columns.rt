@@ -8,7 +8,7 @@ ghost use Rattle.rating.specs.SaidOf.{wished_names, times_of};
 
 use crate::ask::{Names, TimeNames};
 use csv::ByteRecord;
-use table_core::is_word;
+use table_core::has_word;
 
 /// Where the columns of a call's times are, from 0.
 #[derive(Clone, Copy)]
@@ -129,7 +129,7 @@ fn place_from(header: &ByteRecord, name: &str, start: usize) -> Option<usize>
     ensures within { IfSome result (λ place. place < length (fields_of header.now)) }
 {
     for place in start..header.len() {
-        if is_word(header, place, name) {
+        if has_word(header, place, name) {
             return Some(place);
         }
     }

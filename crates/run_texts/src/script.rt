@@ -19,7 +19,7 @@ use ssf_core::{BcsmEvent, Moment};
 use std::alloc::{AllocError, Global};
 use std::collections::BTreeSet;
 use std::io::Read;
-use table_core::{RowKind, Table, TableFault, is_blank, is_word, number};
+use table_core::{RowKind, Table, TableFault, has_word, is_blank, number};
 use tariff_core::MAX_MOMENT;
 
 /// The most rows of a script, its header not counted.
@@ -301,21 +301,21 @@ fn read_word(row: &ByteRecord) -> Result<Word, RowKind>
     requires { 5 ≤ length (fields_of row.now) }
     ensures { result ≡ row_word_in (fields_of row.now) }
 {
-    if is_word(row, 2, "start") {
+    if has_word(row, 2, "start") {
         Ok(Word::Start)
-    } else if is_word(row, 2, "answer") {
+    } else if has_word(row, 2, "answer") {
         Ok(Word::Event(BcsmEvent::Answer))
-    } else if is_word(row, 2, "busy") {
+    } else if has_word(row, 2, "busy") {
         Ok(Word::Event(BcsmEvent::Busy))
-    } else if is_word(row, 2, "noanswer") {
+    } else if has_word(row, 2, "noanswer") {
         Ok(Word::Event(BcsmEvent::NoAnswer))
-    } else if is_word(row, 2, "routefail") {
+    } else if has_word(row, 2, "routefail") {
         Ok(Word::Event(BcsmEvent::RouteSelectFailure))
-    } else if is_word(row, 2, "abandon") {
+    } else if has_word(row, 2, "abandon") {
         Ok(Word::Event(BcsmEvent::Abandon))
-    } else if is_word(row, 2, "disconnect") {
+    } else if has_word(row, 2, "disconnect") {
         Ok(Word::Disconnect)
-    } else if is_word(row, 2, "recharge") {
+    } else if has_word(row, 2, "recharge") {
         Ok(Word::Recharge)
     } else {
         Err(RowKind::What)

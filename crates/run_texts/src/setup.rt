@@ -15,7 +15,7 @@ use csv::ByteRecord;
 use run_values::{Directory, MAX_ACCOUNTS, OpeningCredit, SetupFault};
 use std::alloc::Global;
 use std::io::Read;
-use table_core::{RowKind, Table, TableFault, is_word};
+use table_core::{RowKind, Table, TableFault, has_word};
 
 /// The most rows of a setup, its header not counted.
 const MAX_ROWS: u32 = 10_000;
@@ -63,9 +63,9 @@ fn list_row(directory: &mut Directory, row: &ByteRecord) -> Result<(), ListFault
     ensures count { OnOk result (length directory.new.accounts + length directory.new.subscribers
         ≡ length directory.old.accounts + length directory.old.subscribers + 1) }
 {
-    if is_word(row, 0, "account") {
+    if has_word(row, 0, "account") {
         list_account(directory, row)
-    } else if is_word(row, 0, "subscriber") {
+    } else if has_word(row, 0, "subscriber") {
         list_subscriber(directory, row)
     } else {
         Err(ListFault::Row(RowKind::What))

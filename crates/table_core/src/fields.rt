@@ -3,6 +3,7 @@
 ghost use Rattle.std.specs.Prelude.{◌≡◌, ◌<◌, ◌≤◌, ◌++◌, length, unwrap_or, IfOk, true, IfSome, OnOk, string_bytes};
 ghost use Rattle.std.specs.Char.{is_ascii_digit};
 ghost use Rattle.std.specs.List.{list_all};
+ghost use Rattle.std.specs.Str.{bytes_eq};
 ghost use Rattle.std.specs.Str.Parse.{digits_value};
 ghost use Rattle.std.specs.Fmt.{decimal};
 ghost use Rattle.table_core.specs.Fields.{field_in, has_word, is_blank, number_in, optional_in};
@@ -24,12 +25,19 @@ pub fn field(row: &ByteRecord, place: usize) -> &[u8]
     row.get(place).unwrap()
 }
 
+/// Whether a field is `word`, byte for byte.
+pub fn is_word(field: &[u8], word: &str) -> bool
+    ensures { result ≡ bytes_eq field.now word.now }
+{
+    field == word.as_bytes()
+}
+
 /// Whether the field at `place` is `word`, byte for byte.
-pub fn is_word(row: &ByteRecord, place: usize, word: &str) -> bool
+pub fn has_word(row: &ByteRecord, place: usize, word: &str) -> bool
     requires { place < length (fields_of row.now) }
     ensures { result ≡ has_word (fields_of row.now) place word.now }
 {
-    field(row, place) == word.as_bytes()
+    is_word(field(row, place), word)
 }
 
 /// The decimal in the field at `place`, from 0 to `most`; else the row's kind `Number`.

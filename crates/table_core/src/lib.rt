@@ -12,7 +12,8 @@ mod table;
 
 pub use fault::{RowFault, RowKind, TableFault};
 pub use fields::{
-    are_digits, decimal, field, is_blank, is_decimal, is_word, number, optional, write_digits,
+    are_digits, decimal, field, has_word, is_blank, is_decimal, is_word, number, optional,
+    write_digits,
 };
 pub use printed::{printed_decimals_are_read, printed_tables_are_read};
 pub use table::{Rows, Table};

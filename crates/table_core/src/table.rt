@@ -8,7 +8,7 @@ ghost use Rattle.table_core.specs.Faults.{IsOfReading};
 ghost use Rattle.csv.specs.Records.{fields_of};
 ghost use Rattle.table_core.specs.declared.fault.TableFault.TheVariants as out;
 
-use crate::{RowFault, RowKind, TableFault, is_word};
+use crate::{RowFault, RowKind, TableFault, has_word};
 use csv::{ByteRecord, ErrorKind, Reader, ReaderBuilder};
 use std::alloc::Global;
 use std::io::Read;
@@ -170,7 +170,7 @@ fn is_header(names: &[&str], row: &ByteRecord) -> bool
         return false;
     }
     for (place, name) in names.iter().enumerate() {
-        if !is_word(row, place, name) {
+        if !has_word(row, place, name) {
             return false;
         }
     }

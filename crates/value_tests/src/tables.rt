@@ -3,7 +3,7 @@
 use crate::looking::gives;
 use std::alloc::Global;
 use std::io::Read;
-use table_core::{RowKind, Table, TableFault, decimal, field, is_word, number};
+use table_core::{RowKind, Table, TableFault, decimal, field, has_word, number};
 
 /// Texts, and how many rows a table with the header `a,b` has of each.
 const TEXTS: [(&[u8], u32); 9] = [
@@ -64,7 +64,7 @@ fn reads_fields(rt: HostRuntime) {
     let row = table.row();
     assert!(rt; row.len() == 3);
     assert!(rt; field(row, 0) == b"a\"b".as_slice());
-    assert!(rt; is_word(row, 2, "x") && !is_word(row, 2, "xy"));
+    assert!(rt; has_word(row, 2, "x") && !has_word(row, 2, "xy"));
     gives(&rt, &42, &number(row, 1, 42), &Ok(42));
     gives(&rt, &41, &number(row, 1, 41), &Err(RowKind::Number));
     assert!(rt; table.next_row() == Ok(false));
