@@ -1,12 +1,12 @@
 -- What a sound call has paid, and what is held for it.
 use Rattle.std.proofs.Common.{◌≡◌, ℕ, ◌≤◌, Bool, true, false, Option, Some, None, refl, sym, arith, subst}
 use Rattle.std.specs.Prelude.{if◌then◌else◌}
-use Rattle.tariff_core.specs.Afford.{units_afforded}
-use Rattle.tariff_core.specs.Ceiling.{ceiling_of}
-use Rattle.tariff_core.specs.Laws.{AffordedAreCovered, CeilingIsNotPassed}
-use Rattle.tariff_core.specs.Price.{price_at}
-use Rattle.tariff_core.specs.Rates.{Rates}
-use Rattle.tariff_core.specs.Times.{Elapsed}
+use Rattle.price_core.specs.Afford.{units_afforded}
+use Rattle.price_core.specs.Ceiling.{ceiling_of}
+use Rattle.price_core.specs.Laws.{AffordedAreCovered, CeilingIsNotPassed}
+use Rattle.price_core.specs.Price.{price_at}
+use Rattle.price_core.specs.Rates.{Rates}
+use Rattle.price_core.specs.Times.{Elapsed}
 use Rattle.account_core.specs.Known.{CallFacts, paid_of, price_under, taken_of, taken_under}
 use Rattle.account_core.specs.Sound.{IsGrantedCall, IsSound, IsSoundUnder}
 

@@ -1,10 +1,10 @@
 -- The answers of a sound history fit it, and what they show.
 use Rattle.std.proofs.Common.{◌≡◌, ℕ, ◌+◌, ◌-◌, ◌≤◌, Bool, true, false, Option, Some, None, List, ◌∷◌, refl, sym, ap, ◌∙◌, arith, subst}
 use Rattle.std.specs.Prelude.{if◌then◌else◌, nat_le}
-use Rattle.tariff_core.specs.Ceiling.{ceiling_of}
-use Rattle.tariff_core.specs.Rates.{Rates}
-use Rattle.tariff_core.specs.Times.{Elapsed}
-use Rattle.tariff_core.specs.declared.times.TimeInfo.{TimeInfo}
+use Rattle.price_core.specs.Ceiling.{ceiling_of}
+use Rattle.price_core.specs.Rates.{Rates}
+use Rattle.price_core.specs.Times.{Elapsed}
+use Rattle.price_core.specs.declared.times.TimeInfo.{TimeInfo}
 use Rattle.account_core.specs.Answers.{accepted_times, answer, inadmissible, settle_verdict, showing, shown_by, units_offered, bare_reply}
 use Rattle.account_core.specs.Asked.{Asked, Credits, Reserves, Returns, Settles, call_of}
 use Rattle.account_core.specs.Available.{available, credited, credits, taken_by_all}

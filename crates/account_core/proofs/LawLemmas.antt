@@ -3,10 +3,10 @@ use Rattle.std.proofs.Common.{◌≡◌, ℕ, ◌≤◌, Bool, true, false, Opti
 use Rattle.std.specs.Prelude.{◌==◌, reverse, unwrap_or}
 use Rattle.std.proofs.lemmas.Bool.{eq-eqb, eqb-true}
 use Rattle.std.proofs.lemmas.List.{reverse-append}
-use Rattle.tariff_core.specs.Rates.{Rates}
-use Rattle.tariff_core.specs.Reading.{times_read}
-use Rattle.tariff_core.specs.Times.{Elapsed}
-use Rattle.tariff_core.specs.declared.times.TimeInfo.{TimeInfo}
+use Rattle.price_core.specs.Rates.{Rates}
+use Rattle.price_core.specs.Reading.{times_read}
+use Rattle.price_core.specs.Times.{Elapsed}
+use Rattle.price_core.specs.declared.times.TimeInfo.{TimeInfo}
 use Rattle.account_core.specs.Answers.{IsAnswered, IsLegalPast, accepted_times, settle_verdict, bare_reply}
 use Rattle.account_core.specs.Asked.{Asked, Credits, Reserves, Returns, Settles, call_of}
 use Rattle.account_core.specs.Available.{available, credited}

@@ -4,7 +4,7 @@ use Rattle.std.specs.Prelude.{◌==◌, ◌&&◌, if◌then◌else◌, not, is_s
 use Rattle.std.proofs.lemmas.Bool.{eqb-true, eq-eqb}
 use Rattle.std.proofs.lemmas.Bool.Decides.{nat_tests}
 use Rattle.std.proofs.lemmas.List.Sums.{sum_by-cons}
-use Rattle.tariff_core.specs.Rates.{Rates}
+use Rattle.price_core.specs.Rates.{Rates}
 use Rattle.account_core.specs.Asked.{call_of}
 use Rattle.account_core.specs.Available.{begins_call, calls, is_grant}
 use Rattle.account_core.specs.Entries.{EntryData}

@@ -1,7 +1,7 @@
 -- The places that an entry takes, and those that are owed after it.
 use Rattle.std.proofs.Common.{ℕ, ◌+◌, ◌≤◌, Bool, true, false, Option, Some, None, arith}
 use Rattle.std.specs.Prelude.{◌&&◌, if◌then◌else◌, is_some, not}
-use Rattle.tariff_core.specs.Rates.{Rates}
+use Rattle.price_core.specs.Rates.{Rates}
 use Rattle.account_core.specs.Asked.{Reserves}
 use Rattle.account_core.specs.Places.{places_needed, places_owed}
 

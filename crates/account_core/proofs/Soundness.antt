@@ -1,13 +1,13 @@
 -- What an answered entry may do to its call, and that the call stays sound under it.
 use Rattle.std.proofs.Common.{◌≡◌, ℕ, ◌+◌, ◌≤◌, Bool, true, false, Option, Some, None, refl, sym, ap, ◌∙◌, arith, subst}
 use Rattle.std.specs.Prelude.{◌&&◌, if◌then◌else◌, not, is_some, unwrap_or}
-use Rattle.tariff_core.specs.Ceiling.{ceiling_of}
-use Rattle.tariff_core.specs.Laws.{MayStand}
-use Rattle.tariff_core.specs.Lawful.{is_lawful}
-use Rattle.tariff_core.specs.Rates.{Rates}
-use Rattle.tariff_core.specs.Reading.{times_read}
-use Rattle.tariff_core.specs.Times.{Elapsed}
-use Rattle.tariff_core.specs.declared.times.TimeInfo.{TimeInfo}
+use Rattle.price_core.specs.Ceiling.{ceiling_of}
+use Rattle.price_core.specs.Laws.{MayStand}
+use Rattle.price_core.specs.Lawful.{is_lawful}
+use Rattle.price_core.specs.Rates.{Rates}
+use Rattle.price_core.specs.Reading.{times_read}
+use Rattle.price_core.specs.Times.{Elapsed}
+use Rattle.price_core.specs.declared.times.TimeInfo.{TimeInfo}
 use Rattle.account_core.specs.Answers.{accepted_times, lawful_times}
 use Rattle.account_core.specs.Known.{EntryDeed, Ends, Forfeits, Grants, CallFacts, Reports, Rests, is_open, known_after, paid_of, plan_in_force, taken_of, taken_under}
 use Rattle.account_core.specs.Sound.{IsGrantedCall, IsSound, IsSoundUnder}

@@ -8,7 +8,7 @@ use Rattle.std.specs.Map.{lookup}
 use Rattle.std.specs.Ordering.{nat_cmp}
 use Rattle.std.specs.declared.cmp.Ordering.TheVariants.{Less}
 use Rattle.std.proofs.lemmas.Bool.Decides.{nat_tests}
-use Rattle.tariff_core.specs.Rates.{Rates}
+use Rattle.price_core.specs.Rates.{Rates}
 use Rattle.account_core.specs.Entries.{EntryData}
 use Rattle.account_core.specs.Kept.{KnowsEach, known_of}
 use Rattle.account_core.specs.Known.{CallFacts, known}

@@ -2,9 +2,9 @@
 use Rattle.std.proofs.Common.{◌≡◌, ℕ, ◌+◌, ◌≤◌, Bool, true, false, Option, Some, None, List, refl, arith, subst}
 use Rattle.std.specs.Prelude.{◌==◌, ◌||◌, if◌then◌else◌, nat_le, nat_lt}
 use Rattle.std.proofs.lemmas.Bool.Decides.{nat_tests}
-use Rattle.tariff_core.specs.Rates.{Rates}
-use Rattle.tariff_core.specs.Times.{Elapsed}
-use Rattle.tariff_core.specs.declared.times.TimeInfo.{TimeInfo}
+use Rattle.price_core.specs.Rates.{Rates}
+use Rattle.price_core.specs.Times.{Elapsed}
+use Rattle.price_core.specs.declared.times.TimeInfo.{TimeInfo}
 use Rattle.account_core.specs.Answers.{accepted_times, inadmissible, misplaced, settle_verdict, showing, units_offered, bare_reply}
 use Rattle.account_core.specs.Asked.{Asked, Credits, Reserves, Returns, Settles, call_of, is_in_range}
 use Rattle.account_core.specs.Available.{available, credited, credits}

@@ -1,11 +1,11 @@
 -- The sequential account: which operations it takes, and the one right reply to each.
 use Rattle.std.specs.Prelude.{◌≡◌, ◌+◌, ◌==◌, ◌||◌, ℕ, Bool, Option, Some, None, List, [], ◌∷◌, if◌then◌else◌, nat_le, nat_lt, reverse}
-use Rattle.tariff_core.specs.Afford.{units_afforded}
-use Rattle.tariff_core.specs.Lawful.{is_lawful}
-use Rattle.tariff_core.specs.Rates.{Rates}
-use Rattle.tariff_core.specs.Reading.{times_read}
-use Rattle.tariff_core.specs.Times.{Elapsed}
-use Rattle.tariff_core.specs.declared.times.TimeInfo.{TimeInfo}
+use Rattle.price_core.specs.Afford.{units_afforded}
+use Rattle.price_core.specs.Lawful.{is_lawful}
+use Rattle.price_core.specs.Rates.{Rates}
+use Rattle.price_core.specs.Reading.{times_read}
+use Rattle.price_core.specs.Times.{Elapsed}
+use Rattle.price_core.specs.declared.times.TimeInfo.{TimeInfo}
 use Rattle.account_core.specs.Asked.{Asked, Credits, Reserves, Settles, Returns, call_of, is_in_range}
 use Rattle.account_core.specs.Available.{available, credits}
 use Rattle.account_core.specs.Entries.{EntryData}
@@ -15,7 +15,7 @@ use Rattle.account_core.specs.declared.entry.Reply.{Reply}
 use Rattle.account_core.specs.declared.entry.Reply.TheVariants as reply
 use Rattle.account_core.specs.declared.fault.AccountFault.{AccountFault}
 use Rattle.account_core.specs.declared.fault.AccountFault.TheVariants as fault
-use Rattle.tariff_core.specs.declared.plan.TheConstants.{MAX_MONEY}
+use Rattle.price_core.specs.declared.plan.TheConstants.{MAX_MONEY}
 
 -- a Settle and a Return are of an open call, and a Reserve isn't of one that was returned
 abbrev pub misplaced : CallFacts → Asked → Option AccountFault

@@ -1,9 +1,9 @@
 -- What an account is asked, as plain data.
 use Rattle.std.specs.Prelude.{◌≡◌, ◌&&◌, ℕ, Bool, true, Option, nat_le}
-use Rattle.tariff_core.specs.Rates.{Rates}
-use Rattle.tariff_core.specs.declared.times.TimeInfo.{TimeInfo}
-use Rattle.tariff_core.specs.declared.plan.TheConstants.{MAX_MONEY}
-use Rattle.tariff_core.specs.declared.times.TheConstants.{DAY}
+use Rattle.price_core.specs.Rates.{Rates}
+use Rattle.price_core.specs.declared.times.TimeInfo.{TimeInfo}
+use Rattle.price_core.specs.declared.plan.TheConstants.{MAX_MONEY}
+use Rattle.price_core.specs.declared.times.TheConstants.{DAY}
 
 -- an operation: money is added, which may give the account another last moment; held for more time of a call, which is asked for at a moment; settled as a report says;
 -- and given back. Moments are in units of 100 ms

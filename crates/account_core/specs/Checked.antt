@@ -9,7 +9,7 @@ use Rattle.account_core.specs.declared.account_sum.AccountSum.{AccountSum}
 use Rattle.account_core.specs.declared.history_check.Heard.{Heard}
 use Rattle.account_core.specs.declared.history_check.Heard.TheVariants.{Illegal, Legal, Nothing}
 use Rattle.account_core.specs.declared.history_check.HistoryCheck.{HistoryCheck}
-use Rattle.tariff_core.specs.declared.plan.TheConstants.{MAX_MONEY}
+use Rattle.price_core.specs.declared.plan.TheConstants.{MAX_MONEY}
 
 -- what was heard of a history from this opening with its last moment: no entry yet, or a tally of the history while it is legal, or that it isn't legal
 abbrev pub IsHeardOf : ℕ → Option ℕ → List EntryData → Heard → Type 0

@@ -1,5 +1,5 @@
 -- What the plan of a state says.
-use Rattle.tariff_core.specs.Rates.{Rates}
+use Rattle.price_core.specs.Rates.{Rates}
 use Rattle.account_core.specs.declared.kept_plan.KeptPlan.{KeptPlan}
 
 -- the fee, the rates, the free units and the billing steps of a plan that is kept

@@ -1,10 +1,10 @@
 -- What is true of every legal history, in words of its own.
 use Rattle.std.specs.Prelude.{◌≡◌, ◌+◌, ◌==◌, ◌≤◌, ℕ, true, false, Option, Some, None, List, [], ◌∷◌, ◌++◌, All, if◌then◌else◌, reverse}
-use Rattle.tariff_core.specs.Price.{price_at}
-use Rattle.tariff_core.specs.Rates.{Rates}
-use Rattle.tariff_core.specs.Reading.{times_read}
-use Rattle.tariff_core.specs.Times.{Elapsed, no_times}
-use Rattle.tariff_core.specs.declared.times.TimeInfo.{TimeInfo}
+use Rattle.price_core.specs.Price.{price_at}
+use Rattle.price_core.specs.Rates.{Rates}
+use Rattle.price_core.specs.Reading.{times_read}
+use Rattle.price_core.specs.Times.{Elapsed, no_times}
+use Rattle.price_core.specs.declared.times.TimeInfo.{TimeInfo}
 use Rattle.account_core.specs.Answers.{IsLegal, answer, inadmissible}
 use Rattle.account_core.specs.Asked.{Asked, Settles, call_of, is_in_range}
 use Rattle.account_core.specs.Available.{available, credits, taken_by_all}
@@ -14,8 +14,8 @@ use Rattle.account_core.specs.Known.{EntryDeed, Ends, deed, known}
 use Rattle.account_core.specs.Standing.{FitsOperation}
 use Rattle.account_core.specs.declared.entry.Reply.{Reply}
 use Rattle.account_core.specs.declared.entry.Reply.TheVariants as reply
-use Rattle.tariff_core.specs.declared.plan.TheConstants.{MAX_MONEY}
-use Rattle.tariff_core.specs.declared.times.TheConstants.{DAY}
+use Rattle.price_core.specs.declared.plan.TheConstants.{MAX_MONEY}
+use Rattle.price_core.specs.declared.times.TheConstants.{DAY}
 
 -- no balance is negative: at no place of a legal history do all calls take more than the opening and the credits accepted so far
 abbrev pub NoBalanceIsNegative : Type 0

@@ -1,15 +1,15 @@
 -- The replies in closed form, from what an account keeps: the credit, and what it knows of the call.
 use Rattle.std.specs.Prelude.{◌+◌, ◌-◌, ◌==◌, ◌||◌, ℕ, Bool, Option, Some, None, if◌then◌else◌, nat_le, nat_lt}
-use Rattle.tariff_core.specs.Ceiling.{ceiling_of}
-use Rattle.tariff_core.specs.Rates.{Rates}
-use Rattle.tariff_core.specs.Times.{Elapsed}
+use Rattle.price_core.specs.Ceiling.{ceiling_of}
+use Rattle.price_core.specs.Rates.{Rates}
+use Rattle.price_core.specs.Times.{Elapsed}
 use Rattle.account_core.specs.Answers.{accepted_times, units_offered}
 use Rattle.account_core.specs.Asked.{Asked, Credits, Reserves, Returns, Settles}
 use Rattle.account_core.specs.Expiry.{is_past}
 use Rattle.account_core.specs.Known.{CallFacts, paid_of, plan_in_force, price_under, taken_of}
 use Rattle.account_core.specs.declared.entry.Reply.{Reply}
 use Rattle.account_core.specs.declared.entry.Reply.TheVariants as reply
-use Rattle.tariff_core.specs.declared.plan.TheConstants.{MAX_MONEY}
+use Rattle.price_core.specs.declared.plan.TheConstants.{MAX_MONEY}
 
 -- an amount is added where the funds stay within the largest money
 abbrev pub credit_reply : ℕ → ℕ → ℕ → Reply

@@ -1,15 +1,15 @@
 -- What holds after every legal history.
 use Rattle.std.specs.Prelude.{◌≡◌, ◌+◌, ◌≤◌, ℕ, true, Option, Some, None, List}
-use Rattle.tariff_core.specs.Ceiling.{ceiling_of, may_come}
-use Rattle.tariff_core.specs.Rates.{Rates}
-use Rattle.tariff_core.specs.Times.{Elapsed}
+use Rattle.price_core.specs.Ceiling.{ceiling_of, may_come}
+use Rattle.price_core.specs.Rates.{Rates}
+use Rattle.price_core.specs.Times.{Elapsed}
 use Rattle.account_core.specs.Answers.{IsLegalPast, inadmissible, bare_reply}
 use Rattle.account_core.specs.Asked.{Asked, call_of}
 use Rattle.account_core.specs.Available.{available, credits, taken_by_all}
 use Rattle.account_core.specs.Entries.{EntryData}
 use Rattle.account_core.specs.Known.{EntryDeed, Grants, CallFacts, deed_of, known, known_after, nothing_known, taken_of}
-use Rattle.tariff_core.specs.declared.plan.TheConstants.{MAX_MONEY}
-use Rattle.tariff_core.specs.declared.times.TheConstants.{DAY}
+use Rattle.price_core.specs.declared.plan.TheConstants.{MAX_MONEY}
+use Rattle.price_core.specs.declared.times.TheConstants.{DAY}
 
 -- a call that was granted something: its times may have come from those at its last grant, within a day, and its top is the ceiling of that grant
 pub record IsGrantedCall (plan : Rates) (call : CallFacts) : Type 0 where

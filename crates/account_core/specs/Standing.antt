@@ -7,7 +7,7 @@ use Rattle.account_core.specs.Ledger.{entry_by}
 use Rattle.account_core.specs.declared.entry.Reply.{Reply}
 use Rattle.account_core.specs.declared.entry.Reply.TheVariants as reply
 use Rattle.account_core.specs.declared.fault.AccountFault.{AccountFault}
-use Rattle.tariff_core.specs.declared.times.TheConstants.{DAY}
+use Rattle.price_core.specs.declared.times.TheConstants.{DAY}
 
 -- the units of a grant: some, at least the least and at most those wanted, and within a day with the times of the call
 pub record IsGrant (known : CallFacts) (wanted least units : ℕ) : Type 0 where

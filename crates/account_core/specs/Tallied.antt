@@ -9,7 +9,7 @@ use Rattle.account_core.specs.Kept.{KnowsEach}
 use Rattle.account_core.specs.Known.{CallFacts, known}
 use Rattle.account_core.specs.declared.call_states.CallStates.{CallStates}
 use Rattle.account_core.specs.declared.tally.Tally.{Tally}
-use Rattle.tariff_core.specs.declared.plan.TheConstants.{MAX_MONEY}
+use Rattle.price_core.specs.declared.plan.TheConstants.{MAX_MONEY}
 
 -- a tally with these parts
 abbrev pub tally_of : CallStates → ℕ → ℕ → Option ℕ → Tally

@@ -1,5 +1,5 @@
 -- The laws of the tariff that an account rests on.
-use Rattle.tariff_core.specs.Laws.{AffordedAreCovered, AffordedAreWithin, CeilingIsNotPassed, ComingIsTransitive, ComingTimesStand, ReadTimesAre, TimesMayStay}
+use Rattle.price_core.specs.Laws.{AffordedAreCovered, AffordedAreWithin, CeilingIsNotPassed, ComingIsTransitive, ComingTimesStand, ReadTimesAre, TimesMayStay}
 
 -- the laws of prices that an account rests on
 pub record TariffLaws : Type 0 where

@@ -16,9 +16,9 @@ ghost use Rattle.account_core.specs.Tellers.{Admits, IsAnsweredByTeller, IsTelle
 use crate::call_state::{CallState, judge, reply};
 use crate::tally::Tally;
 use crate::{AccountFault, Admitted, CallSum, Entry, Op, Reply, laws};
+use price_core::MAX_MONEY;
 use std::alloc::{AllocError, Global};
 use std::marker::Model;
-use tariff_core::MAX_MONEY;
 
 /// An account: a history of entries, each the one right answer of a sequential account in its
 /// place.

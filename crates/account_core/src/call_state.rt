@@ -11,12 +11,12 @@ ghost use Rattle.account_core.specs.Replies.{reserve_reply, return_reply, settle
 ghost use Rattle.account_core.specs.Sound.{GrantsWithinDay, IsSound};
 ghost use Rattle.account_core.specs.Asked.{is_in_range};
 ghost use Rattle.account_core.specs.Expiry.{is_past};
-ghost use Rattle.tariff_core.specs.RatesOf.{rates_of};
+ghost use Rattle.price_core.specs.RatesOf.{rates_of};
 
 use crate::held_call::HeldCall;
 use crate::kept_plan::KeptPlan;
 use crate::{AccountFault, CallStage, Op, Reply};
-use tariff_core::{
+use price_core::{
     DAY, MAX_MONEY, Plan, TimeInfo, Times, afford, afforded_is_greatest, ceiling,
     ceiling_is_greatest,
 };

@@ -6,12 +6,12 @@ ghost use Rattle.account_core.specs.Kept.{facts_of_held};
 ghost use Rattle.account_core.specs.KeptPlans.{rates_kept};
 ghost use Rattle.account_core.specs.Known.{paid_of, price_under};
 ghost use Rattle.account_core.specs.Replies.{settle_reply};
-ghost use Rattle.tariff_core.specs.RatesOf.{rates_of};
-ghost use Rattle.tariff_core.specs.Reading.{times_read};
+ghost use Rattle.price_core.specs.RatesOf.{rates_of};
+ghost use Rattle.price_core.specs.Reading.{times_read};
 
 use crate::Reply;
 use crate::kept_plan::KeptPlan;
-use tariff_core::{Plan, TimeInfo, Times, lawful, price, read_times};
+use price_core::{Plan, TimeInfo, Times, lawful, price, read_times};
 
 /// What an account keeps of a call that was granted something, while it is open and afterwards.
 #[derive(Clone, Copy, Debug)]

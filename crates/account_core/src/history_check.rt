@@ -11,8 +11,8 @@ ghost use Rattle.account_core.specs.Wrong.{IsWrong};
 
 use crate::tally::{Response, Tally};
 use crate::{Account, AccountFault, AccountSum, CallSum, Entry, Reply};
+use price_core::MAX_MONEY;
 use std::alloc::{AllocError, Global};
-use tariff_core::MAX_MONEY;
 
 impl Account {
     /// Whether a list of entries, oldest first, is a legal history of an opening credit of 0 to

@@ -1,10 +1,10 @@
 //! A plan in little memory.
 
 ghost use Rattle.std.specs.Prelude.{◌≡◌, ◌≤◌, unwrap_or};
-ghost use Rattle.tariff_core.specs.declared.plan.TheConstants.{MAX_RATE};
-ghost use Rattle.tariff_core.specs.declared.times.TheConstants.{DAY};
+ghost use Rattle.price_core.specs.declared.plan.TheConstants.{MAX_RATE};
+ghost use Rattle.price_core.specs.declared.times.TheConstants.{DAY};
 
-use tariff_core::Plan;
+use price_core::Plan;
 
 /// A plan as the state of a call keeps it. Its numbers have 32 bits, so that it takes half the
 /// memory of a plan: books may have hundreds of thousands of calls.
@@ -27,7 +27,7 @@ pub(crate) struct KeptPlan {
 
 impl KeptPlan {
     ghost use Rattle.account_core.specs.KeptPlans.{rates_kept};
-    ghost use Rattle.tariff_core.specs.RatesOf.{rates_of};
+    ghost use Rattle.price_core.specs.RatesOf.{rates_of};
 
     /// What is kept of a plan.
     pub fn of(plan: Plan) -> KeptPlan

@@ -8,7 +8,7 @@ ghost use Rattle.account_core.specs.TariffLaws.{TariffLaws};
 ghost use Rattle.account_core.specs.SharingLaws.{AccountsHaveNoGate, EachIsOwedItsShare, EntriesOweToTheirCalls};
 ghost use Rattle.account_core.specs.declared.limits.TheConstants.{MAX_LIMIT, MIN_LIMIT};
 
-use tariff_core::{afforded_is_greatest, ceiling_is_greatest, lawful_times_follow};
+use price_core::{afforded_is_greatest, ceiling_is_greatest, lawful_times_follow};
 
 /// No balance is negative: at no place of a legal history do its calls take more than there is.
 pub fn no_balance_is_negative()

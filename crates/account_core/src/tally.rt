@@ -15,8 +15,8 @@ ghost use Rattle.account_core.specs.Wrong.{IsWrong};
 use crate::call_state::{CallState, inadmissible, reply};
 use crate::call_states::CallStates;
 use crate::{AccountFault, Entry, Reply, laws};
+use price_core::MAX_MONEY;
 use std::alloc::{AllocError, Global};
-use tariff_core::MAX_MONEY;
 
 /// What an account answers an operation: its reply, or why it refuses it.
 pub(crate) type Response = Result<Reply, AccountFault>;

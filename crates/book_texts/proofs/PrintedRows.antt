@@ -18,7 +18,7 @@ use Rattle.entry_rows.specs.Fits.{FitsAsked, FitsEntry, IsInterval, IsMoment, Is
 use Rattle.shared_account.specs.Closed.{Closed}
 use Rattle.table_core.specs.Printed.{DecimalsArePlain, IsPlain, IsPlainRow, line_of, lines_of}
 use Rattle.table_core.specs.Rows.{Fields}
-use Rattle.tariff_core.specs.declared.times.TimeInfo.TheVariants as info
+use Rattle.price_core.specs.declared.times.TimeInfo.TheVariants as info
 use Rattle.book_texts.specs.BookTexts.{book_rows, book_text, entry_row, book_header, book_row}
 use Rattle.book_texts.specs.Books.{fourth_header, third_header}
 use Rattle.book_texts.specs.Printable.{FitsBook}

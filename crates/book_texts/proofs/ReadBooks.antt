@@ -29,8 +29,8 @@ use Rattle.table_core.specs.Rows.{Fields, rows_of}
 use Rattle.table_core.specs.Tables.{rows_from, table_of}
 use Rattle.table_core.proofs.TableLemmas.{no_fault}
 use Rattle.table_core.specs.declared.fault.RowFault.{RowFault}
-use Rattle.tariff_core.specs.Rates.{are_steps}
-use Rattle.tariff_core.specs.declared.times.TimeInfo.TheVariants as info
+use Rattle.price_core.specs.Rates.{are_steps}
+use Rattle.price_core.specs.declared.times.TimeInfo.TheVariants as info
 use Rattle.book_texts.specs.Audits.{AreVerdicts, IsAuditOf, IsSummedUp, AccountVerdict, all_sum_lines, audited, passed_books}
 use Rattle.book_texts.specs.BookRows.{Enters, Opens, book_account_in, columns_in, entry_in, opening_in, row_said_in}
 use Rattle.book_texts.specs.BookTexts.{asks_steps, book_text, history_has_steps, version_of}

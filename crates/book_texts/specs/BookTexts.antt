@@ -4,7 +4,7 @@ use Rattle.std.specs.Fmt.{decimal}
 use Rattle.std.specs.List.{flat_map, list_any}
 use Rattle.account_core.specs.Asked.{Asked, Reserves}
 use Rattle.account_core.specs.Entries.{EntryData}
-use Rattle.tariff_core.specs.Rates.{has_steps}
+use Rattle.price_core.specs.Rates.{has_steps}
 use Rattle.shared_account.specs.Closed.{Closed}
 use Rattle.entry_rows.specs.Columns.{Answer, Operation, reply_fields, answer_text, field, no_answer, opening_columns, operation_of, operation_text}
 use Rattle.entry_rows.specs.declared.version.Version.{Version}

@@ -4,7 +4,7 @@ use Rattle.account_core.specs.Entries.{entry_data}
 use Rattle.book_texts.specs.BookRows.{Enters, Opens, RowSaid}
 use Rattle.book_texts.specs.declared.book_row.BookRow.{BookRow}
 use Rattle.book_texts.specs.declared.book_row.BookRow.TheVariants as row
-use Rattle.tariff_core.specs.declared.plan.TheConstants.{MAX_MONEY}
+use Rattle.price_core.specs.declared.plan.TheConstants.{MAX_MONEY}
 
 -- what a row of the code says
 abbrev pub row_said_of : BookRow → RowSaid

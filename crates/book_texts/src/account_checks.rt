@@ -9,12 +9,12 @@ ghost use Rattle.book_texts.specs.Checks.{AreChecks, Comes, HaveChecks, IsHeard,
 ghost use Rattle.rising_map.specs.Rising.{AreRising};
 
 use account_core::{AccountFault, Entry, HistoryCheck, Reply};
+use price_core::MAX_MONEY;
 use rising_map::{is_above, place_of};
 use std::alloc::{AllocError, Global};
 use std::collections::BTreeMap;
 use std::mem;
 use table_core::RowKind;
-use tariff_core::MAX_MONEY;
 
 /// What an account answers in place of an entry, where that is the first of its history which is
 /// wrong; or why the entry is refused.

@@ -14,8 +14,8 @@ use entry_rows::{
     Version, is_money_blank, is_op_blank, is_reply_blank, read_op, read_op_word, read_reply,
     read_reply_word, read_seat, read_until,
 };
+use price_core::MAX_MONEY;
 use table_core::{RowKind, has_word, is_blank, number};
-use tariff_core::MAX_MONEY;
 
 /// Where the columns are, and where those of the operation begin.
 const ACCOUNT: usize = 0;

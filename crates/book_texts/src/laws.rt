@@ -1,15 +1,15 @@
 //! Laws of the texts of books, each the contract of a function that does nothing else.
 
 ghost use Rattle.account_core.specs.Entries.{asked_of};
-ghost use Rattle.tariff_core.specs.RatesOf.{rates_of};
+ghost use Rattle.price_core.specs.RatesOf.{rates_of};
 ghost use Rattle.entry_rows.specs.Fits.{FitsPlan};
 ghost use Rattle.book_texts.specs.Typed.{IsTypedAsked};
 ghost use Rattle.book_texts.specs.Laws.{BooksAreRead, BooksHaveOneText, PrintedBooksHaveTheirLines, PrintedBooksPass};
 
 use account_core::Op;
 use entry_rows::{operations_are_read, replies_are_read};
+use price_core::Plan;
 use table_core::{printed_decimals_are_read, printed_tables_are_read};
-use tariff_core::Plan;
 
 /// What `run_lines` says of its text leaves no byte of it open.
 pub fn books_have_one_text()

@@ -7,7 +7,7 @@ use Rattle.std.specs.Prelude.{if◌then◌else◌, is_some}
 use Rattle.account_core.specs.Entries.{EntryData}
 use Rattle.account_core.specs.Known.{CallFacts, known, paid_if_granted, paid_under}
 use Rattle.account_core.specs.Sums.{sum_in, sum_of, sum_under}
-use Rattle.tariff_core.specs.Rates.{Rates}
+use Rattle.price_core.specs.Rates.{Rates}
 use Rattle.account_core.specs.declared.call_sum.CallSum.{CallSum}
 use Rattle.shared_account.specs.Closed.{Closed}
 use Rattle.call_records.proofs.CallLemmas.{next_item}

@@ -3,7 +3,7 @@ use Rattle.std.proofs.Common.{◌≡◌, ℕ, Bool, true, false, true≢false, O
 use Rattle.std.specs.Option.{option_map}
 use Rattle.std.specs.Prelude.{◌⊎◌, if◌then◌else◌, is_none, is_some, unwrap_or}
 use Rattle.account_core.specs.Known.{CallFacts, known, paid_under}
-use Rattle.tariff_core.specs.Rates.{Rates}
+use Rattle.price_core.specs.Rates.{Rates}
 use Rattle.call_records.specs.Calls.{parties_of, call_reports_of, start_of}
 use Rattle.call_records.specs.Laws.{UnservedCallsPayNothing, is_unserved}
 use Rattle.call_records.specs.Records.{IsPrefixOf, IsRecord, Run, outcome_of_end, granted_outcome}

@@ -2,7 +2,7 @@
 
 use crate::Outcome;
 use cap_values::Number;
-use tariff_core::Times;
+use price_core::Times;
 
 /// What a call has come to. Moments and times are in units of 100 ms.
 #[derive(Debug, Drop)]

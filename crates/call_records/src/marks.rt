@@ -6,9 +6,9 @@ ghost use Rattle.account_core.specs.Entries.{EntryData, asked_of, entry_data};
 ghost use Rattle.call_records.specs.Kept.{HaveMarks, marks_in, marks_of};
 
 use account_core::{Entry, Op, Reply};
+use price_core::{Times, read_times};
 use rising_map::RisingMap;
 use std::alloc::{AllocError, Global};
-use tariff_core::{Times, read_times};
 
 /// What entries say of a call.
 #[derive(Clone, Copy)]

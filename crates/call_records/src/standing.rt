@@ -1,6 +1,6 @@
 //! What an account knows of a call.
 
-use tariff_core::Times;
+use price_core::Times;
 
 /// What an account knows of a call.
 #[derive(Clone, Copy)]

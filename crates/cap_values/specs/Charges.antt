@@ -1,6 +1,6 @@
 -- The ranges of ApplyCharging (GSM 09.78).
 use Rattle.std.specs.Prelude.{◌≤◌, ℕ, Option, IfSome, IsSomeAnd}
-use Rattle.tariff_core.specs.declared.times.TheConstants.{DAY}
+use Rattle.price_core.specs.declared.times.TheConstants.{DAY}
 
 -- a period is given, of 1 to a day in units of 100 ms, and the tariff switches 1 to a day's seconds on, if at all
 abbrev pub IsCharge : Option ℕ → Option ℕ → Type 0

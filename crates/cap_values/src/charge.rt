@@ -3,10 +3,10 @@
 ghost use Rattle.std.specs.Prelude.{◌≡◌, ◌↔◌, ◌≤◌, IsOk, IfOk, IsErrOf, Some, None};
 ghost use Rattle.std.specs.Option.{ForSome};
 ghost use Rattle.cap_values.specs.Charges.{IsCharge};
-ghost use Rattle.tariff_core.specs.declared.times.TheConstants.{DAY};
+ghost use Rattle.price_core.specs.declared.times.TheConstants.{DAY};
 
 use crate::ValueFault;
-use tariff_core::DAY;
+use price_core::DAY;
 
 /// The longest time to a tariff switch, in seconds: a day.
 pub const MAX_SWITCH: u32 = 86_400;

@@ -1,7 +1,7 @@
 //! What the gsmSSF says to the service.
 
 use crate::{Event, Leg, Mode, Number};
-use tariff_core::TimeInfo;
+use price_core::TimeInfo;
 
 /// A message from the gsmSSF to the service (GSM 09.78).
 #[derive(Clone, Copy, Debug, PartialEq, Eq)]

@@ -6,7 +6,7 @@ use Rattle.clap.specs.declared.error.kind.ErrorKind.{ErrorKind}
 use Rattle.clap.specs.declared.error.kind.ErrorKind.TheVariants as kind
 use Rattle.run_options.specs.Logs.{log_wish_of}
 use Rattle.run_options.specs.Options.{ask_of, live_ask_of}
-use Rattle.tariff_core.specs.RatesOf.{rates_of}
+use Rattle.price_core.specs.RatesOf.{rates_of}
 use Rattle.command_words.specs.AuditWords.{audit_in}
 use Rattle.command_words.specs.CommandLine.{command_in, errors_in}
 use Rattle.command_words.specs.Options.{price_in, replay_in}

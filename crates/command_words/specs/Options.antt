@@ -5,14 +5,14 @@ use Rattle.clap.specs.Words.{Row, Text, first_of}
 use Rattle.moment_texts.specs.declared.clock.Clock.{Clock}
 use Rattle.moment_texts.specs.declared.clock.Clock.TheVariants as clock
 use Rattle.table_core.specs.Decimals.{decimal_of}
-use Rattle.tariff_core.specs.Rates.{Rates}
+use Rattle.price_core.specs.Rates.{Rates}
 use Rattle.command_words.specs.Wishes.{Wish, Prices, Replays}
 use Rattle.command_words.specs.declared.fault.WordsFault.{WordsFault}
 use Rattle.command_words.specs.declared.fault.WordsFault.TheVariants as fault
-use Rattle.tariff_core.specs.declared.plan.TheConstants.{MAX_MONEY}
+use Rattle.price_core.specs.declared.plan.TheConstants.{MAX_MONEY}
 use Rattle.account_core.specs.declared.limits.TheConstants.{MAX_LIMIT, MIN_LIMIT}
-use Rattle.tariff_core.specs.declared.plan.TheConstants.{MAX_RATE}
-use Rattle.tariff_core.specs.declared.times.TheConstants.{DAY}
+use Rattle.price_core.specs.declared.plan.TheConstants.{MAX_RATE}
+use Rattle.price_core.specs.declared.times.TheConstants.{DAY}
 
 -- the number of an option, where it is given and at most `most`
 abbrev pub wished_number : List Row → Text → ℕ → Option ℕ

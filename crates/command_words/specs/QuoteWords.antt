@@ -5,8 +5,8 @@ use Rattle.clap.specs.Words.{Row, Text, first_of}
 use Rattle.cap_values.specs.Numbers.{is_number}
 use Rattle.moment_texts.specs.Reading.{moment_of}
 use Rattle.tariff_core.specs.TariffTable.{time_of}
-use Rattle.tariff_core.specs.declared.plan.TheConstants.{MAX_MONEY}
-use Rattle.tariff_core.specs.declared.times.TheConstants.{DAY, MAX_MOMENT}
+use Rattle.price_core.specs.declared.plan.TheConstants.{MAX_MONEY}
+use Rattle.price_core.specs.declared.times.TheConstants.{DAY, MAX_MOMENT}
 use Rattle.command_words.specs.Options.{clock_by, has_flag, optional_number_in}
 use Rattle.command_words.specs.QuoteWishes.{QuoteWish}
 use Rattle.command_words.specs.Wishes.{Wish, Quotes}

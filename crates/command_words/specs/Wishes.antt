@@ -4,7 +4,7 @@ use Rattle.book_texts.specs.declared.size.AuditAsk.{AuditAsk}
 use Rattle.run_options.specs.Logs.{LogWish}
 use Rattle.run_options.specs.declared.live.LiveAsk.{LiveAsk}
 use Rattle.run_options.specs.declared.options.RunAsk.{RunAsk}
-use Rattle.tariff_core.specs.Rates.{Rates}
+use Rattle.price_core.specs.Rates.{Rates}
 use Rattle.command_words.specs.QuoteWishes.{QuoteWish}
 use Rattle.rating.specs.Asks.{RateWish}
 

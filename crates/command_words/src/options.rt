@@ -2,7 +2,7 @@
 
 ghost use Rattle.std.specs.Prelude.{◌≡◌, ◌≤◌, option_map, unwrap_or, IfSome};
 ghost use Rattle.clap.specs.Words.{first_of, found_of, rows_of};
-ghost use Rattle.tariff_core.specs.RatesOf.{rates_of};
+ghost use Rattle.price_core.specs.RatesOf.{rates_of};
 ghost use Rattle.command_words.specs.Options.{clock_by, has_flag, optional_number_in, plan_of, price_in, replay_in, wished_account, wished_number, wished_plan};
 ghost use Rattle.command_words.specs.Arguments.{IsRequestOf};
 ghost use Rattle.command_words.specs.Wishes.{Replays};
@@ -12,8 +12,8 @@ use crate::request::{Opening, Request};
 use account_core::{MAX_LIMIT, MIN_LIMIT};
 use clap::ArgMatches;
 use moment_texts::Clock;
+use price_core::{DAY, MAX_MONEY, MAX_RATE, Plan};
 use table_core::decimal;
-use tariff_core::{DAY, MAX_MONEY, MAX_RATE, Plan};
 
 /// What `price` is asked for.
 pub(crate) fn price_request<'a>(options: &ArgMatches<'a>) -> Result<Request<'a>, WordsFault>

@@ -13,7 +13,8 @@ use crate::request::{QuoteAsk, Request};
 use cap_values::Number;
 use clap::ArgMatches;
 use moment_texts::moment;
-use tariff_core::{DAY, MAX_MOMENT, MAX_MONEY, time_of_day};
+use price_core::{DAY, MAX_MOMENT, MAX_MONEY};
+use tariff_core::time_of_day;
 
 /// What `quote` is asked for.
 pub(crate) fn quote_request<'a>(options: &ArgMatches<'a>) -> Result<Request<'a>, WordsFault>

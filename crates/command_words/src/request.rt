@@ -1,15 +1,15 @@
 //! What a command line asks for.
 
 ghost use Rattle.std.specs.Prelude.{◌≤◌, unwrap_or};
-ghost use Rattle.tariff_core.specs.declared.plan.TheConstants.{MAX_MONEY};
-ghost use Rattle.tariff_core.specs.declared.times.TheConstants.{DAY, MAX_MOMENT};
+ghost use Rattle.price_core.specs.declared.plan.TheConstants.{MAX_MONEY};
+ghost use Rattle.price_core.specs.declared.times.TheConstants.{DAY, MAX_MOMENT};
 
 use book_texts::AuditAsk;
 use cap_values::Number;
 use moment_texts::Clock;
+use price_core::{DAY, MAX_MOMENT, MAX_MONEY, Plan};
 use rating::RateAsk;
 use run_options::{LiveOptions, LogAsk, RunOptions};
-use tariff_core::{DAY, MAX_MOMENT, MAX_MONEY, Plan};
 
 /// What the words ask for.
 #[derive(Drop)]

@@ -2,9 +2,9 @@
 
 use crate::options::option_text;
 use clap::ArgMatches;
+use price_core::DAY;
 use run_options::{LiveAsk, RunAsk};
 use std::alloc::{AllocError, Global};
-use tariff_core::DAY;
 
 /// A line about the first time of `run` that is out of its range; empty where none is.
 pub(crate) fn explain_run_times(

@@ -2,7 +2,7 @@
 use Rattle.std.specs.Prelude.{ℕ, Bool, Option, List}
 use Rattle.account_core.specs.Asked.{Asked}
 use Rattle.cap_values.specs.Orders.{Order}
-use Rattle.tariff_core.specs.Rates.{Rates}
+use Rattle.price_core.specs.Rates.{Rates}
 
 -- the terms of a call: what it is charged by, how much is asked for, and the seconds from its beginning to the tariff switch
 pub record Conditions : Type 0 where

@@ -2,7 +2,7 @@
 use Rattle.std.specs.Prelude.{◌≡◌, Result, Ok, Err}
 use Rattle.account_core.specs.Entries.{asked_of}
 use Rattle.cap_values.specs.Orders.{orders_of}
-use Rattle.tariff_core.specs.RatesOf.{rates_of}
+use Rattle.price_core.specs.RatesOf.{rates_of}
 use Rattle.dialogue_core.specs.Phases.{Conditions, Phase, Says, Sequel}
 use Rattle.dialogue_core.specs.Phases as phase
 use Rattle.dialogue_core.specs.Rules.{Step}

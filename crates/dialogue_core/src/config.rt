@@ -2,10 +2,10 @@
 
 ghost use Rattle.std.specs.Prelude.{◌≡◌, ◌↔◌, ◌≤◌, IsOk, IfOk, IfErr};
 ghost use Rattle.dialogue_core.specs.Configs.{IsService};
-ghost use Rattle.tariff_core.specs.declared.times.TheConstants.{DAY};
+ghost use Rattle.price_core.specs.declared.times.TheConstants.{DAY};
 
 use cap_values::ValueFault;
-use tariff_core::DAY;
+use price_core::DAY;
 
 /// What the service asks an account for, in units of 100 ms.
 #[derive(Clone, Copy, Debug, PartialEq, Eq)]

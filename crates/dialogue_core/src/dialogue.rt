@@ -14,7 +14,8 @@ use crate::{DialogueFault, ServiceConfig};
 use account_core::{AccountFault, Op, Reply};
 use arrayvec::ArrayVec;
 use cap_values::{Cause, Event, Mode, ScfOp, SsfMsg};
-use tariff_core::{DAY, Route};
+use price_core::DAY;
+use tariff_core::Route;
 
 /// The service's dialogue about one call.
 #[derive(Clone, Copy, Debug, PartialEq, Eq)]

@@ -10,7 +10,7 @@ ghost use Rattle.dialogue_core.specs.Views.{says_of};
 use crate::Turn;
 use arrayvec::ArrayVec;
 use cap_values::{Arming, Arms, Cause, Charge, Event, Leg, Mode, ScfOp};
-use tariff_core::DAY;
+use price_core::DAY;
 
 /// No operation.
 pub(crate) fn nothing() -> Turn

@@ -3,7 +3,7 @@
 ghost use Rattle.std.specs.Prelude.{◌≤◌};
 ghost use Rattle.std.specs.Option.{ForSome};
 
-use tariff_core::Plan;
+use price_core::Plan;
 
 /// Where a dialogue is. An ask is pending in FirstAsk, Settling, MoreAsk and Returning.
 #[derive(Clone, Copy, Debug, PartialEq, Eq)]

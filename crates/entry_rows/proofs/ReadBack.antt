@@ -7,9 +7,9 @@ use Rattle.std.proofs.lemmas.Fmt.{decimal_nonempty}
 use Rattle.account_core.specs.Asked.{Credits, Reserves, Returns, Settles}
 use Rattle.account_core.specs.declared.entry.Reply.TheVariants as reply
 use Rattle.table_core.specs.Printed.{DecimalsAreRead}
-use Rattle.tariff_core.specs.Rates.{Rates}
-use Rattle.tariff_core.specs.declared.times.TimeInfo.{TimeInfo}
-use Rattle.tariff_core.specs.declared.times.TimeInfo.TheVariants as info
+use Rattle.price_core.specs.Rates.{Rates}
+use Rattle.price_core.specs.declared.times.TimeInfo.{TimeInfo}
+use Rattle.price_core.specs.declared.times.TimeInfo.TheVariants as info
 use Rattle.entry_rows.specs.Column.{any_number_of, interval_of, is_empty_column, moment_column, money_of, number_column, optional_moment_of, optional_rate_of, rate_of, step_units_of, units_of}
 use Rattle.entry_rows.specs.Columns.{in_fourth, number_or_empty, operation_of}
 use Rattle.entry_rows.specs.Fits.{FitsAsked, FitsReport, IsInterval, IsMoment, IsMoney, IsRate, IsTime, IsWide}

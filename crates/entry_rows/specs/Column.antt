@@ -5,9 +5,9 @@ use Rattle.table_core.specs.Fields.{present}
 use Rattle.table_core.specs.Judging.{and_then}
 use Rattle.table_core.specs.declared.fault.RowKind.{RowKind}
 use Rattle.table_core.specs.declared.fault.RowKind.TheVariants as kind
-use Rattle.tariff_core.specs.declared.plan.TheConstants.{MAX_MONEY}
-use Rattle.tariff_core.specs.declared.plan.TheConstants.{MAX_RATE}
-use Rattle.tariff_core.specs.declared.times.TheConstants.{DAY, HORIZON}
+use Rattle.price_core.specs.declared.plan.TheConstants.{MAX_MONEY}
+use Rattle.price_core.specs.declared.plan.TheConstants.{MAX_RATE}
+use Rattle.price_core.specs.declared.times.TheConstants.{DAY, HORIZON}
 
 -- whether a column is empty
 abbrev pub is_empty_column : List ℕ → Bool

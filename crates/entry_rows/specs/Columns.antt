@@ -1,8 +1,8 @@
 -- The columns of an entry: what is asked, and what is answered.
 use Rattle.std.specs.Prelude.{◌≡◌, ◌≢◌, ◌<◌, ◌+◌, ℕ, true, false, Option, Some, None, List, [], ◌++◌, codes, length}
 use Rattle.std.specs.Fmt.{decimal}
-use Rattle.tariff_core.specs.declared.times.TimeInfo.{TimeInfo}
-use Rattle.tariff_core.specs.declared.times.TimeInfo.TheVariants as info
+use Rattle.price_core.specs.declared.times.TimeInfo.{TimeInfo}
+use Rattle.price_core.specs.declared.times.TimeInfo.TheVariants as info
 use Rattle.account_core.specs.Asked.{Asked, Credits, Reserves, Returns, Settles}
 use Rattle.account_core.specs.declared.entry.Reply.{Reply}
 use Rattle.account_core.specs.declared.entry.Reply.TheVariants as reply

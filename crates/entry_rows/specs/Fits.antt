@@ -3,12 +3,12 @@ use Rattle.std.specs.Prelude.{◌≤◌, ℕ, IfSome}
 use Rattle.account_core.specs.Asked.{Asked, Credits, Reserves, Settles, Returns}
 use Rattle.account_core.specs.Entries.{EntryData}
 use Rattle.account_core.specs.Laws.{IsReplyInRange}
-use Rattle.tariff_core.specs.Rates.{Rates}
-use Rattle.tariff_core.specs.declared.times.TimeInfo.{TimeInfo}
-use Rattle.tariff_core.specs.declared.times.TimeInfo.TheVariants as info
-use Rattle.tariff_core.specs.declared.plan.TheConstants.{MAX_MONEY}
-use Rattle.tariff_core.specs.declared.plan.TheConstants.{MAX_RATE}
-use Rattle.tariff_core.specs.declared.times.TheConstants.{DAY, HORIZON}
+use Rattle.price_core.specs.Rates.{Rates}
+use Rattle.price_core.specs.declared.times.TimeInfo.{TimeInfo}
+use Rattle.price_core.specs.declared.times.TimeInfo.TheVariants as info
+use Rattle.price_core.specs.declared.plan.TheConstants.{MAX_MONEY}
+use Rattle.price_core.specs.declared.plan.TheConstants.{MAX_RATE}
+use Rattle.price_core.specs.declared.times.TheConstants.{DAY, HORIZON}
 
 -- a number of 64 bits, a time of a day at most, money, a fee or a rate
 abbrev pub IsWide : ℕ → Type 0

@@ -3,9 +3,9 @@ use Rattle.std.specs.Prelude.{◌&&◌, ℕ, Bool, true, List, Option, None, Res
 use Rattle.account_core.specs.Asked.{Asked, Credits, Reserves, Settles, Returns}
 use Rattle.table_core.specs.Judging.{and_then}
 use Rattle.table_core.specs.declared.fault.RowKind.{RowKind}
-use Rattle.tariff_core.specs.Rates.{Rates}
-use Rattle.tariff_core.specs.declared.times.TimeInfo.{TimeInfo}
-use Rattle.tariff_core.specs.declared.times.TimeInfo.TheVariants as info
+use Rattle.price_core.specs.Rates.{Rates}
+use Rattle.price_core.specs.declared.times.TimeInfo.{TimeInfo}
+use Rattle.price_core.specs.declared.times.TimeInfo.TheVariants as info
 use Rattle.entry_rows.specs.Column.{any_number_of, interval_of, is_empty_column, moment_column, money_of, optional_moment_of, optional_rate_of, rate_of, step_units_of, units_of}
 use Rattle.entry_rows.specs.Columns.{Operation}
 use Rattle.entry_rows.specs.declared.version.Version.{Version}

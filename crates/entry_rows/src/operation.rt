@@ -5,7 +5,7 @@ ghost use Rattle.std.specs.Result.{result_map_both};
 ghost use Rattle.csv.specs.Records.{fields_of};
 ghost use Rattle.table_core.specs.Fields.{field_in};
 ghost use Rattle.account_core.specs.Entries.{asked_of};
-ghost use Rattle.tariff_core.specs.RatesOf.{rates_of};
+ghost use Rattle.price_core.specs.RatesOf.{rates_of};
 ghost use Rattle.entry_rows.specs.Column.{interval_of, units_of};
 ghost use Rattle.entry_rows.specs.Columns.{HasOperation, first_operation_at, operation_at, x6_at, x7_at, x8_at, x9_at};
 ghost use Rattle.entry_rows.specs.Operations.{are_added_empty, are_last_empty, asked_in, at_of, credit_in, first_column, free_of, has_no_until, is_asked_blank, is_money_blank, settle_without_switch, plan_in, reserve_in, return_in, settle_in, step_column, settle_with_switch, until_of};
@@ -15,8 +15,8 @@ use crate::version::Version;
 use crate::words::OpWord;
 use account_core::Op;
 use csv::ByteRecord;
+use price_core::{DAY, HORIZON, MAX_MONEY, MAX_RATE, Plan, TimeInfo};
 use table_core::{RowKind, is_blank, number, optional};
-use tariff_core::{DAY, HORIZON, MAX_MONEY, MAX_RATE, Plan, TimeInfo};
 
 /// The operation of this word whose columns begin at `at`; else `Number`. The columns that must be
 /// empty aren't judged.

@@ -12,8 +12,8 @@ use crate::operation::read_units;
 use crate::words::ReplyWord;
 use account_core::Reply;
 use csv::ByteRecord;
+use price_core::MAX_MONEY;
 use table_core::{RowKind, is_blank, number};
-use tariff_core::MAX_MONEY;
 
 /// The reply of this word whose columns begin at `at`; else `Number`. The columns that must be
 /// empty aren't judged.

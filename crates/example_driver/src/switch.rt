@@ -1,13 +1,13 @@
 //! A switch with one call, which talks for as long as the service lets it.
 
 ghost use Rattle.std.specs.Prelude.{◌≡◌, ◌≤◌, ◌++◌, ◌∷◌, [], false, All, OnOk};
-ghost use Rattle.tariff_core.specs.declared.times.TheConstants.{HORIZON};
+ghost use Rattle.price_core.specs.declared.times.TheConstants.{HORIZON};
 ghost use Rattle.run_values.specs.declared.post.Body.TheVariants as body;
 
 use cap_values::{Charge, Event, Leg, Mode, Number, ScfOp, SsfMsg};
+use price_core::{DAY, HORIZON, TimeInfo};
 use run_values::{Answer, Body, Driver};
 use std::alloc::{AllocError, Global};
-use tariff_core::{DAY, HORIZON, TimeInfo};
 
 /// What comes next of the call.
 #[derive(Clone, Copy)]

@@ -5,8 +5,8 @@ use crate::empties::is_money;
 use crate::found_rows::{field_at, is_word_at};
 use crate::wants::{Column, Wants, first_refused};
 use csv::ByteRecord;
+use price_core::{DAY, HORIZON, MAX_MOMENT, MAX_MONEY, MAX_RATE};
 use table_core::is_word;
-use tariff_core::{DAY, HORIZON, MAX_MOMENT, MAX_MONEY, MAX_RATE};
 
 /// Where the columns of an operation begin in a table of operations, and in one of books.
 const OP_OF_OPS: usize = 1;

@@ -12,9 +12,10 @@ use crate::midnight::{push_no_midnight, push_repeated_band};
 use crate::unknown_words::push_unknown_word;
 use crate::wants::{Column, Wants, first_refused, push_refusal};
 use csv::ByteRecord;
+use price_core::DAY;
 use std::alloc::{AllocError, Global};
 use table_core::{RowFault, RowKind};
-use tariff_core::{DAY, TariffFault, TariffKind};
+use tariff_core::{TariffFault, TariffKind};
 
 /// A table that has a fault.
 #[derive(Clone, Copy)]

@@ -19,7 +19,7 @@ use Rattle.held_calls.specs.Laws.{EndedCallsAreReturned, IsAnsweredNext, TakenRe
 use Rattle.run_values.specs.Setups.{Setup}
 use Rattle.run_values.specs.declared.post.Body.TheVariants.{Ssf}
 use Rattle.run_values.specs.declared.post.Post.{Post}
-use Rattle.tariff_core.specs.declared.times.TimeInfo.{TimeInfo}
+use Rattle.price_core.specs.declared.times.TimeInfo.{TimeInfo}
 use Rattle.workers_core.proofs.OwnCalls.{kept_got, no_settle, talked_about}
 use Rattle.workers_core.proofs.Chaining.{all_sound, first_sound, handled_so}
 use Rattle.workers_core.proofs.Growing.{place_within, read_talked}

@@ -23,7 +23,7 @@ use Rattle.held_calls.proofs.Steps.{is_running}
 use Rattle.held_calls.proofs.Rules.{Awaits, Fits, Stands}
 use Rattle.held_calls.specs.Held.{IsShown}
 use Rattle.runs_core.proofs.Listed.{all_first, all_later}
-use Rattle.tariff_core.specs.declared.times.TheConstants.{DAY}
+use Rattle.price_core.specs.declared.times.TheConstants.{DAY}
 use Rattle.workers_core.proofs.OwnCalls.{SaysOf, says_of_call}
 use Rattle.workers_core.specs.Refusals.{NeverRefusesOwed}
 use Rattle.workers_core.specs.Served.{returned_in, returns_of}

@@ -16,7 +16,7 @@ use Rattle.dialogue_core.specs.Rules.{Step, are_units, on_begin, on_message, on_
 use Rattle.dialogue_core.specs.Talks.{Got, after_got, or_done}
 use Rattle.dialogue_core.specs.declared.fault.DialogueFault.TheVariants.{Unexpected}
 use Rattle.held_calls.specs.Held.{IsShown}
-use Rattle.tariff_core.specs.Rates.{Rates}
+use Rattle.price_core.specs.Rates.{Rates}
 use Rattle.tariff_core.specs.declared.route.Route.{Route}
 
 -- what is asked for in a phase

@@ -9,7 +9,7 @@ use Rattle.run_values.specs.Setups.{Setup}
 use Rattle.run_values.specs.declared.post.Body.TheVariants.{Ssf}
 use Rattle.run_values.specs.declared.post.Post.{Post}
 use Rattle.runs_core.specs.Shares.{item_of}
-use Rattle.tariff_core.specs.declared.times.TimeInfo.{TimeInfo}
+use Rattle.price_core.specs.declared.times.TimeInfo.{TimeInfo}
 use Rattle.workers_core.specs.Chains.{AreAnswered, AnswersItsPosts, at_first, seat_numbers}
 use Rattle.workers_core.specs.Handled.{AnswerView, Holding, IsRightlyHandled}
 use Rattle.workers_core.specs.Laws.{IsRunning, ends_call}

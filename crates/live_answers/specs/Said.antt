@@ -4,7 +4,7 @@ use Rattle.live_answers.specs.Standing.{LineView}
 use Rattle.live_answers.specs.declared.judging.Said.{Said}
 use Rattle.live_answers.specs.declared.judging.Said.TheVariants as said
 use Rattle.message_rows.specs.Views.{view_of}
-use Rattle.tariff_core.specs.declared.times.TheConstants.{HORIZON}
+use Rattle.price_core.specs.declared.times.TheConstants.{HORIZON}
 
 -- what is said, as a trace prints it
 abbrev pub line_view_of : Said → LineView

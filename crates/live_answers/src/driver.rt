@@ -1,7 +1,7 @@
 //! What a live run keeps.
 
 ghost use Rattle.std.specs.Prelude.{◌≤◌, All};
-ghost use Rattle.tariff_core.specs.declared.times.TheConstants.{HORIZON};
+ghost use Rattle.price_core.specs.declared.times.TheConstants.{HORIZON};
 
 use crate::Replay;
 use crate::judging::Said;

@@ -11,10 +11,10 @@ ghost use Rattle.table_core.specs.Judging.{and_then};
 
 use crate::{LineKind, MAX_LINE};
 use message_rows::{Message, read_line};
+use price_core::HORIZON;
 use run_values::Body;
 use std::alloc::{AllocError, Global};
 use table_core::RowKind;
-use tariff_core::HORIZON;
 
 /// What a line says.
 #[derive(Clone, Copy)]

@@ -25,8 +25,8 @@ use Rattle.table_core.specs.Judging.{and_then}
 use Rattle.table_core.specs.Rows.{Fields, rows_of}
 use Rattle.table_core.specs.declared.fault.RowKind.{RowKind}
 use Rattle.table_core.specs.declared.fault.RowKind.TheVariants as row
-use Rattle.tariff_core.specs.declared.times.TimeInfo.{TimeInfo}
-use Rattle.tariff_core.specs.declared.times.TimeInfo.TheVariants as info
+use Rattle.price_core.specs.declared.times.TimeInfo.{TimeInfo}
+use Rattle.price_core.specs.declared.times.TimeInfo.TheVariants as info
 use Rattle.tariff_core.proofs.Proper.{decimal_within}
 use Rattle.tariff_core.proofs.TableLemmas.{after_is}
 

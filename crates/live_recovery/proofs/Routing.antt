@@ -5,8 +5,8 @@ use Rattle.dialogue_core.specs.Rules.{on_begin, reserve, seconds_to}
 use Rattle.tariff_core.proofs.Routing.{no_route, same_terms}
 use Rattle.tariff_core.specs.Bands.{Band}
 use Rattle.tariff_core.specs.Laws.{IsProper}
-use Rattle.tariff_core.specs.Rates.{Rates}
-use Rattle.tariff_core.specs.RatesOf.{rates_of}
+use Rattle.price_core.specs.Rates.{Rates}
+use Rattle.price_core.specs.RatesOf.{rates_of}
 use Rattle.tariff_core.specs.declared.route.Route.{Route}
 use Rattle.workers_core.specs.Verdicts.{IsRouted}
 

@@ -20,8 +20,8 @@ use Rattle.run_values.specs.declared.post.Body.TheVariants.{Ssf, Recharge}
 use Rattle.runs_core.specs.Shares.{Item, numbered as items_from}
 use Rattle.table_core.specs.Fields.{field_in}
 use Rattle.table_core.specs.Rows.{Fields}
-use Rattle.tariff_core.specs.declared.times.TimeInfo.{TimeInfo}
-use Rattle.tariff_core.specs.declared.times.TimeInfo.TheVariants as info
+use Rattle.price_core.specs.declared.times.TimeInfo.{TimeInfo}
+use Rattle.price_core.specs.declared.times.TimeInfo.TheVariants as info
 use Rattle.live_recovery.proofs.Readable.{IsReadable, ItemsRead, Reads}
 
 -- ---- words

@@ -1,7 +1,7 @@
 //! What accounts are asked in tests, and what they are to answer.
 
 use account_core::{AccountFault, Op, Reply};
-use tariff_core::{Plan, TimeInfo};
+use price_core::{Plan, TimeInfo};
 
 /// What an account is asked.
 pub(crate) enum Ask {

@@ -8,8 +8,9 @@ use dialogue_core::{
     Dialogue, DialogueFault, ServiceConfig, Turn, honest_replies_are_expected,
     one_return_if_granted, one_settle_a_grant,
 };
+use price_core::{Plan, TimeInfo};
 use std::process::Abort;
-use tariff_core::{Plan, Route, TimeInfo};
+use tariff_core::Route;
 
 /// What a dialogue is handed.
 enum Input {

@@ -4,7 +4,7 @@
 use crate::account_asks::{TWO_RATES, credit, reserve};
 use crate::looking::gives;
 use account_core::{Account, Entry, Op, Reply};
-use tariff_core::TimeInfo;
+use price_core::TimeInfo;
 
 const WHOLE: Reply = Reply::Granted {
     units: 600,

@@ -6,9 +6,9 @@ use crate::looking::gives;
 use crate::making::{arms, charge, number};
 use crate::ssf_rows::{CALLS, Input, Row, Sent, Start};
 use cap_values::{Cause, Event, Mode, ScfOp, SsfMsg};
+use price_core::HORIZON;
 use ssf_core::{BcsmEvent, DefaultHandling, Item, Moment, Out, Ssf, SsfConfig, State};
 use std::process::Abort;
-use tariff_core::HORIZON;
 
 /// The last moment that a gsmSSF takes.
 const LATEST: Moment = 2_000_000_000_000;

@@ -2,8 +2,8 @@
 //! Release where no other is named.
 
 use cap_values::{Event, Leg, Mode};
+use price_core::TimeInfo;
 use ssf_core::{BcsmEvent, DefaultHandling, Moment, SsfFault, State};
-use tariff_core::TimeInfo;
 
 /// What a gsmSSF is handed.
 pub(crate) enum Input {

@@ -29,8 +29,8 @@ use Rattle.table_core.specs.Decimals.{decimal_of}
 use Rattle.table_core.specs.Fields.{field_in, is_blank, number_in, optional_in}
 use Rattle.table_core.specs.Printed.{DecimalsAreRead}
 use Rattle.table_core.specs.Rows.{Fields}
-use Rattle.tariff_core.specs.declared.times.TimeInfo.{TimeInfo}
-use Rattle.tariff_core.specs.declared.times.TimeInfo.TheVariants as info
+use Rattle.price_core.specs.declared.times.TimeInfo.{TimeInfo}
+use Rattle.price_core.specs.declared.times.TimeInfo.TheVariants as info
 
 -- the fields of a row
 abbrev pub row_fields : List ℕ → ℕ → Option ℕ → List ℕ → Said → Fields

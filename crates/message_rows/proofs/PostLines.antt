@@ -32,7 +32,7 @@ use Rattle.run_values.specs.declared.post.Body.{Body}
 use Rattle.run_values.specs.declared.post.Body.TheVariants as body
 use Rattle.table_core.specs.Printed.{DecimalsArePlain, DecimalsAreRead, IsPlain, IsPlainRow, TablesAreRead, line_of, lines_of}
 use Rattle.table_core.specs.Rows.{Fields, rows_of}
-use Rattle.tariff_core.specs.declared.times.TimeInfo.TheVariants as info
+use Rattle.price_core.specs.declared.times.TimeInfo.TheVariants as info
 
 -- ---- the line
 

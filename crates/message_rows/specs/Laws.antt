@@ -10,7 +10,7 @@ use Rattle.run_trace.specs.Said.{post_said}
 use Rattle.run_trace.specs.Tables.{head_of, trace_row, sender_of}
 use Rattle.run_values.specs.declared.post.Body.{Body}
 use Rattle.run_values.specs.declared.post.Body.TheVariants as body
-use Rattle.tariff_core.specs.declared.times.TheConstants.{MAX_MOMENT}
+use Rattle.price_core.specs.declared.times.TheConstants.{MAX_MOMENT}
 
 -- the times of a message fit their columns
 abbrev pub FitsMessage : SsfMsg → Type 0

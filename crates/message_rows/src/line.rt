@@ -13,9 +13,9 @@ ghost use Rattle.table_core.specs.Rows.{rows_of};
 
 use crate::message::{Message, read_message};
 use csv::ByteRecord;
+use price_core::HORIZON;
 use std::alloc::{AllocError, Global};
 use table_core::{RowKind, Rows, TableFault};
-use tariff_core::HORIZON;
 
 /// How many columns a message row has.
 const COLUMNS: usize = 9;

@@ -10,10 +10,10 @@ use crate::words::{Word, read_word};
 use cap_values::{Event, Leg, Mode, SsfMsg};
 use csv::ByteRecord;
 use moment_texts::moment_field;
+use price_core::{DAY, HORIZON, TimeInfo};
 use run_texts::{account, amount, party, until};
 use run_values::Body;
 use table_core::{RowKind, is_blank, number, optional};
-use tariff_core::{DAY, HORIZON, TimeInfo};
 
 /// A message of the switch of a call, or a recharge by the operator, and when.
 #[derive(Clone, Copy, Debug, PartialEq, Eq)]

@@ -1,7 +1,7 @@
 -- A moment as it is printed.
 use Rattle.std.specs.Prelude.{◌/◌, ◌%◌, ℕ, List, [], ◌++◌, codes, Option, Some, None}
 use Rattle.std.specs.Fmt.{decimal}
-use Rattle.tariff_core.specs.declared.times.TheConstants.{DAY}
+use Rattle.price_core.specs.declared.times.TheConstants.{DAY}
 use Rattle.moment_texts.specs.Calendar.{dated}
 use Rattle.moment_texts.specs.declared.calendar.CalendarDay.{CalendarDay}
 use Rattle.moment_texts.specs.declared.clock.Clock.{Clock}

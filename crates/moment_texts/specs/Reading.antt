@@ -3,7 +3,7 @@ use Rattle.std.specs.Prelude.{◌+◌, ◌*◌, ◌==◌, ◌&&◌, ◌||◌, �
 use Rattle.std.specs.Option.{option_or}
 use Rattle.table_core.specs.Decimals.{decimal_of}
 use Rattle.tariff_core.specs.TariffTable.{time_of as minutes_of}
-use Rattle.tariff_core.specs.declared.times.TheConstants.{DAY}
+use Rattle.price_core.specs.declared.times.TheConstants.{DAY}
 use Rattle.moment_texts.specs.Calendar.{day_at}
 
 -- two amounts of units together, where both are there; the first is of so many units each

@@ -1,8 +1,8 @@
 //! Moments and times of day as they are printed.
 
 use crate::calendar::CalendarDay;
+use price_core::DAY;
 use std::fmt;
-use tariff_core::DAY;
 
 /// How moments are printed.
 #[derive(Clone, Copy, Debug, PartialEq, Eq)]

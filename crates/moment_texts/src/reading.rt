@@ -4,8 +4,9 @@ ghost use Rattle.std.specs.Prelude.{◌≡◌, ◌≤◌, ◌<◌, IfSome};
 ghost use Rattle.moment_texts.specs.Reading.{date_and_time_of, day_of, moment_of, seconds_of, written_time};
 
 use crate::calendar::day_number;
+use price_core::DAY;
 use table_core::decimal;
-use tariff_core::{DAY, time_of_day};
+use tariff_core::time_of_day;
 
 /// The moment that a text writes, in units of 100 ms from moment 0 on, or none where it writes none
 /// or one above `most`.

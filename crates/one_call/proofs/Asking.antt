@@ -16,8 +16,8 @@ use Rattle.dialogue_core.specs.Phases as phase
 use Rattle.dialogue_core.specs.Rules.{Step, are_units, says_first_period, on_reply, sequel, on_refusal}
 use Rattle.dialogue_core.specs.declared.fault.DialogueFault.TheVariants.{Unexpected}
 use Rattle.ssf_core.specs.Meters.{Meter}
-use Rattle.tariff_core.specs.Rates.{Rates}
-use Rattle.tariff_core.specs.declared.times.TimeInfo.{TimeInfo}
+use Rattle.price_core.specs.Rates.{Rates}
+use Rattle.price_core.specs.declared.times.TimeInfo.{TimeInfo}
 use Rattle.one_call.specs.Covered.{FitsMeter, IsAsking, IsCovered, IsFreshCall, IsMore, IsUsedUp}
 use Rattle.one_call.specs.Counts.{with_answer}
 use Rattle.one_call.specs.declared.counts.Counts.{Counts}

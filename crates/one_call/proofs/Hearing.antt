@@ -18,8 +18,8 @@ use Rattle.ssf_core.specs.Meters.{EndsMeter, Later, Meter, RunsThrough, TakesPer
 use Rattle.ssf_core.specs.Meters as meters
 use Rattle.ssf_core.specs.declared.item.Item.TheVariants as item
 use Rattle.ssf_core.specs.declared.item.Out.{Out}
-use Rattle.tariff_core.specs.Rates.{Rates}
-use Rattle.tariff_core.specs.Times.{Elapsed, no_times}
+use Rattle.price_core.specs.Rates.{Rates}
+use Rattle.price_core.specs.Times.{Elapsed, no_times}
 use Rattle.one_call.specs.Covered.{IsAtRest, IsCovered, IsReadyCall, IsResting, IsSingle, KnowsTimes}
 use Rattle.ssf_core.specs.Deliveries.{deliveries_at}
 use Rattle.ssf_core.specs.declared.deliveries.Delivery.{Delivery}

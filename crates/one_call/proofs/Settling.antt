@@ -10,12 +10,12 @@ use Rattle.account_core.specs.Known as known
 use Rattle.cap_values.specs.Orders.{Paid}
 use Rattle.ssf_core.specs.Meters.{Meter, Reports}
 use Rattle.ssf_core.specs.Split.{split}
-use Rattle.tariff_core.specs.Lawful.{is_lawful}
-use Rattle.tariff_core.specs.Rates.{Rates}
-use Rattle.tariff_core.specs.Reading.{times_read}
-use Rattle.tariff_core.specs.Times.{Elapsed, no_times}
-use Rattle.tariff_core.specs.declared.times.TimeInfo.{TimeInfo}
-use Rattle.tariff_core.specs.declared.times.TimeInfo.TheVariants.{Switch}
+use Rattle.price_core.specs.Lawful.{is_lawful}
+use Rattle.price_core.specs.Rates.{Rates}
+use Rattle.price_core.specs.Reading.{times_read}
+use Rattle.price_core.specs.Times.{Elapsed, no_times}
+use Rattle.price_core.specs.declared.times.TimeInfo.{TimeInfo}
+use Rattle.price_core.specs.declared.times.TimeInfo.TheVariants.{Switch}
 use Rattle.one_call.specs.Covered.{IsCovered, IsSingle, KnowsTimes, IsUsedUp, times_at}
 
 -- ---- tests

@@ -7,10 +7,10 @@ use Rattle.account_core.specs.Known.{CallFacts, Reports, known_after, nothing_kn
 use Rattle.cap_values.specs.Orders.{Paid, paid_by}
 use Rattle.dialogue_core.specs.Phases.{Conditions, Phase, Says, FirstAsk, Running, Settling, MoreAsk, Returning, Asks, Sends, Finished}
 use Rattle.ssf_core.specs.Meters.{Meter}
-use Rattle.tariff_core.specs.Rates.{Rates}
-use Rattle.tariff_core.specs.Times.{Elapsed, no_times}
-use Rattle.tariff_core.specs.declared.times.TimeInfo.{TimeInfo}
-use Rattle.tariff_core.specs.declared.times.TheConstants.{DAY}
+use Rattle.price_core.specs.Rates.{Rates}
+use Rattle.price_core.specs.Times.{Elapsed, no_times}
+use Rattle.price_core.specs.declared.times.TimeInfo.{TimeInfo}
+use Rattle.price_core.specs.declared.times.TheConstants.{DAY}
 
 -- the units that queued orders pay for
 abbrev pub units_in : List Paid → ℕ

@@ -1,7 +1,7 @@
 //! What a driven call came to.
 
+use price_core::TimeInfo;
 use ssf_core::State;
-use tariff_core::TimeInfo;
 
 /// What a driven call came to.
 #[derive(Clone, Copy, Debug, PartialEq, Eq)]

@@ -5,8 +5,8 @@ ghost use Rattle.one_call.specs.Counts.{asks_counted, nothing_counted, with_answ
 
 use account_core::{AccountFault, Reply};
 use cap_values::SsfMsg;
+use price_core::TimeInfo;
 use ssf_core::SsfFault;
-use tariff_core::TimeInfo;
 
 /// What was counted of a call so far. A count that reaches the largest `u64` stays there.
 #[derive(Clone, Copy)]

@@ -9,9 +9,9 @@ ghost use Rattle.ssf_core.specs.Moments.{in_reach, sooner};
 ghost use Rattle.one_call.specs.Scripts.{next_event};
 
 use crate::script::next_event;
+use price_core::HORIZON;
 use ssf_core::{BcsmEvent, Delivery, Moment, Ssf, next_delivery, next_moment};
 use std::collections::VecDeque;
-use tariff_core::HORIZON;
 
 /// The moment of the next input: the least of the next event's, the next delivery's and that at
 /// which a timer is due. None where there is none of them.

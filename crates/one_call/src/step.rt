@@ -7,9 +7,9 @@ ghost use Rattle.one_call.specs.Deliveries.{queued_in};
 ghost use Rattle.one_call.specs.Steps.{Given, IsNextGiven};
 
 use crate::script::take_event;
+use price_core::HORIZON;
 use ssf_core::{BcsmEvent, Delivery, Moment, Ssf, Step, take_due};
 use std::collections::VecDeque;
-use tariff_core::HORIZON;
 
 /// Gives the gsmSSF its next input at a moment: a delivery that is due, else an event that is, else
 /// the time alone.

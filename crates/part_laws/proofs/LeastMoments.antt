@@ -5,7 +5,7 @@ use Rattle.std.proofs.lemmas.Bool.Decides.{nat_tests}
 use Rattle.std.specs.Option.{ForSome}
 use Rattle.std.specs.Prelude.{nat_lt}
 use Rattle.ssf_core.specs.Moments.{in_reach, sooner}
-use Rattle.tariff_core.specs.declared.times.TheConstants.{HORIZON}
+use Rattle.price_core.specs.declared.times.TheConstants.{HORIZON}
 
 reach_by : (far : Bool) (moment now : ℕ) → nat_lt HORIZON moment ≡ far → in_reach (Some moment) ≡ Some now → (moment ≡ now) × (now ≤ HORIZON)
 reach_by true moment now far is = let none : None ≡ Some now = rw far at is in absurd (cc none)

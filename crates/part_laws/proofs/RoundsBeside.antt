@@ -29,7 +29,7 @@ use Rattle.script_player.specs.Unplaced.{unplaced_in}
 use Rattle.ssf_core.specs.Deliveries.{next_delivery}
 use Rattle.ssf_core.specs.OneWay.{TimersRunOneWay}
 use Rattle.ssf_core.specs.declared.deliveries.Delivery.{Delivery}
-use Rattle.tariff_core.specs.declared.times.TheConstants.{HORIZON}
+use Rattle.price_core.specs.declared.times.TheConstants.{HORIZON}
 
 -- ---- nothing is before a moment
 

@@ -25,8 +25,8 @@ use Rattle.table_core.specs.Judging.{and_then}
 use Rattle.table_core.specs.Rows.{rows_of}
 use Rattle.table_core.specs.declared.fault.RowFault.{RowFault}
 use Rattle.tariff_core.specs.Bands.{Band}
-use Rattle.tariff_core.specs.Rates.{Rates}
-use Rattle.tariff_core.specs.Times.{Elapsed}
+use Rattle.price_core.specs.Rates.{Rates}
+use Rattle.price_core.specs.Times.{Elapsed}
 use Rattle.table_commands.specs.Answers.{IsAuditOfTable, IsAuditPrinted, IsQuotePrinted, price_of_input, replay_of_input}
 use Rattle.table_commands.specs.Explanations.{IsOfWords, IsSaidOfAnswer, IsSaidOfFault}
 use Rattle.table_commands.specs.Faults.{GivesAnswer, GivesOne, meaning_in, meaning_of_section, of_run_input, of_words}

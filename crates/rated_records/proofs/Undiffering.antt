@@ -18,9 +18,9 @@ use Rattle.shared_account.specs.Closed.{Closed}
 use Rattle.shared_account.specs.Refusals.{Knowing}
 use Rattle.tariff_core.proofs.Routing.{one_prefix, same_terms}
 use Rattle.tariff_core.specs.Laws.{IsProper}
-use Rattle.tariff_core.specs.Price.{price_at, price_of}
-use Rattle.tariff_core.specs.Rates.{Rates}
-use Rattle.tariff_core.specs.RatesOf.{rates_of}
+use Rattle.price_core.specs.Price.{price_at, price_of}
+use Rattle.price_core.specs.Rates.{Rates}
+use Rattle.price_core.specs.RatesOf.{rates_of}
 use Rattle.tariff_core.specs.Routes.{HasNoRoute, IsPrefixFor, IsRoute}
 use Rattle.tariff_core.specs.declared.route.Route.{Route}
 

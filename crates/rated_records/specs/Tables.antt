@@ -24,7 +24,7 @@ use Rattle.shared_account.specs.Closed.{Closed}
 use Rattle.shared_account.specs.Refusals.{Knowing}
 use Rattle.table_core.specs.Decimals.{digits_text}
 use Rattle.table_core.specs.Rows.{Fields}
-use Rattle.tariff_core.specs.declared.times.TheConstants.{MAX_MOMENT}
+use Rattle.price_core.specs.declared.times.TheConstants.{MAX_MOMENT}
 
 -- what `rate --answer start` is asked for: the usual names, but for the start in place of the answer
 abbrev pub names_by_start : NamesWish

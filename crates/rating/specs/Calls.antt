@@ -8,8 +8,8 @@ use Rattle.table_core.specs.Decimals.{decimal_of}
 use Rattle.table_core.specs.Fields.{field_in, is_blank}
 use Rattle.table_core.specs.Judging.{and_then}
 use Rattle.table_core.specs.Rows.{Fields}
-use Rattle.tariff_core.specs.declared.plan.TheConstants.{MAX_MONEY}
-use Rattle.tariff_core.specs.declared.times.TheConstants.{DAY, MAX_MOMENT}
+use Rattle.price_core.specs.declared.plan.TheConstants.{MAX_MONEY}
+use Rattle.price_core.specs.declared.times.TheConstants.{DAY, MAX_MOMENT}
 use Rattle.rating.specs.declared.call.Answered.{Answered}
 use Rattle.rating.specs.declared.call.Talk.{Talk}
 use Rattle.rating.specs.declared.call.Talk.TheVariants as talk

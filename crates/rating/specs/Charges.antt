@@ -1,7 +1,7 @@
 -- The price of a call by its route.
 use Rattle.std.specs.Prelude.{◌-◌, ℕ, Option, Some, None, min}
-use Rattle.tariff_core.specs.Price.{price_of}
-use Rattle.tariff_core.specs.Rates.{Rates}
+use Rattle.price_core.specs.Price.{price_of}
+use Rattle.price_core.specs.Rates.{Rates}
 
 -- of a call that is answered at a moment and lasts so long, how much of it lies before the switch
 abbrev pub before_switch : ℕ → ℕ → Option ℕ → ℕ

@@ -2,8 +2,8 @@
 use Rattle.std.specs.Prelude.{◌≡◌, ◌⊎◌, ◌-◌, ◌==◌, ◌&&◌, ℕ, Bool, true, false, not, List, [], Option, Some, None, MatchResult}
 use Rattle.table_core.specs.Rows.{Fields}
 use Rattle.tariff_core.specs.Bands.{Band}
-use Rattle.tariff_core.specs.Price.{price_of}
-use Rattle.tariff_core.specs.RatesOf.{rates_of}
+use Rattle.price_core.specs.Price.{price_of}
+use Rattle.price_core.specs.RatesOf.{rates_of}
 use Rattle.tariff_core.specs.Routes.{HasNoRoute, IsQuote}
 use Rattle.tariff_core.specs.declared.route.Route.{Route}
 use Rattle.rating.specs.Calls.{said_in}

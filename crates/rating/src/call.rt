@@ -12,8 +12,8 @@ use crate::columns::{Columns, TimeColumns};
 use cap_values::MAX_DIGITS;
 use csv::ByteRecord;
 use moment_texts::moment;
+use price_core::{DAY, MAX_MOMENT, MAX_MONEY};
 use table_core::{are_digits, decimal, field, is_blank};
-use tariff_core::{DAY, MAX_MOMENT, MAX_MONEY};
 
 /// The most bytes of a row, as `csv` writes it, the end of its line counted as one.
 pub const MAX_ROW: usize = 65_536;

@@ -1,12 +1,13 @@
 //! The price of a call by its route.
 
 ghost use Rattle.std.specs.Prelude.{◌≡◌, ◌+◌, ◌-◌, ◌<◌, ◌≤◌, IfSome};
-ghost use Rattle.tariff_core.specs.RatesOf.{rates_of};
+ghost use Rattle.price_core.specs.RatesOf.{rates_of};
 ghost use Rattle.rating.specs.Charges.{before_switch, price_of_call};
 ghost use Rattle.rating.specs.Rated.{charged, charge_by};
 ghost use Rattle.rating.specs.declared.call.Talk.TheVariants as talks;
 
-use tariff_core::{DAY, Route, price};
+use price_core::{DAY, price};
+use tariff_core::Route;
 
 /// The times of a call before the tariff switch and after it, in units of 100 ms, and their price.
 #[derive(Clone, Copy, Debug, PartialEq, Eq)]

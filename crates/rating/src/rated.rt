@@ -2,8 +2,8 @@
 
 ghost use Rattle.std.specs.Prelude.{◌≡◌, ◌<◌, ◌≤◌, ◌+◌, length, unwrap_or, IfSome};
 ghost use Rattle.csv.specs.Records.{fields_of};
-ghost use Rattle.tariff_core.specs.declared.plan.TheConstants.{MAX_MONEY};
-ghost use Rattle.tariff_core.specs.declared.pricing.TheConstants.{MAX_PRICE};
+ghost use Rattle.price_core.specs.declared.plan.TheConstants.{MAX_MONEY};
+ghost use Rattle.price_core.specs.declared.pricing.TheConstants.{MAX_PRICE};
 ghost use Rattle.rating.specs.Calls.{AnsweredIsInRange, IsWithinDay, said_in, row_size};
 ghost use Rattle.rating.specs.Columns.{HasAllColumns};
 ghost use Rattle.rating.specs.Rated.{IsPriced, IsRated, charge_by, differs, has_fault, is_right};
@@ -14,7 +14,8 @@ use crate::charge::charge_call;
 use crate::columns::Columns;
 use crate::{PricedTimes, RateKind};
 use csv::ByteRecord;
-use tariff_core::{DAY, HORIZON, Route, Tariff};
+use price_core::{DAY, HORIZON};
+use tariff_core::{Route, Tariff};
 
 /// What a row comes to.
 #[derive(Clone, Copy)]

@@ -2,7 +2,7 @@
 
 use crate::outcome::{Course, Outcome, worse_of};
 use account_core::{AccountFault, Entry, Op, Port, Reply};
-use tariff_core::{Plan, TimeInfo};
+use price_core::{Plan, TimeInfo};
 
 /// The credit that each account is opened with.
 pub(crate) const OPENING: u64 = 1500;

@@ -4,9 +4,9 @@ use crate::outcome::Outcome;
 use arrayvec::ArrayVec;
 use cap_values::{Arming, Arms, Charge, Event, Leg, Mode, Number, ScfOp, SsfMsg};
 use dialogue_core::ServiceConfig;
+use price_core::TimeInfo;
 use run_values::Body;
 use ssf_core::{DefaultHandling, SsfConfig};
-use tariff_core::TimeInfo;
 
 /// What the service asks an account for.
 pub(crate) const SERVICE: ServiceConfig = ServiceConfig {

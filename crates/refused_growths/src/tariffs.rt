@@ -1,8 +1,9 @@
 //! A tariff that is read.
 
 use crate::outcome::{Course, Outcome, expect};
+use price_core::Plan;
 use std::alloc::Global;
-use tariff_core::{Plan, Tariff};
+use tariff_core::Tariff;
 
 /// Two bands of one prefix, and a band of another one.
 const TABLE: &[u8] = b"prefix,from,fee,rate\n49,00:00,50,1000\n49,00:01,0,400\n33,00:00,7,60\n";

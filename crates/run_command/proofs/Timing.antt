@@ -25,9 +25,9 @@ use Rattle.ssf_core.specs.declared.config.SsfConfig.{SsfConfig}
 use Rattle.ssf_core.specs.declared.item.Item.{Item}
 use Rattle.ssf_core.specs.declared.item.Item.TheVariants as sent
 use Rattle.ssf_core.specs.declared.item.Out.{Out}
-use Rattle.tariff_core.specs.Reading.{is_time_info}
-use Rattle.tariff_core.specs.declared.times.TimeInfo.{TimeInfo}
-use Rattle.tariff_core.specs.declared.times.TimeInfo.TheVariants as info
+use Rattle.price_core.specs.Reading.{is_time_info}
+use Rattle.price_core.specs.declared.times.TimeInfo.{TimeInfo}
+use Rattle.price_core.specs.declared.times.TimeInfo.TheVariants as info
 
 -- ---- a report in range
 

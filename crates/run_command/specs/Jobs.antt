@@ -8,7 +8,7 @@ use Rattle.run_command.specs.declared.jobs.Job.{Job}
 use Rattle.run_options.specs.declared.options.RunAsk.{RunAsk}
 use Rattle.run_texts.specs.Views.{rows_are_in_order}
 use Rattle.run_values.specs.Setups.{Setup}
-use Rattle.tariff_core.specs.declared.times.TheConstants.{MAX_MOMENT}
+use Rattle.price_core.specs.declared.times.TheConstants.{MAX_MOMENT}
 
 -- the rows of a part are in range, and in order
 pub record IsInOrder (job : Job) : Type 0 where

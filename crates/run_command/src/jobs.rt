@@ -13,6 +13,7 @@ ghost use Rattle.runs_core.specs.declared.run_fault.RunFault.TheVariants as run;
 use crate::RunError;
 use crate::parts::{Part, play_part};
 use crate::watching::{Watch, Watching};
+use price_core::MAX_MOMENT;
 use run_options::RunOptions;
 use run_parts::Firsts;
 use run_texts::ScriptRow;
@@ -22,7 +23,6 @@ use std::alloc::{AllocError, Global};
 use std::sync::Wait;
 use std::thread::Threads;
 use std::{mem, thread};
-use tariff_core::MAX_MOMENT;
 
 /// A part that is to be played, or was.
 #[derive(Drop)]

@@ -17,6 +17,7 @@ use crate::{Ran, RunError};
 use book_texts::{RunLines, book_table};
 use call_records::{CallRecord, call_table, records};
 use moment_texts::Clock;
+use price_core::MAX_MOMENT;
 use run_options::{PartsAsk, RunOptions, RunOutput};
 use run_parts::{Division, Firsts, divide};
 use run_remarks::{Refusals, UnplacedEvent, by_call, events_of};
@@ -26,7 +27,6 @@ use shared_account::Book;
 use std::alloc::{AllocError, Global};
 use std::sync::Wait;
 use std::thread::Threads;
-use tariff_core::MAX_MOMENT;
 
 /// What is kept of a part that was played, or of all.
 #[derive(Drop)]

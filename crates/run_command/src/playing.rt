@@ -11,6 +11,7 @@ use crate::listening::Listener;
 use crate::watched::Watched;
 use crate::watching::{Watch, Watcher, Watching};
 use crate::{RunError, laws};
+use price_core::MAX_MOMENT;
 use run_options::RunOptions;
 use run_texts::ScriptRow;
 use run_values::RunSetup;
@@ -20,7 +21,6 @@ use shared_account::{Book, OpenGate};
 use std::alloc::Global;
 use std::sync::Wait;
 use std::thread::Threads;
-use tariff_core::MAX_MOMENT;
 
 /// A script that was played.
 #[derive(Drop)]

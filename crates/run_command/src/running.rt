@@ -17,6 +17,7 @@ use crate::watching::{Watch, Watching};
 use crate::{RunError, laws};
 use book_texts::{book_table, run_lines};
 use call_records::{call_table, records};
+use price_core::MAX_MOMENT;
 use run_options::{RunOptions, RunOutput};
 use run_remarks::{Refusals, UnplacedEvent, events_by_call};
 use run_texts::ScriptRow;
@@ -25,7 +26,6 @@ use run_values::{Driver, RunSetup};
 use std::alloc::{AllocError, Global};
 use std::sync::Wait;
 use std::thread::Threads;
-use tariff_core::MAX_MOMENT;
 
 /// What a run prints.
 #[derive(Drop)]

@@ -7,11 +7,11 @@ ghost use Rattle.run_texts.specs.Views.{rows_are_in_order};
 
 use crate::RunError;
 use account_core::MAX_LIMIT;
+use price_core::MAX_MOMENT;
 use run_options::RunOptions;
 use run_texts::{ScriptRow, read_texts};
 use run_values::RunSetup;
 use std::alloc::Global;
-use tariff_core::MAX_MOMENT;
 
 /// What a run begins with.
 #[derive(Drop)]

@@ -17,6 +17,7 @@ use crate::setting_up::{Start, set_up};
 use crate::watching::{Watch, Watching};
 use crate::{RunError, laws};
 use moment_texts::Clock;
+use price_core::MAX_MOMENT;
 use run_options::{RunOptions, RunOutput};
 use run_remarks::{Refusals, UnplacedEvent, events_by_call};
 use run_texts::ScriptRow;
@@ -24,7 +25,6 @@ use run_values::RunSetup;
 use std::alloc::{AllocError, Global};
 use std::sync::Wait;
 use std::thread::Threads;
-use tariff_core::MAX_MOMENT;
 
 /// All that one and the same run prints.
 #[derive(Drop)]

@@ -9,7 +9,7 @@ use Rattle.account_core.specs.Entries.{EntryData}
 use Rattle.account_core.specs.Known.{CallFacts, EntryDeed, Ends, Forfeits, Grants, Reports, Rests, deed, deed_of, known, known_after}
 use Rattle.account_core.specs.declared.entry.Reply.{Reply}
 use Rattle.account_core.specs.declared.entry.Reply.TheVariants as reply
-use Rattle.tariff_core.specs.Rates.{Rates}
+use Rattle.price_core.specs.Rates.{Rates}
 
 -- of a Reserve this holds of its call and its plan
 abbrev pub IfReserves : (ℕ → Rates → Type 0) → Asked → Type 0

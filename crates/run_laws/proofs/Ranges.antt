@@ -17,8 +17,8 @@ use Rattle.run_laws.proofs.Unrouted.{all_found}
 use Rattle.run_laws.specs.Records.{RecordIsInRange, IsServedRun, RecordsAreInRange}
 use Rattle.shared_account.specs.Closed.{Closed}
 use Rattle.shared_account.specs.Refusals.{Knowing}
-use Rattle.tariff_core.specs.Rates.{Rates}
-use Rattle.tariff_core.specs.Times.{Elapsed, no_times}
+use Rattle.price_core.specs.Rates.{Rates}
+use Rattle.price_core.specs.Times.{Elapsed, no_times}
 
 -- ---- the past of an account is sound
 

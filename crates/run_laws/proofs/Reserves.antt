@@ -22,8 +22,8 @@ use Rattle.runs_core.specs.Entered.{ReservesAreInTheBooks}
 use Rattle.shared_account.specs.Closed.{Closed}
 use Rattle.shared_account.specs.Own.{own}
 use Rattle.shared_account.specs.Refusals.{Knowing}
-use Rattle.tariff_core.specs.Rates.{Rates}
-use Rattle.tariff_core.specs.RatesOf.{rates_of}
+use Rattle.price_core.specs.Rates.{Rates}
+use Rattle.price_core.specs.RatesOf.{rates_of}
 use Rattle.tariff_core.specs.Routes.{IsRoute}
 use Rattle.tariff_core.specs.declared.route.Route.{Route}
 use Rattle.workers_core.specs.Laws.{IsOnTerms}

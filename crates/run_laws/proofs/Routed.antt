@@ -25,8 +25,8 @@ use Rattle.run_values.specs.declared.post.Body.TheVariants.{Ssf}
 use Rattle.runs_core.specs.Entered.{ReservesAreInTheBooks}
 use Rattle.shared_account.specs.Closed.{Closed}
 use Rattle.shared_account.specs.Refusals.{Knowing}
-use Rattle.tariff_core.specs.Price.{price_at}
-use Rattle.tariff_core.specs.Rates.{Rates}
+use Rattle.price_core.specs.Price.{price_at}
+use Rattle.price_core.specs.Rates.{Rates}
 use Rattle.tariff_core.specs.Routes.{IsRoute}
 
 -- ---- a call that was granted something and has no forfeit

@@ -28,7 +28,7 @@ use Rattle.run_values.specs.Setups.{place_of}
 use Rattle.runs_core.specs.Entered.{ReservesAreInTheBooks}
 use Rattle.shared_account.specs.Closed.{Closed}
 use Rattle.shared_account.specs.Refusals.{Knowing}
-use Rattle.tariff_core.specs.Rates.{Rates}
+use Rattle.price_core.specs.Rates.{Rates}
 use Rattle.workers_core.proofs.Handling.{at_place}
 use Rattle.workers_core.specs.Verdicts.{home_of}
 

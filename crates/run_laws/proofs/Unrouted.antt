@@ -18,7 +18,7 @@ use Rattle.runs_core.specs.Entered.{ReservesAreInTheBooks}
 use Rattle.shared_account.specs.Closed.{Closed}
 use Rattle.shared_account.specs.Refusals.{Knowing}
 use Rattle.tariff_core.specs.Bands.{Band}
-use Rattle.tariff_core.specs.Rates.{Rates}
+use Rattle.price_core.specs.Rates.{Rates}
 use Rattle.tariff_core.specs.Routes.{HasNoRoute, IsPrefixFor}
 
 -- ---- a call that was granted anything has begun

@@ -13,13 +13,13 @@ use Rattle.runs_core.specs.Runs.{IsRun}
 use Rattle.runs_core.specs.Teams.{are_workers}
 use Rattle.shared_account.specs.Closed.{Closed}
 use Rattle.shared_account.specs.Refusals.{Knowing}
-use Rattle.tariff_core.specs.Price.{price_at}
-use Rattle.tariff_core.specs.RatesOf.{rates_of}
+use Rattle.price_core.specs.Price.{price_at}
+use Rattle.price_core.specs.RatesOf.{rates_of}
 use Rattle.tariff_core.specs.Routes.{IsRoute}
-use Rattle.tariff_core.specs.Times.{no_times}
-use Rattle.tariff_core.specs.declared.plan.TheConstants.{MAX_MONEY}
+use Rattle.price_core.specs.Times.{no_times}
+use Rattle.price_core.specs.declared.plan.TheConstants.{MAX_MONEY}
 use Rattle.tariff_core.specs.declared.route.Route.{Route}
-use Rattle.tariff_core.specs.declared.times.TheConstants.{DAY}
+use Rattle.price_core.specs.declared.times.TheConstants.{DAY}
 
 -- a run that a driver was served in, whose calls start with the parties that each of their InitialDPs names
 pub record IsServedRun (Stood : Closed → ℕ → Knowing) (run : Run) : Type 0 where

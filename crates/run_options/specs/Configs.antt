@@ -2,7 +2,7 @@
 use Rattle.std.specs.Prelude.{◌&&◌, Bool, nat_le}
 use Rattle.run_options.specs.declared.live.LiveAsk.{LiveAsk}
 use Rattle.run_options.specs.declared.options.RunAsk.{RunAsk}
-use Rattle.tariff_core.specs.declared.times.TheConstants.{DAY}
+use Rattle.price_core.specs.declared.times.TheConstants.{DAY}
 
 -- 1 ≤ delay ≤ tccd ≤ least ≤ wanted ≤ a day, and 1 ≤ tssf ≤ a day
 abbrev pub is_config : RunAsk → Bool

@@ -9,11 +9,11 @@ ghost use Rattle.run_texts.specs.Views.{rows_are_in_order, happens_of, row_data,
 
 use crate::firsts::Firsts;
 use crate::payers::payers_in;
+use price_core::MAX_MOMENT;
 use rising_map::RisingMap;
 use run_texts::{Happening, ScriptRow};
 use run_values::RunSetup;
 use std::alloc::{AllocError, Global};
-use tariff_core::MAX_MOMENT;
 
 /// A script that is divided.
 #[derive(Drop)]

@@ -17,7 +17,7 @@ use Rattle.run_texts.specs.declared.script.Word.{Word}
 use Rattle.run_texts.specs.declared.script.Word.TheVariants as word
 use Rattle.run_values.specs.Setups.{has_account}
 use Rattle.run_values.specs.declared.directory.OpeningCredit.{OpeningCredit}
-use Rattle.tariff_core.specs.declared.times.TheConstants.{MAX_MOMENT}
+use Rattle.price_core.specs.declared.times.TheConstants.{MAX_MOMENT}
 
 -- ---- words
 

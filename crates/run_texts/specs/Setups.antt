@@ -16,8 +16,8 @@ use Rattle.table_core.specs.declared.fault.RowKind.TheVariants as kind
 use Rattle.moment_texts.specs.Fields.{optional_moment_in}
 use Rattle.run_values.specs.Setups.{has_account}
 use Rattle.run_values.specs.declared.directory.OpeningCredit.{OpeningCredit}
-use Rattle.tariff_core.specs.declared.plan.TheConstants.{MAX_MONEY}
-use Rattle.tariff_core.specs.declared.times.TheConstants.{MAX_MOMENT}
+use Rattle.price_core.specs.declared.plan.TheConstants.{MAX_MONEY}
+use Rattle.price_core.specs.declared.times.TheConstants.{MAX_MOMENT}
 
 -- accounts in ascending order, each a number and its opening credit, and subscribers in the order of their digits, each with its account
 pub record TableSetup : Type 0 where

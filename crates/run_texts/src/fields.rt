@@ -11,10 +11,10 @@ ghost use Rattle.run_values.specs.Openings.{expires_in_time};
 use cap_values::Number;
 use csv::ByteRecord;
 use moment_texts::moment_field;
+use price_core::{MAX_MOMENT, MAX_MONEY};
 use ssf_core::Moment;
 use std::str;
 use table_core::{RowKind, field, is_blank, number};
-use tariff_core::{MAX_MOMENT, MAX_MONEY};
 
 /// The number of an account: a decimal of 32 bits.
 pub fn account(row: &ByteRecord, place: usize) -> Result<u32, RowKind>

@@ -15,9 +15,10 @@ ghost use Rattle.run_values.specs.Setups.{ListingIsWithin};
 ghost use Rattle.run_texts.specs.declared.input_fault.InputFault.TheVariants as out;
 
 use crate::{InputFault, ScriptRow, script, setup};
+use price_core::MAX_MOMENT;
 use run_values::Directory;
 use std::alloc::Global;
-use tariff_core::{MAX_MOMENT, Tariff};
+use tariff_core::Tariff;
 
 /// What the input of a run says.
 #[derive(Drop)]

@@ -14,13 +14,13 @@ use crate::fields::{account, amount, is_left_out, party, until};
 use cap_values::{Leg, Number};
 use csv::ByteRecord;
 use moment_texts::moment_field;
+use price_core::MAX_MOMENT;
 use run_values::Directory;
 use ssf_core::{BcsmEvent, Moment};
 use std::alloc::{AllocError, Global};
 use std::collections::BTreeSet;
 use std::io::Read;
 use table_core::{RowKind, Table, TableFault, has_word, is_blank, number};
-use tariff_core::MAX_MOMENT;
 
 /// The most rows of a script, its header not counted.
 const MAX_ROWS: u32 = 1_000_000;
@@ -164,7 +164,7 @@ pub enum Happening {
     Recharge {
         /// The account's number.
         account: u32,
-        /// How much, 0 to `tariff_core::MAX_MONEY`.
+        /// How much, 0 to `price_core::MAX_MONEY`.
         amount: u64,
         /// Its last moment from then on, 0 to `MAX_MOMENT`; none leaves it as it is.
         until: Option<Moment>,

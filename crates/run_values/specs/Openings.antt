@@ -1,7 +1,7 @@
 -- What accounts are opened with.
 use Rattle.std.specs.Prelude.{◌&&◌, ℕ, Bool, true, Option, Some, None, nat_le}
-use Rattle.tariff_core.specs.declared.plan.TheConstants.{MAX_MONEY}
-use Rattle.tariff_core.specs.declared.times.TheConstants.{MAX_MOMENT}
+use Rattle.price_core.specs.declared.plan.TheConstants.{MAX_MONEY}
+use Rattle.price_core.specs.declared.times.TheConstants.{MAX_MOMENT}
 use Rattle.run_values.specs.declared.directory.OpeningCredit.{OpeningCredit}
 
 -- no credit, that doesn't expire

@@ -9,10 +9,10 @@ ghost use Rattle.run_values.specs.Setups.{account_fault, account_of, has_account
 
 use crate::SetupFault;
 use cap_values::Number;
+use price_core::{MAX_MOMENT, MAX_MONEY};
 use std::alloc::{AllocError, Global};
 use std::collections::BTreeMap;
 use std::marker::Model;
-use tariff_core::{MAX_MOMENT, MAX_MONEY};
 
 /// The accounts and the subscribers of a run, each of them judged as it came: no number is there
 /// twice, each opening credit is in its range, and each subscriber has one of the accounts.

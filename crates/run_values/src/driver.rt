@@ -1,8 +1,8 @@
 //! What drives a run.
 
 use crate::{Answer, Body};
+use price_core::HORIZON;
 use std::alloc::AllocError;
-use tariff_core::HORIZON;
 
 /// Gives the posts of a run, round by round.
 ///
@@ -25,7 +25,7 @@ pub trait Driver {
 
     ghost hears: { Self → List Answer → Self → Type 0 } = { λ _ _ _. Unit {0} };
 
-    /// All that it has given, each with its moment, 0 to `tariff_core::HORIZON`.
+    /// All that it has given, each with its moment, 0 to `price_core::HORIZON`.
     fn given(&self) -> &[(u64, Body)]
         ensures items { result.now ≡ given self.now }
         ensures moments { All (λ item. item.0 ≤ HORIZON) result.now };

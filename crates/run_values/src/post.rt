@@ -1,7 +1,7 @@
 //! What a worker is sent, and what it answers.
 
 ghost use Rattle.std.specs.Prelude.{◌≤◌};
-ghost use Rattle.tariff_core.specs.declared.times.TheConstants.{HORIZON};
+ghost use Rattle.price_core.specs.declared.times.TheConstants.{HORIZON};
 
 use account_core::AccountFault;
 use arrayvec::ArrayVec;
@@ -33,7 +33,7 @@ pub enum Body {
 pub struct Post {
     /// Counted from 0 in the order in which the driver gave them.
     pub number: u64,
-    /// The moment, in units of 100 ms: 0 to `tariff_core::HORIZON`.
+    /// The moment, in units of 100 ms: 0 to `price_core::HORIZON`.
     pub at: u64,
     /// What it is about.
     pub body: Body,

@@ -13,10 +13,11 @@ use crate::{Directory, OpeningCredit, SetupFault};
 use account_core::{MAX_LIMIT, MIN_LIMIT};
 use cap_values::Number;
 use dialogue_core::ServiceConfig;
+use price_core::MAX_MONEY;
 use std::alloc::{AllocError, Global};
 use std::collections::BTreeMap;
 use std::marker::Model;
-use tariff_core::{MAX_MONEY, Tariff};
+use tariff_core::Tariff;
 
 /// How many accounts a run may have.
 pub const MAX_ACCOUNTS: usize = 1_000;

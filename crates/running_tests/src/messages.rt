@@ -1,10 +1,10 @@
 //! What is said in a run, in short: messages of calls, recharges, and what the service answers.
 
 use cap_values::{Arming, Arms, Cause, Charge, Event, Leg, Mode, Number, ScfOp, SsfMsg};
+use price_core::TimeInfo;
 use run_values::Body;
 use std::alloc::Global;
 use std::test::Fail;
-use tariff_core::TimeInfo;
 
 /// A message of a call, which has this number, or a recharge.
 #[derive(Clone, Copy)]

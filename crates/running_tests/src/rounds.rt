@@ -1,13 +1,13 @@
 //! A driver whose rounds are known beforehand.
 
 ghost use Rattle.std.specs.Prelude.{◌≡◌, ◌≤◌, ◌++◌, ◌∷◌, [], false, All, OnOk};
-ghost use Rattle.tariff_core.specs.declared.times.TheConstants.{HORIZON};
+ghost use Rattle.price_core.specs.declared.times.TheConstants.{HORIZON};
 
 use account_core::AccountFault;
 use cap_values::ScfOp;
+use price_core::HORIZON;
 use run_values::{Answer, Body, Driver};
 use std::alloc::{AllocError, Global};
-use tariff_core::HORIZON;
 
 /// What an answer says.
 #[derive(Clone, Copy)]

@@ -3,12 +3,13 @@
 use crate::looking::gives;
 use cap_values::Number;
 use dialogue_core::ServiceConfig;
+use price_core::MAX_MOMENT;
 use run_texts::read_setup;
 use run_values::{Directory, OpeningCredit, RunSetup, SetupFault};
 use std::alloc::Global;
 use std::process::Abort;
 use std::test::Fail;
-use tariff_core::{MAX_MOMENT, Tariff};
+use tariff_core::Tariff;
 
 /// One band for called numbers that begin with 49.
 pub(crate) const BAND: &[u8] = b"prefix,from,fee,rate\n49,00:00,50,1000\n";

@@ -6,9 +6,9 @@ use Rattle.account_core.specs.Entries.{EntryData}
 use Rattle.account_core.specs.Known.{known}
 use Rattle.account_core.specs.Laws.{AreReported, IsClosed, last_report, paid_at_return}
 use Rattle.shared_account.specs.Closed.{Closed}
-use Rattle.tariff_core.specs.Price.{price_at}
-use Rattle.tariff_core.specs.Rates.{Rates}
-use Rattle.tariff_core.specs.declared.plan.TheConstants.{MAX_MONEY}
+use Rattle.price_core.specs.Price.{price_at}
+use Rattle.price_core.specs.Rates.{Rates}
+use Rattle.price_core.specs.declared.plan.TheConstants.{MAX_MONEY}
 
 -- no balance is negative: at no place do all calls take more than the opening and the credits accepted so far
 abbrev pub IsSolvent : Closed → Type 0

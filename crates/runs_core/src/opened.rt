@@ -5,10 +5,10 @@ ghost use Rattle.runs_core.specs.Teams.{AreFresh, IsNew, terms_of};
 ghost use Rattle.runs_core.specs.LaidOut.{laid_out};
 
 use crate::RunFault;
+use price_core::MAX_MONEY;
 use run_values::{OpeningCredit, RunSetup};
 use shared_account::Shared;
 use std::alloc::{AllocError, AllocFailed, Global};
-use tariff_core::MAX_MONEY;
 
 /// The accounts of a run, in order, and the seats of each worker, one of each account.
 #[derive(Drop)]

@@ -14,12 +14,12 @@ ghost use Rattle.run_values.specs.declared.post.Body.{Body};
 use crate::RunFault;
 use crate::crew::{Crew, Replies};
 use crate::shares::{share_out, worker_of};
+use price_core::HORIZON;
 use run_values::{Answer, Body, Driver};
 use shared_account::{Gate, Shared};
 use std::alloc::Global;
 use std::collections::VecDeque;
 use std::sync::Wait;
-use tariff_core::HORIZON;
 
 /// Plays rounds until the driver has ended.
 pub(crate) fn play<D: Driver, S: Shared, R: Wait, G: Gate>(

@@ -7,9 +7,9 @@ ghost use Rattle.runs_core.specs.Shares.{AreShares, HaveHandled, item_at, item_o
 
 use crate::opened::empty_piles;
 use account_core::AccountFault;
+use price_core::HORIZON;
 use run_values::{Answer, Body, Post};
 use std::alloc::{AllocError, Global};
-use tariff_core::HORIZON;
 
 /// What each of so many workers handles of all that a driver has given: the share of worker 0, of
 /// worker 1, and so on, in the order of the items. It takes memory, and its fault is that there is

@@ -36,7 +36,7 @@ use Rattle.script_player.specs.Runs.{Hears, fresh_play}
 use Rattle.script_player.specs.Steps.{Delivers, DeliversDue, PlaysDue, PlaysRow, RunsTimers, Waits}
 use Rattle.script_player.specs.Unplaced.{fault_of_row, unplaced_in, where_refused}
 use Rattle.script_player.specs.declared.network.Input.TheVariants as what
-use Rattle.tariff_core.specs.declared.times.TheConstants.{HORIZON}
+use Rattle.price_core.specs.declared.times.TheConstants.{HORIZON}
 
 -- ---- steps one after another
 

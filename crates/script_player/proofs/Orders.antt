@@ -9,7 +9,7 @@ use Rattle.cap_values.specs.declared.cause.Cause.{Cause}
 use Rattle.cap_values.specs.declared.charge.Charge.{Charge}
 use Rattle.cap_values.specs.declared.operation.ScfOp.{ScfOp}
 use Rattle.cap_values.specs.declared.operation.ScfOp.TheVariants.{RequestReport, ApplyCharging, Continue, ReleaseCall}
-use Rattle.tariff_core.specs.declared.times.TheConstants.{DAY}
+use Rattle.price_core.specs.declared.times.TheConstants.{DAY}
 
 abbrev IsSwitch : Option ℕ → Type 0
 IsSwitch switch = ForSome switch (λ seconds. (1 ≤ seconds) × (seconds ≤ 86400))

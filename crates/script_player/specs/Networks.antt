@@ -11,7 +11,7 @@ use Rattle.script_player.specs.Inputs.{IsGiven, IsNextTimer}
 use Rattle.script_player.specs.Posts.{items_of, posts_of, recharges_in}
 use Rattle.script_player.specs.declared.network.Sent.{Sent}
 use Rattle.script_player.specs.declared.network.Input.{Input}
-use Rattle.tariff_core.specs.declared.times.TheConstants.{HORIZON}
+use Rattle.price_core.specs.declared.times.TheConstants.{HORIZON}
 
 -- what a network shows: the configuration of its gsmSSFs, the gsmSSF of each call that has started, all that was given, and whether memory never ran out while a moment was put down
 pub record Shown : Type 0 where

@@ -3,7 +3,7 @@ use Rattle.std.specs.Prelude.{◌≡◌, ◌≤◌, ℕ, Bool, true, List, [], A
 use Rattle.run_texts.specs.declared.script.ScriptRow.{ScriptRow}
 use Rattle.run_values.specs.declared.post.Body.{Body}
 use Rattle.script_player.specs.Rows.{FollowsRows}
-use Rattle.tariff_core.specs.declared.times.TheConstants.{DAY, MAX_MOMENT}
+use Rattle.price_core.specs.declared.times.TheConstants.{DAY, MAX_MOMENT}
 
 -- what was given follows the rows taken; once it has ended no row is left
 pub record IsKept (given : List (ℕ × Body)) (delay : ℕ) (rows : List ScriptRow) (taken : ℕ) (ended : Bool) : Type 0 where

@@ -12,7 +12,7 @@ use Rattle.script_player.specs.Rows.{next_row}
 use Rattle.script_player.specs.Steps.{DeliversDue, PlaysDue, RunsTimers}
 use Rattle.script_player.specs.Unplaced.{unplaced_in}
 use Rattle.ssf_core.specs.declared.deliveries.Delivery.{Delivery}
-use Rattle.tariff_core.specs.declared.times.TheConstants.{HORIZON}
+use Rattle.price_core.specs.declared.times.TheConstants.{HORIZON}
 
 -- the deliveries that wait once answers were heard: each operation of an answer comes last, a delay after the moment of its item
 abbrev pub waiting : Play → List Answer → List Delivery

@@ -12,12 +12,12 @@ ghost use Rattle.script_player.specs.Posts.{post_of, posts_of};
 
 use arrayvec::ArrayVec;
 use cap_values::{Number, ScfOp};
+use price_core::HORIZON;
 use run_values::Body;
 use ssf_core::{BcsmEvent, Item, Moment, Out, Ssf, SsfConfig, SsfFault, Step};
 use std::alloc::{AllocError, Global};
 use std::collections::{BTreeMap, BTreeSet};
 use std::marker::Model;
-use tariff_core::HORIZON;
 
 /// The most that a gsmSSF sends at one input.
 pub(crate) const MAX_SENT: usize = 8;

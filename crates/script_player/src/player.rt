@@ -9,13 +9,13 @@ ghost use Rattle.script_player.specs.Deliveries.{deliveries_of, deliveries_to};
 
 use crate::network::{Input, MAX_SENT, Network};
 use cap_values::ScfOp;
+use price_core::{DAY, HORIZON, MAX_MOMENT};
 use run_texts::{Happening, ScriptRow};
 use run_values::{Answer, Body, Driver};
 use ssf_core::{Delivery, Moment, SsfConfig, SsfFault, next_delivery, next_moment, send, take_due};
 use std::alloc::{AllocError, Global};
 use std::collections::VecDeque;
 use std::marker::Model;
-use tariff_core::{DAY, HORIZON, MAX_MOMENT};
 
 /// Plays a script: it drives a run by the rows of a script, with one gsmSSF for each call that has
 /// started.

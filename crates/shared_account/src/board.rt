@@ -14,10 +14,10 @@ ghost use Rattle.account_core.specs.declared.entry.Reply.TheVariants as reply;
 use crate::turn::next_chair;
 use account_core::{Account, AccountFault};
 use atomic_table::{Join, Play, Refused, Split, TableRule};
+use price_core::MAX_MONEY;
 use std::alloc::{AllocError, Global};
 use std::collections::LinkedList;
 use std::marker::{Brand, Model, PhantomData};
-use tariff_core::MAX_MONEY;
 
 /// The word that holds the ticket that is issued next.
 pub(crate) const TICKET: usize = 0;

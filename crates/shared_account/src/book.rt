@@ -8,15 +8,15 @@ ghost use Rattle.account_core.specs.Answers.{IsLegal};
 ghost use Rattle.account_core.specs.Available.{available};
 ghost use Rattle.account_core.specs.Entries.{entry_data, asked_of};
 ghost use Rattle.account_core.specs.Sums.{AreSums};
-ghost use Rattle.tariff_core.specs.RatesOf.{rates_of};
+ghost use Rattle.price_core.specs.RatesOf.{rates_of};
 ghost use Rattle.shared_account.specs.declared.fault.CloseFault.TheVariants as close;
 
 use crate::board::Start;
 use crate::{CloseFault, OwnEntries, Seat};
 use account_core::{Account, CallSum, Entry, Op};
+use price_core::{MAX_MONEY, Plan};
 use std::alloc::{AllocError, Global};
 use std::marker::Model;
-use tariff_core::{MAX_MONEY, Plan};
 
 /// The book of an account that was closed: its history, which is legal. Only closing makes one.
 #[derive(Drop)]

@@ -2,9 +2,9 @@
 
 use crate::{Book, CloseFault, Gate};
 use account_core::{AccountFault, Op, Reply};
+use price_core::MAX_MONEY;
 use std::alloc::Global;
 use std::sync::Wait;
-use tariff_core::MAX_MONEY;
 
 /// An account that is asked from several seats, each in a thread of its own.
 ///

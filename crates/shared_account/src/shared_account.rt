@@ -14,10 +14,10 @@ use crate::board::Start;
 use crate::book::close_book;
 use crate::{Book, CloseFault, Gate, Seat, Shared};
 use account_core::{Account, AccountFault, Op, Reply};
+use price_core::MAX_MONEY;
 use std::alloc::{AllocError, Global};
 use std::marker::Model;
 use std::sync::{Mutex, Wait};
-use tariff_core::MAX_MONEY;
 
 /// An account under its lock, asked from the seats that were made with it.
 ///

@@ -21,10 +21,10 @@ use crate::turn::{append, ask_in_turn, compare_views, hand_on, hear, take_turn};
 use crate::turn_closing::close_board;
 use crate::{Book, CloseFault, Gate, Shared, TurnSeat};
 use account_core::{AccountFault, Entry, Op, Reply};
+use price_core::MAX_MONEY;
 use std::alloc::Global;
 use std::marker::Model;
 use std::sync::{Mutex, Wait};
-use tariff_core::MAX_MONEY;
 
 /// An account that its seats hand on by turns: a ticket lock.
 ///

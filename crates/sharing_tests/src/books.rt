@@ -8,6 +8,7 @@ use crate::forms::{
 use crate::histories::{RUNS, Row, Run};
 use crate::looking::gives;
 use account_core::{Account, AccountFault, Op, Port};
+use price_core::MAX_MONEY;
 use shared_account::{
     Book, CloseFault, Gate, OpenGate, Seat, Shared, SharedAccount, SharedPort, TurnAccount,
 };
@@ -15,7 +16,6 @@ use std::alloc::Global;
 use std::process::Abort;
 use std::sync::Wait;
 use std::test::Fail;
-use tariff_core::MAX_MONEY;
 
 /// Closes an account with its seats in another order.
 fn refuses_an_exchange<S: Shared, R: Abort>(rt: &R, alloc: Global) -> Result<(), Fail> {

@@ -4,11 +4,11 @@ ghost use Rattle.std.specs.Prelude.{◌≡◌, ◌≤◌, IfOk};
 
 use crate::looking::gives;
 use account_core::{AccountFault, Op, Reply};
+use price_core::{MAX_MONEY, Plan, TimeInfo};
 use shared_account::{Book, CloseFault, Shared};
 use std::alloc::{AllocError, Global};
 use std::process::Abort;
 use std::test::Fail;
-use tariff_core::{MAX_MONEY, Plan, TimeInfo};
 
 pub(crate) type Answer = Result<Reply, AccountFault>;
 

@@ -2,7 +2,7 @@
 
 use crate::forms::{Ask, Said};
 use account_core::{AccountFault, CallSum, Fate};
-use tariff_core::MAX_MONEY;
+use price_core::MAX_MONEY;
 
 /// What is asked: from which seat, whether the gate is open, and the answer.
 pub(crate) type Row = (u32, bool, Ask, Said);

@@ -8,7 +8,7 @@ use Rattle.cap_values.specs.Orders.{Paid}
 use Rattle.cap_values.specs.CauseValues.{temporary_failure}
 use Rattle.cap_values.specs.declared.message.SsfMsg.TheVariants as message
 use Rattle.cap_values.specs.declared.operation.ScfOp.TheVariants.{RequestReport, ApplyCharging, Continue, ReleaseCall}
-use Rattle.tariff_core.specs.declared.times.TimeInfo.{TimeInfo}
+use Rattle.price_core.specs.declared.times.TimeInfo.{TimeInfo}
 use Rattle.ssf_core.specs.Calls.{Advances, AreExpiries, IsExpiry, RunsUntil, Stands, TakesAt, View, with_input}
 use Rattle.ssf_core.specs.Happenings.{Happening, What, Took, Expired, sent_at, sent_in}
 use Rattle.ssf_core.specs.Laws.{AllFit, FitsTrace}

@@ -37,8 +37,8 @@ use Rattle.ssf_core.specs.declared.item.Out.{Out}
 use Rattle.ssf_core.specs.declared.item.Item.TheVariants.{Msg, Proceed, Clear}
 use Rattle.ssf_core.specs.declared.timers.Timer.{Timer}
 use Rattle.ssf_core.specs.declared.timers.Timer.TheVariants.{Tsw, Tcp, Tccd, Tssf}
-use Rattle.tariff_core.specs.Reading.{is_time_info}
-use Rattle.tariff_core.specs.declared.times.TimeInfo.TheVariants as info
+use Rattle.price_core.specs.Reading.{is_time_info}
+use Rattle.price_core.specs.declared.times.TimeInfo.TheVariants as info
 
 -- ---- the sum of the periods is a day at most
 

@@ -1,6 +1,6 @@
 -- The range of the gsmSSF's timers.
 use Rattle.std.specs.Prelude.{◌≤◌, ℕ}
-use Rattle.tariff_core.specs.declared.times.TheConstants.{DAY}
+use Rattle.price_core.specs.declared.times.TheConstants.{DAY}
 
 -- a timer of 1 to a day, in units of 100 ms
 pub record IsTimer (units : ℕ) : Type 0 where

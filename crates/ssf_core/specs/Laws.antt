@@ -2,8 +2,8 @@
 use Rattle.std.specs.Prelude.{◌≡◌, ◌+◌, ◌++◌, ◌≤◌, ℕ, Bool, true, Some, List, [], ◌∷◌, ⊤, is_some, drop, All}
 use Rattle.cap_values.specs.declared.message.SsfMsg.TheVariants.{ChargingReport, InitialDp}
 use Rattle.cap_values.specs.declared.operation.ScfOp.TheVariants.{ApplyCharging}
-use Rattle.tariff_core.specs.Reading.{is_time_info}
-use Rattle.tariff_core.specs.declared.times.TimeInfo.{TimeInfo}
+use Rattle.price_core.specs.Reading.{is_time_info}
+use Rattle.price_core.specs.declared.times.TimeInfo.{TimeInfo}
 use Rattle.ssf_core.specs.Happenings.{Happening, What, Took, sent_in}
 use Rattle.ssf_core.specs.Quantities.{answered, granted, pending, switched}
 use Rattle.ssf_core.specs.Split.{split}

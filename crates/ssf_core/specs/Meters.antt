@@ -2,7 +2,7 @@
 use Rattle.std.specs.Prelude.{◌≡◌, ◌+◌, ◌≤◌, ◌⊎◌, ℕ, Bool, true, false, Option, Some, List, [], ◌∷◌, is_some}
 use Rattle.cap_values.specs.Orders.{Paid, order_of, paid_by}
 use Rattle.cap_values.specs.declared.message.SsfMsg.TheVariants.{ChargingReport}
-use Rattle.tariff_core.specs.declared.times.TimeInfo.{TimeInfo}
+use Rattle.price_core.specs.declared.times.TimeInfo.{TimeInfo}
 use Rattle.ssf_core.specs.Calls.{Stands, View}
 use Rattle.ssf_core.specs.Happenings.{Happening, What, Took}
 use Rattle.ssf_core.specs.Quantities.{answered, granted, last_happening_moment, pending, switch_due, switched}

@@ -1,6 +1,6 @@
 -- When something happens next.
 use Rattle.std.specs.Prelude.{ℕ, Option, Some, None, min, nat_lt, if◌then◌else◌}
-use Rattle.tariff_core.specs.declared.times.TheConstants.{HORIZON}
+use Rattle.price_core.specs.declared.times.TheConstants.{HORIZON}
 
 -- the lesser of two moments, where there are two
 abbrev pub sooner : Option ℕ → Option ℕ → Option ℕ

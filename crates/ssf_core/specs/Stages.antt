@@ -12,7 +12,7 @@ use Rattle.ssf_core.specs.declared.stage.Switch.TheVariants as switch
 use Rattle.ssf_core.specs.declared.timers.Expiry.{Expiry}
 use Rattle.ssf_core.specs.declared.timers.Timer.{Timer}
 use Rattle.ssf_core.specs.declared.timers.Timer.TheVariants.{Tsw, Tcp, Tccd, Tssf}
-use Rattle.tariff_core.specs.declared.times.TheConstants.{DAY, HORIZON}
+use Rattle.price_core.specs.declared.times.TheConstants.{DAY, HORIZON}
 
 -- the Tsw rule
 abbrev pub started : Switch → ℕ → Option ℕ → Switch

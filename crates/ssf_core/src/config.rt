@@ -2,10 +2,10 @@
 
 ghost use Rattle.std.specs.Prelude.{◌≡◌, ◌↔◌, ◌≤◌, IsTrue, IsOk, IfOk, IfErr};
 ghost use Rattle.ssf_core.specs.Configs.{IsTimer};
-ghost use Rattle.tariff_core.specs.declared.times.TheConstants.{DAY};
+ghost use Rattle.price_core.specs.declared.times.TheConstants.{DAY};
 
 use crate::SsfFault;
-use tariff_core::DAY;
+use price_core::DAY;
 
 /// What becomes of a call whose service doesn't answer in time.
 #[derive(Clone, Copy, Debug, PartialEq, Eq)]

@@ -7,9 +7,9 @@ ghost use Rattle.ssf_core.specs.Moments.{in_reach, sooner};
 
 use crate::Moment;
 use cap_values::ScfOp;
+use price_core::HORIZON;
 use std::alloc::AllocError;
 use std::collections::VecDeque;
-use tariff_core::HORIZON;
 
 /// An operation on its way.
 #[derive(Clone, Copy, Debug, PartialEq, Eq)]

@@ -20,7 +20,7 @@ use crate::stage::{Active, Charging, Early, Stage, mode_of};
 use crate::{BcsmEvent, Moment, Out, SsfConfig, SsfFault};
 use arrayvec::ArrayVec;
 use cap_values::{Charge, Event, Leg, Mode, Point};
-use tariff_core::{DAY, HORIZON};
+use price_core::{DAY, HORIZON};
 
 /// Takes an event.
 pub(crate) fn meet(

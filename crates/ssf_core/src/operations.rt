@@ -15,7 +15,7 @@ use crate::stage::{Active, Charging, Early, Stage, armed, started, watch_any};
 use crate::{Item, Moment, Out, SsfConfig, SsfFault};
 use arrayvec::ArrayVec;
 use cap_values::{Arms, Cause, Charge, ScfOp};
-use tariff_core::{DAY, HORIZON};
+use price_core::{DAY, HORIZON};
 
 /// Takes an operation.
 pub(crate) fn operate(

@@ -15,7 +15,7 @@ use crate::stage::{Active, Charging, Stage, Switch};
 use crate::{Item, Moment, Out, SsfConfig};
 use arrayvec::ArrayVec;
 use cap_values::{Cause, Event, Leg, Mode, SsfMsg};
-use tariff_core::{DAY, HORIZON, TimeInfo};
+use price_core::{DAY, HORIZON, TimeInfo};
 
 /// Sends an item as of a moment.
 pub(crate) fn send(sent: &mut ArrayVec<Out, 8>, now: Moment, item: Item)

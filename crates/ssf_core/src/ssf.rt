@@ -17,8 +17,8 @@ use crate::timers::{next_moment, run_timers};
 use crate::{BcsmEvent, Item, Moment, Out, SsfConfig, SsfFault, State, Step};
 use arrayvec::ArrayVec;
 use cap_values::{Number, ScfOp, SsfMsg};
+use price_core::HORIZON;
 use std::marker::Model;
-use tariff_core::HORIZON;
 
 /// The gsmSSF of one call. Once its dialogue has ended it stays Idle and refuses every input but
 /// `advance`.
@@ -37,7 +37,7 @@ impl Model for Ssf {
     ghost use Rattle.std.specs.Prelude.{◌≤◌};
     ghost use Rattle.ssf_core.specs.Calls.{View};
     ghost use Rattle.ssf_core.specs.Stages.{IsTimelyStage};
-    ghost use Rattle.tariff_core.specs.declared.times.TheConstants.{HORIZON};
+    ghost use Rattle.price_core.specs.declared.times.TheConstants.{HORIZON};
 
     ghost Value = { View };
 

@@ -9,7 +9,7 @@ ghost use Rattle.ssf_core.specs.Rules.{any_watched, is_watched};
 
 use crate::Moment;
 use cap_values::{Arms, Charge, Leg, Mode, Point};
-use tariff_core::HORIZON;
+use price_core::HORIZON;
 
 /// A state of the call, with its phase.
 #[derive(Clone, Copy)]

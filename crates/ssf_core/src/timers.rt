@@ -15,7 +15,7 @@ use crate::stage::{Active, Charging, Stage, Switch};
 use crate::{DefaultHandling, Moment, Out, SsfConfig};
 use arrayvec::ArrayVec;
 use cap_values::Cause;
-use tariff_core::{DAY, HORIZON};
+use price_core::{DAY, HORIZON};
 
 /// A timer.
 #[derive(Clone, Copy)]

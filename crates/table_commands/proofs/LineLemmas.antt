@@ -2,10 +2,10 @@
 use Rattle.std.proofs.Common.{◌≡◌, ℕ, ◌+◌, ◌-◌, ◌<◌, ◌≤◌, true, List, ◌∷◌, ◌++◌, length, get_or, drop, refl, sym, ap, ◌∙◌, append_assoc, arith, codes}
 use Rattle.std.proofs.lemmas.List.{drop_all, drop_more}
 use Rattle.std.specs.Fmt.{decimal}
-use Rattle.tariff_core.specs.Lawful.{is_lawful}
-use Rattle.tariff_core.specs.Price.{price_at}
-use Rattle.tariff_core.specs.Rates.{Rates}
-use Rattle.tariff_core.specs.Times.{Elapsed}
+use Rattle.price_core.specs.Lawful.{is_lawful}
+use Rattle.price_core.specs.Price.{price_at}
+use Rattle.price_core.specs.Rates.{Rates}
+use Rattle.price_core.specs.Times.{Elapsed}
 use Rattle.table_commands.specs.PriceLines.{price_lines, total_line}
 use Rattle.table_commands.specs.Reports.{AreInOrder}
 

@@ -7,9 +7,9 @@ use Rattle.table_core.specs.Rows.{Fields}
 use Rattle.table_core.specs.declared.fault.RowKind.{RowKind}
 use Rattle.table_core.specs.declared.fault.RowKind.TheVariants as kind
 use Rattle.table_core.proofs.TableLemmas.{table_keeps}
-use Rattle.tariff_core.specs.Lawful.{is_lawful}
-use Rattle.tariff_core.specs.Rates.{Rates}
-use Rattle.tariff_core.specs.Times.{Elapsed, no_times}
+use Rattle.price_core.specs.Lawful.{is_lawful}
+use Rattle.price_core.specs.Rates.{Rates}
+use Rattle.price_core.specs.Times.{Elapsed, no_times}
 use Rattle.table_commands.specs.Reports.{AreInOrder, judged_report, last_times_after, report_row_in, times_reported, reports_form, table_reports_of}
 
 -- ---- one more report

@@ -9,7 +9,7 @@ use Rattle.run_texts.specs.Inputs.{tariff_in}
 use Rattle.table_core.specs.Judging.{and_then}
 use Rattle.table_core.specs.Rows.{rows_of}
 use Rattle.tariff_core.specs.Bands.{Band}
-use Rattle.tariff_core.specs.Rates.{Rates}
+use Rattle.price_core.specs.Rates.{Rates}
 use Rattle.table_commands.specs.Faults.{meaning_in, meaning_of_section}
 use Rattle.table_commands.specs.Input.{sized, sized_as}
 use Rattle.table_commands.specs.PriceLines.{price_lines}

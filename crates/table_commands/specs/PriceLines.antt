@@ -1,9 +1,9 @@
 -- The lines that `price` prints.
 use Rattle.std.specs.Prelude.{◌-◌, ℕ, List, [], ◌∷◌, ◌++◌, codes}
 use Rattle.std.specs.Fmt.{decimal}
-use Rattle.tariff_core.specs.Price.{price_at}
-use Rattle.tariff_core.specs.Rates.{Rates}
-use Rattle.tariff_core.specs.Times.{Elapsed}
+use Rattle.price_core.specs.Price.{price_at}
+use Rattle.price_core.specs.Rates.{Rates}
+use Rattle.price_core.specs.Times.{Elapsed}
 
 -- `debit D total T`, T being the price so far and D what it grew by
 abbrev pub debit_line : ℕ → ℕ → List ℕ

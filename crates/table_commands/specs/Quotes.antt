@@ -4,14 +4,14 @@ use Rattle.std.specs.Fmt.{decimal}
 use Rattle.moment_texts.specs.Printing.{moment_text, time_text}
 use Rattle.moment_texts.specs.declared.clock.Clock.{Clock}
 use Rattle.table_core.specs.Decimals.{digits_text}
-use Rattle.tariff_core.specs.Afford.{units_afforded}
+use Rattle.price_core.specs.Afford.{units_afforded}
 use Rattle.tariff_core.specs.Bands.{Band}
-use Rattle.tariff_core.specs.RatesOf.{rates_of}
-use Rattle.tariff_core.specs.Rates.{Rates, has_steps}
+use Rattle.price_core.specs.RatesOf.{rates_of}
+use Rattle.price_core.specs.Rates.{Rates, has_steps}
 use Rattle.tariff_core.specs.Routes.{HasNoRoute, IsQuote}
-use Rattle.tariff_core.specs.Times.{no_times}
+use Rattle.price_core.specs.Times.{no_times}
 use Rattle.tariff_core.specs.declared.route.Route.{Route}
-use Rattle.tariff_core.specs.declared.times.TheConstants.{DAY}
+use Rattle.price_core.specs.declared.times.TheConstants.{DAY}
 use Rattle.command_words.specs.QuoteWishes.{QuoteWish}
 use Rattle.rating.specs.Charges.{price_of_call}
 

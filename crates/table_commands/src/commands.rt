@@ -8,7 +8,7 @@ ghost use Rattle.table_commands.specs.Answers.{IsAuditOfInput, IsAuditOfTable, I
 ghost use Rattle.table_commands.specs.Explanations.{IsSaidOfAnswer};
 ghost use Rattle.table_commands.specs.Faults.{GivesAnswer, GivesOne};
 ghost use Rattle.table_commands.specs.Printouts.{plain};
-ghost use Rattle.tariff_core.specs.RatesOf.{rates_of};
+ghost use Rattle.price_core.specs.RatesOf.{rates_of};
 
 use crate::ending::Ending;
 use crate::fault::{Fault, TableName};
@@ -19,10 +19,10 @@ use crate::replaying::replay;
 use crate::reports::read_reports;
 use book_texts::{Audit, AuditAsk, BookSize, audit_books};
 use command_words::{Opening, QuoteAsk};
+use price_core::Plan;
 use run_texts::read_tariff;
 use std::alloc::Global;
 use std::io::Read;
-use tariff_core::Plan;
 
 /// The lines of `price` for the reports in the input, or their first fault, and what is said of it
 /// where that is asked for.

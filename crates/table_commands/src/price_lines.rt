@@ -3,11 +3,11 @@
 ghost use Rattle.std.specs.Prelude.{◌≡◌, IfOk, string_bytes};
 ghost use Rattle.table_commands.specs.Reports.{AreInOrder};
 ghost use Rattle.table_commands.specs.PriceLines.{price_lines};
-ghost use Rattle.tariff_core.specs.RatesOf.{rates_of};
-ghost use Rattle.tariff_core.specs.Times.{no_times};
+ghost use Rattle.price_core.specs.RatesOf.{rates_of};
+ghost use Rattle.price_core.specs.Times.{no_times};
 
+use price_core::{Plan, Times, debit};
 use std::alloc::{AllocError, Global};
-use tariff_core::{Plan, Times, debit};
 
 /// One line a report with what it adds to the price and the price so far, and the total last.
 pub fn print_reports(alloc: Global, plan: &Plan, reports: &[Times]) -> Result<String, AllocError>

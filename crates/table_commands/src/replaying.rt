@@ -16,10 +16,10 @@ use crate::input::MAX_ROWS;
 use account_core::{AccountFault, Op, Reply, Teller};
 use csv::ByteRecord;
 use entry_rows::{Version, is_op_blank, read_op, read_op_word, read_seat, write_response};
+use price_core::MAX_MONEY;
 use std::alloc::Global;
 use std::io::Read;
 use table_core::{RowKind, Table, TableFault};
-use tariff_core::MAX_MONEY;
 
 /// Where the seat is in a row.
 const SEAT: usize = 0;

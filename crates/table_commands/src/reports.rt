@@ -5,14 +5,14 @@ ghost use Rattle.table_commands.specs.Reports.{report_row_in, table_reports_of};
 ghost use Rattle.csv.specs.Records.{fields_of};
 ghost use Rattle.table_core.specs.Faults.{GivesTable};
 ghost use Rattle.table_core.specs.Rows.{rows_of};
-ghost use Rattle.tariff_core.specs.RatesOf.{rates_of};
+ghost use Rattle.price_core.specs.RatesOf.{rates_of};
 
 use crate::input::MAX_ROWS;
 use csv::ByteRecord;
+use price_core::{DAY, Plan, Times, lawful};
 use std::alloc::Global;
 use std::io::Read;
 use table_core::{RowKind, Table, TableFault, number};
-use tariff_core::{DAY, Plan, Times, lawful};
 
 /// The reports, each lawful after the one before it and the first after no time at all.
 pub fn read_reports<I: Read + Drop>(

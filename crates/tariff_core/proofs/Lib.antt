@@ -1,12 +1,8 @@
-pub mod AffordLemmas
-pub mod CeilingLemmas
 pub mod EnteringLemmas
 pub mod IndexLemmas
 pub mod Known
-pub mod LawfulLemmas
 pub mod MidnightLemmas
 pub mod PrefixLemmas
-pub mod Prices
 pub mod Proper
 pub mod RangeLemmas
 pub mod Routing

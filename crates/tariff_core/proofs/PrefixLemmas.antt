@@ -12,7 +12,7 @@ use Rattle.tariff_core.specs.Routes.{BeginsWith, HasNoRoute, IsPrefixFor}
 use Rattle.tariff_core.specs.Tariff.{AreNoLonger, is_complete, key_of}
 use Rattle.tariff_core.specs.declared.digits.Digits.{Digits}
 use Rattle.tariff_core.specs.declared.row.Row.{Row}
-use Rattle.tariff_core.specs.declared.times.TheConstants.{DAY}
+use Rattle.price_core.specs.declared.times.TheConstants.{DAY}
 use Rattle.tariff_core.proofs.IndexLemmas.{IsKey}
 use Rattle.tariff_core.proofs.RangeLemmas.{IsListed, found_listed}
 use Rattle.tariff_core.proofs.WeekdayLemmas.{each_weekday}

@@ -14,7 +14,7 @@ use Rattle.tariff_core.specs.TariffTable.{bands_of, complete, complete_by, new_b
 use Rattle.tariff_core.specs.declared.tariff_fault.TariffFault.{TariffFault}
 use Rattle.tariff_core.specs.declared.tariff_fault.TariffKind.{TariffKind}
 use Rattle.tariff_core.specs.declared.tariff_fault.TariffKind.TheVariants as kind
-use Rattle.tariff_core.specs.declared.times.TheConstants.{DAY}
+use Rattle.price_core.specs.declared.times.TheConstants.{DAY}
 use Rattle.tariff_core.proofs.IndexLemmas.{not_there}
 use Rattle.tariff_core.proofs.RangeLemmas.{listed_found}
 use Rattle.tariff_core.proofs.TableLemmas.{after_is, read_parts, taken_band}

@@ -5,9 +5,9 @@ use Rattle.std.proofs.lemmas.List.{take_at}
 use Rattle.std.proofs.lemmas.List.Elements.{All-contains}
 use Rattle.tariff_core.specs.Bands.{Band, counts_on, weekday}
 use Rattle.tariff_core.specs.Laws.{IsProper, OnePrefixCounts, RoutesAreAlike, RoutesHavePrefixes}
-use Rattle.tariff_core.specs.Rates.{Rates}
+use Rattle.price_core.specs.Rates.{Rates}
 use Rattle.tariff_core.specs.Routes.{BeginsWith, IsBandAt, IsOnly, IsPrefixFor, IsSwitch, Switches}
-use Rattle.tariff_core.specs.declared.times.TheConstants.{DAY}
+use Rattle.price_core.specs.declared.times.TheConstants.{DAY}
 use Rattle.tariff_core.proofs.PrefixLemmas.{weekday_within}
 
 -- ---- the prefix

@@ -4,7 +4,7 @@ use Rattle.std.specs.Prelude.{◌≢◌, All, Some, get_or}
 use Rattle.std.proofs.lemmas.Bool.{cases_lt}
 use Rattle.tariff_core.specs.Bands.{Band, counts_on, weekday}
 use Rattle.tariff_core.specs.Routes.{IsBandAt, IsSoonest, IsSwitch}
-use Rattle.tariff_core.specs.declared.times.TheConstants.{DAY}
+use Rattle.price_core.specs.declared.times.TheConstants.{DAY}
 
 -- ---- moments of a day
 

@@ -13,7 +13,7 @@ use Rattle.table_core.specs.declared.table.Table.{Table}
 use Rattle.table_core.proofs.TableLemmas.{IsRead, Stops}
 use Rattle.tariff_core.proofs.Known.{at_known}
 use Rattle.tariff_core.specs.Bands.{Band, have_steps}
-use Rattle.tariff_core.specs.Rates.{are_steps}
+use Rattle.price_core.specs.Rates.{are_steps}
 use Rattle.tariff_core.specs.Tariff.{band_of}
 use Rattle.tariff_core.specs.TariffFaults.{fault_from, kind_from}
 use Rattle.tariff_core.specs.TariffTable.{ComesBy, GivesBands, HasBandColumns, NotBefore, RefusesBands, band_in, bands_of, complete, complete_by, days_in, first_in, free_in, tariff_header, header_with_days, header_with_free, header_with_steps, money_in, new_band, new_band_in, prefix_in, repeats, band_start_in, step_in, tariff_form, without_midnight}

@@ -2,8 +2,8 @@
 use Rattle.std.specs.Prelude.{◌+◌, ◌/◌, ◌%◌, ◌==◌, ◌&&◌, ◌||◌, ℕ, Bool, List, [], ◌∷◌, Option, Some, None, if◌then◌else◌, is_some, length}
 use Rattle.std.specs.List.{list_all, list_any}
 use Rattle.std.specs.Str.{bytes_eq}
-use Rattle.tariff_core.specs.Rates.{are_steps}
-use Rattle.tariff_core.specs.declared.times.TheConstants.{DAY}
+use Rattle.price_core.specs.Rates.{are_steps}
+use Rattle.price_core.specs.declared.times.TheConstants.{DAY}
 
 -- a row: on its days, calls whose number begins with the prefix cost the fee and, but for free units, the rate a minute, billed in steps, from the start of day on. The days are digits, 1 for Monday to 7 for Sunday; none stands for each day
 pub record Band : Type 0 where

@@ -2,7 +2,7 @@
 use Rattle.std.specs.Prelude.{◌≡◌, ◌≢◌, ◌+◌, ◌%◌, ◌<◌, ◌≤◌, ℕ, true, List, ◌++◌, length, Option, Some, None, All, Any, Contains}
 use Rattle.tariff_core.specs.Bands.{Band, counts_on, weekday}
 use Rattle.tariff_core.specs.declared.route.Route.{Route}
-use Rattle.tariff_core.specs.declared.times.TheConstants.{DAY}
+use Rattle.price_core.specs.declared.times.TheConstants.{DAY}
 
 -- a called number begins with a prefix
 abbrev pub BeginsWith : List ℕ → List ℕ → Type 0

@@ -11,8 +11,8 @@ use Rattle.tariff_core.specs.TariffFaults.{kind_from}
 use Rattle.tariff_core.specs.declared.tariff_fault.TariffFault.{TariffFault}
 use Rattle.tariff_core.specs.declared.tariff_fault.TariffKind.{TariffKind}
 use Rattle.tariff_core.specs.declared.tariff_fault.TariffKind.TheVariants as kind
-use Rattle.tariff_core.specs.declared.plan.TheConstants.{MAX_RATE}
-use Rattle.tariff_core.specs.declared.times.TheConstants.{DAY}
+use Rattle.price_core.specs.declared.plan.TheConstants.{MAX_RATE}
+use Rattle.price_core.specs.declared.times.TheConstants.{DAY}
 
 -- 0 to 15 digits
 abbrev pub is_prefix : List ℕ → Bool

@@ -2,7 +2,7 @@
 
 ghost use Rattle.std.specs.Prelude.{◌≡◌, ◌≤◌, ◌<◌, ◌+◌, ◌%◌, [], false, true, length, nat_le, Some, None, IfNone, IfSome, OnOk, All};
 ghost use Rattle.std.specs.List.{list_any};
-ghost use Rattle.tariff_core.specs.Rates.{are_steps};
+ghost use Rattle.price_core.specs.Rates.{are_steps};
 ghost use Rattle.tariff_core.specs.Bands.{counts_on, has_band, has_midnights, have_steps, weekday};
 ghost use Rattle.tariff_core.specs.Digits.{text_of_digits};
 ghost use Rattle.tariff_core.specs.Routes.{IsBandAt, IsSoonest};
@@ -11,14 +11,14 @@ ghost use Rattle.tariff_core.specs.TariffTable.{GivesBands, HasBandColumns, band
 ghost use Rattle.csv.specs.Records.{fields_of};
 ghost use Rattle.table_core.specs.Rows.{rows_of};
 
-use crate::DAY;
 use crate::band_key::BandKey;
+use crate::days::{since_midnight, weekday};
 use crate::digits::Digits;
 use crate::fields::{WITH_DAYS, read_row};
 use crate::row::Row;
 use crate::tariff_fault::{TariffFault, TariffKind};
-use crate::times::{since_midnight, weekday};
 use csv::ByteRecord;
+use price_core::DAY;
 use std::alloc::{AllocError, Global};
 use std::collections::BTreeMap;
 use std::io::Read;

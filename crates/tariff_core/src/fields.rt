@@ -6,12 +6,11 @@ ghost use Rattle.tariff_core.specs.Digits.{text_of_digits};
 ghost use Rattle.tariff_core.specs.Tariff.{ReadsAs, band_of};
 ghost use Rattle.tariff_core.specs.TariffTable.{HasBandColumns, are_days, band_in, days_in, first_in, free_in, is_prefix, step_in, time_of};
 
-use crate::DAY;
 use crate::digits::{Digits, PREFIX_DIGITS};
-use crate::plan::MAX_RATE;
 use crate::row::{Cost, Row};
 use crate::tariff_fault::TariffKind;
 use csv::ByteRecord;
+use price_core::{DAY, MAX_RATE};
 use table_core::{are_digits, decimal, field};
 
 /// Which header has days: the one after those that have none.

@@ -2,7 +2,7 @@
 
 ghost use Rattle.std.specs.Prelude.{◌≡◌, is_some};
 
-use crate::Plan;
+use price_core::Plan;
 
 /// How a call is charged from a moment on.
 #[derive(Clone, Copy, Debug, PartialEq, Eq)]

@@ -1,9 +1,9 @@
 //! The rows of a tariff table.
 
 ghost use Rattle.std.specs.Prelude.{◌≡◌, ◌<◌, ◌≤◌};
-ghost use Rattle.tariff_core.specs.Rates.{are_steps};
-ghost use Rattle.tariff_core.specs.declared.plan.TheConstants.{MAX_RATE};
-ghost use Rattle.tariff_core.specs.declared.times.TheConstants.{DAY};
+ghost use Rattle.price_core.specs.Rates.{are_steps};
+ghost use Rattle.price_core.specs.declared.plan.TheConstants.{MAX_RATE};
+ghost use Rattle.price_core.specs.declared.times.TheConstants.{DAY};
 
 use crate::band_key::BandKey;
 use crate::digits::Digits;

@@ -9,12 +9,12 @@ ghost use Rattle.tariff_core.specs.Tariff.{band_of};
 ghost use Rattle.tariff_core.specs.TariffTable.{GivesBands, tariff_of};
 
 use crate::bands::Bands;
+use crate::days::{since_midnight, weekday};
 use crate::digits::Digits;
 use crate::route::{Quote, Route};
 use crate::row::Row;
 use crate::tariff_fault::{TariffFault, TariffKind};
-use crate::times::{since_midnight, weekday};
-use crate::{DAY, HORIZON, MAX_RATE, Plan};
+use price_core::{DAY, HORIZON, MAX_RATE, Plan};
 use std::alloc::Global;
 use std::io::Read;
 use std::marker::Model;

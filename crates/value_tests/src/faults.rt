@@ -2,8 +2,9 @@
 
 use crate::looking::gives;
 use cap_values::ValueFault;
+use price_core::{PlanRange, TimeRange};
 use table_core::{RowFault, RowKind, TableFault};
-use tariff_core::{PlanRange, TariffFault, TariffKind, TimeRange};
+use tariff_core::{TariffFault, TariffKind};
 
 const KINDS: [(TariffKind, u8, &str); 14] = [
     (TariffKind::Csv, 1, "row 7: Csv"),

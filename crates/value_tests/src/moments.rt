@@ -2,9 +2,9 @@
 
 use crate::looking::gives;
 use moment_texts::{Clock, MomentField, TimeOfDay, moment, moment_field, printed_moments_are_read};
+use price_core::{HORIZON, MAX_MOMENT};
 use std::test::Fail;
 use table_core::{RowKind, Table};
-use tariff_core::{HORIZON, MAX_MOMENT};
 
 /// Texts, and the moment that each writes.
 const MOMENTS: [(&str, u64); 18] = [

@@ -1,7 +1,7 @@
 //! The plans that are priced, and the ranges of a plan.
 
 use crate::looking::gives;
-use tariff_core::Plan;
+use price_core::Plan;
 
 /// The fee, the rate before a switch, and the rate after it.
 type Rates = (u64, u64, Option<u64>);

@@ -8,11 +8,11 @@ use crate::plans::{
     SINGLE,
 };
 use crate::reports::times;
-use std::process::Abort;
-use tariff_core::{
+use price_core::{
     DAY, Plan, Times, afford, afforded_is_greatest, ceiling, ceiling_is_greatest,
     lawful_times_follow, price,
 };
+use std::process::Abort;
 
 /// The times before and after a switch, and their price.
 const PRICES: [(Plan, u32, u32, u64); 33] = [

@@ -4,8 +4,8 @@ ghost use Rattle.std.specs.Prelude.{◌≡◌};
 
 use crate::looking::gives;
 use crate::plans::{CHEAPER, SINGLE};
+use price_core::{DAY, Plan, TimeInfo, Times, debit, lawful, price, read_times};
 use std::process::Abort;
-use tariff_core::{DAY, Plan, TimeInfo, Times, debit, lawful, price, read_times};
 
 /// The time before a switch and after it, and whether the tariff has switched.
 pub(crate) type Split = (u32, u32, bool);

@@ -18,8 +18,8 @@ use Rattle.dialogue_core.specs.Phases.{Conditions, Phase, Says, Sequel, FirstAsk
 use Rattle.dialogue_core.specs.Phases as phase
 use Rattle.dialogue_core.specs.Rules.{Step, are_units, on_begin, on_reply, sequel, on_message, on_refusal}
 use Rattle.dialogue_core.specs.declared.fault.DialogueFault.TheVariants.{Unexpected}
-use Rattle.tariff_core.specs.Rates.{Rates}
-use Rattle.tariff_core.specs.RatesOf.{rates_of}
+use Rattle.price_core.specs.Rates.{Rates}
+use Rattle.price_core.specs.RatesOf.{rates_of}
 use Rattle.tariff_core.specs.declared.route.Route.{Route}
 use Rattle.workers_core.proofs.Entering.{none_at_first}
 use Rattle.workers_core.proofs.Handling.{Means, means_on, same_number}

@@ -10,7 +10,7 @@ use Rattle.account_core.specs.declared.fault.AccountFault.{AccountFault}
 use Rattle.cap_values.specs.declared.message.SsfMsg.TheVariants as msg
 use Rattle.dialogue_core.specs.Phases.{Phase, Says, Settling, Asks}
 use Rattle.dialogue_core.specs.Rules.{Step, on_begin}
-use Rattle.tariff_core.specs.declared.times.TimeInfo.{TimeInfo}
+use Rattle.price_core.specs.declared.times.TimeInfo.{TimeInfo}
 use Rattle.workers_core.proofs.OwnCalls.{TakesTo, begun_about, begun_settles, kept_got, no_settle, settled_by, takes_answer, talk_settles, talked_about}
 use Rattle.workers_core.proofs.Asking.{taken_on}
 use Rattle.workers_core.proofs.Chaining.{once_sound}

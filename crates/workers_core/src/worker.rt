@@ -19,12 +19,12 @@ use crate::WorkerFault;
 use crate::acting::{act, make_room, notify_gate, pass};
 use cap_values::{Number, SsfMsg};
 use dialogue_core::{Dialogue, Turn};
+use price_core::HORIZON;
 use rising_map::RisingMap;
 use run_values::{Answer, Body, Post, RunSetup};
 use shared_account::{Gate, Shared};
 use std::alloc::Global;
 use std::sync::Wait;
-use tariff_core::HORIZON;
 
 /// A worker. It has a seat at each account of the run, and keeps the dialogue of each of its calls
 /// to its end and beyond.

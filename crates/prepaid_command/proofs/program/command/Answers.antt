@@ -1,7 +1,7 @@
 use Rattle.std.proofs.Common.{inl, inr, refl, string_bytes}
 use Rattle.std.specs.Prelude.{option_map}
 use Rattle.book_texts.specs.Checks.{audited_by}
-use Rattle.tariff_core.specs.RatesOf.{rates_of}
+use Rattle.price_core.specs.RatesOf.{rates_of}
 use Rattle.command_words.specs.Arguments.{AsksFor}
 use Rattle.command_words.specs.QuoteWishes.{quote_wish_of}
 use Rattle.command_words.specs.Wishes.{Wish, Audits, Prices, Quotes, Replays, Runs, RunsInto}

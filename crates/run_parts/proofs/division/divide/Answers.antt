@@ -3,7 +3,7 @@ use Rattle.run_parts.specs.Parts.{payer_in}
 use Rattle.run_parts.proofs.Orders.{in_order, in_range, of_each}
 use Rattle.run_texts.specs.Views.{rows_are_in_order}
 use Rattle.run_texts.specs.declared.script.ScriptRow.{ScriptRow}
-use Rattle.tariff_core.specs.declared.times.TheConstants.{MAX_MOMENT}
+use Rattle.price_core.specs.declared.times.TheConstants.{MAX_MOMENT}
 use Rattle.run_parts.proofs.division.divide.Goals as goal
 
 pub returns-clause-in_range : goal.returns-clause-in_range

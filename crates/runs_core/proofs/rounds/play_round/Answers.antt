@@ -3,7 +3,7 @@ use Rattle.runs_core.proofs.HandOuts.{added_slice, longer_by, whole_by}
 use Rattle.std.specs.Prelude.{drop}
 use Rattle.std.proofs.lemmas.List.Elements.{All-drop, All-take}
 use Rattle.run_values.specs.declared.post.Body.{Body}
-use Rattle.tariff_core.specs.declared.times.TheConstants.{HORIZON}
+use Rattle.price_core.specs.declared.times.TheConstants.{HORIZON}
 use Rattle.runs_core.proofs.rounds.play_round.Goals as goal
 
 pub slice_bounds-added-count : goal.slice_bounds-added-count

@@ -1,6 +1,6 @@
 use Rattle.std.proofs.Common.{◌+◌, ◌≡◌, ◌∙◌, ap, arith}
-use Rattle.tariff_core.specs.Price.{price_at}
-use Rattle.tariff_core.specs.RatesOf.{rates_of}
+use Rattle.price_core.specs.Price.{price_at}
+use Rattle.price_core.specs.RatesOf.{rates_of}
 use Rattle.table_commands.proofs.LineLemmas.{line_printed, next_in_order, total_printed}
 use Rattle.table_commands.proofs.price_lines.print_reports.Goals as goal
 

@@ -1,6 +1,6 @@
 use Rattle.std.proofs.Common.{◌≡◌, ◌++◌, drop, string_bytes}
-use Rattle.tariff_core.specs.Price.{price_at}
-use Rattle.tariff_core.specs.RatesOf.{rates_of}
+use Rattle.price_core.specs.Price.{price_at}
+use Rattle.price_core.specs.RatesOf.{rates_of}
 use Rattle.table_commands.specs.PriceLines.{price_lines}
 use Rattle.table_commands.specs.Reports.{AreInOrder}
 use Rattle.table_commands.proofs.price_lines.print_reports.Given as goal

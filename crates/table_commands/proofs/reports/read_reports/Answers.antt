@@ -2,7 +2,7 @@ use Rattle.std.proofs.Common.{refl, sym}
 use Rattle.table_core.specs.Rows.{rows_of}
 use Rattle.table_core.specs.Tables.{table_of}
 use Rattle.table_core.proofs.TableLemmas.{ended, not_opened, opened, refused, refuses, row_width, stopped, taken, fault_says}
-use Rattle.tariff_core.specs.RatesOf.{rates_of}
+use Rattle.price_core.specs.RatesOf.{rates_of}
 use Rattle.table_commands.specs.Reports.{last_times_after, reports_form, table_reports_of}
 use Rattle.table_commands.proofs.ReportLemmas.{last_more}
 use Rattle.table_commands.proofs.reports.read_reports.Goals as goal

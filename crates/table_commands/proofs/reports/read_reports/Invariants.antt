@@ -1,8 +1,8 @@
 use Rattle.std.proofs.Common.{◌≡◌}
 use Rattle.table_core.specs.Reading.{room_of}
 use Rattle.table_core.proofs.TableLemmas.{IsRead}
-use Rattle.tariff_core.specs.RatesOf.{rates_of}
-use Rattle.tariff_core.specs.Times.{no_times}
+use Rattle.price_core.specs.RatesOf.{rates_of}
+use Rattle.price_core.specs.Times.{no_times}
 use Rattle.table_commands.specs.Reports.{last_times_after, reports_form}
 use Rattle.table_commands.proofs.reports.read_reports.Given as goal
 

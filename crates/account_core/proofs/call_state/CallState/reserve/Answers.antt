@@ -1,5 +1,5 @@
 use Rattle.std.proofs.Common.{◌+◌}
-use Rattle.tariff_core.specs.RatesOf.{rates_of}
+use Rattle.price_core.specs.RatesOf.{rates_of}
 use Rattle.account_core.proofs.CallStateLemmas.{afforded_covered}
 use Rattle.account_core.proofs.call_state.CallState.reserve.Goals as goal
 

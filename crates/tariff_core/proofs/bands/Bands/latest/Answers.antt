@@ -5,7 +5,7 @@ use Rattle.tariff_core.specs.Bands.{counts_on, weekday}
 use Rattle.tariff_core.specs.Digits.{text_of_digits}
 use Rattle.tariff_core.specs.declared.band_key.BandKey.{BandKey}
 use Rattle.tariff_core.specs.declared.row.Row.{Row}
-use Rattle.tariff_core.specs.declared.times.TheConstants.{DAY}
+use Rattle.price_core.specs.declared.times.TheConstants.{DAY}
 use Rattle.tariff_core.proofs.PrefixLemmas.{keyed_at}
 use Rattle.tariff_core.proofs.RangeLemmas.{each_row, forward, if_none, last_is, last_latest, none_of}
 use Rattle.tariff_core.proofs.bands.Bands.latest.Goals as goal

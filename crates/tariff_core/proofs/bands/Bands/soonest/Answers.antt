@@ -5,7 +5,7 @@ use Rattle.tariff_core.specs.Bands.{counts_on, weekday}
 use Rattle.tariff_core.specs.Digits.{text_of_digits}
 use Rattle.tariff_core.specs.declared.band_key.BandKey.{BandKey}
 use Rattle.tariff_core.specs.declared.row.Row.{Row}
-use Rattle.tariff_core.specs.declared.times.TheConstants.{DAY}
+use Rattle.price_core.specs.declared.times.TheConstants.{DAY}
 use Rattle.tariff_core.proofs.PrefixLemmas.{keyed_at}
 use Rattle.tariff_core.proofs.RangeLemmas.{each_row, first_is, first_soonest, forward, if_none, none_of}
 use Rattle.tariff_core.proofs.bands.Bands.soonest.Goals as goal

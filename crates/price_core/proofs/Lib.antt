@@ -1,0 +1,4 @@
+pub mod AffordLemmas
+pub mod CeilingLemmas
+pub mod LawfulLemmas
+pub mod Prices

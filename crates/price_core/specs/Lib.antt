@@ -1,0 +1,11 @@
+pub mod Afford
+pub mod Ceiling
+pub mod Lawful
+pub mod Laws
+pub mod Price
+pub mod RangeTexts
+pub mod Rates
+pub mod RatesOf
+pub mod Reading
+pub mod TimeInfo
+pub mod Times
