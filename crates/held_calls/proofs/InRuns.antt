@@ -36,7 +36,7 @@ use Rattle.shared_account.proofs.Owning.{filter_reverse}
 use Rattle.shared_account.specs.Closed.{Closed}
 use Rattle.shared_account.specs.Own.{asks_of_call, of_call, own}
 use Rattle.shared_account.specs.Refusals.{Refusal}
-use Rattle.shared_account.specs.Seen.{CallsOfOneSeatAreAlone, IsBySeat, StoodIn}
+use Rattle.turn_account.specs.Seen.{CallsOfOneSeatAreAlone, IsBySeat, StoodIn}
 use Rattle.price_core.specs.declared.plan.TheConstants.{MAX_MONEY}
 use Rattle.workers_core.proofs.Handling.{same_number}
 use Rattle.workers_core.specs.Handled.{AnswerView, answer_view}

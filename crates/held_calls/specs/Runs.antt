@@ -9,7 +9,7 @@ use Rattle.runs_core.specs.Runs.{IsRun}
 use Rattle.runs_core.specs.Shares.{numbered}
 use Rattle.shared_account.specs.Closed.{Closed}
 use Rattle.shared_account.specs.Own.{of_call}
-use Rattle.shared_account.specs.Seen.{StoodIn}
+use Rattle.turn_account.specs.Seen.{StoodIn}
 use Rattle.price_core.specs.declared.plan.TheConstants.{MAX_MONEY}
 use Rattle.workers_core.specs.Handled.{answer_view}
 use Rattle.workers_core.specs.Served.{returns_of, settles_of}

@@ -9,7 +9,8 @@ ghost use Rattle.workers_core.specs.Refusals.{RefusesAt};
 
 use account_core::answers_fit_their_operations;
 use runs_core::{run_calls_are_of_one_worker, run_owed_is_never_refused};
-use shared_account::{Shared, TurnAccount, calls_of_one_seat_are_alone};
+use shared_account::Shared;
+use turn_account::{TurnAccount, calls_of_one_seat_are_alone};
 
 /// The entries of a worker show each call as its dialogue is, whatever posts it has handled and
 /// whatever was refused: all entries of a call are at the account of its dialogue. From the first

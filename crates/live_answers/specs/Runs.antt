@@ -14,7 +14,7 @@ use Rattle.runs_core.specs.Runs.{IsRun}
 use Rattle.runs_core.specs.declared.run_fault.RunFault.{RunFault}
 use Rattle.runs_core.specs.declared.run_fault.RunFault.TheVariants as run
 use Rattle.shared_account.specs.Closed.{Closed}
-use Rattle.shared_account.specs.Seen.{StoodIn}
+use Rattle.turn_account.specs.Seen.{StoodIn}
 
 -- what was written, where a fault may have ended the run: all of a text, and only where the output failed no more than a front of it
 abbrev pub PrintsText : Option LiveFault → Option (List ℕ) → Option (List ℕ) → List ℕ → Type 0

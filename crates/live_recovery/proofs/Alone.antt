@@ -23,7 +23,7 @@ use Rattle.runs_core.specs.Shares.{Item, item_at, item_of, numbered, share, work
 use Rattle.runs_core.specs.Teams.{terms_with}
 use Rattle.shared_account.specs.Closed.{Closed}
 use Rattle.shared_account.specs.Own.{own}
-use Rattle.shared_account.specs.Seen.{StoodIn}
+use Rattle.turn_account.specs.Seen.{StoodIn}
 use Rattle.shared_account.specs.Terms.{Terms}
 use Rattle.workers_core.specs.Chains.{at_first, seat_numbers}
 use Rattle.workers_core.specs.Handled.{AnswerView}

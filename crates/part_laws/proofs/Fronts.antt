@@ -13,7 +13,7 @@ use Rattle.run_values.specs.declared.post.Post.{Post}
 use Rattle.runs_core.specs.Closing.{refuses_in}
 use Rattle.runs_core.specs.Hearing.{IsAnsweredBy}
 use Rattle.runs_core.specs.Shares.{Item, item_of, numbered}
-use Rattle.shared_account.specs.Seen.{StoodIn}
+use Rattle.turn_account.specs.Seen.{StoodIn}
 use Rattle.tariff_core.specs.Laws.{IsProper}
 use Rattle.workers_core.proofs.Handling.{placed_after}
 use Rattle.workers_core.specs.Chains.{AreAnswered, at_first, seat_numbers}

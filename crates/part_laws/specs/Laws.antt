@@ -8,7 +8,7 @@ use Rattle.run_values.specs.declared.post.Answer.{Answer}
 use Rattle.run_values.specs.declared.post.Body.{Body}
 use Rattle.runs_core.specs.Runs.{IsRun}
 use Rattle.shared_account.specs.Closed.{Closed}
-use Rattle.shared_account.specs.Seen.{StoodIn}
+use Rattle.turn_account.specs.Seen.{StoodIn}
 use Rattle.tariff_core.specs.Laws.{IsProper}
 
 -- a run was given the items of some accounts, and another one all items: its answers say what the other's say to these items, and it has the books of these accounts

@@ -19,7 +19,7 @@ use Rattle.run_values.specs.declared.post.Body.{Body}
 use Rattle.run_values.specs.declared.post.Body.TheVariants.{Ssf, Recharge}
 use Rattle.runs_core.specs.Runs.{IsRun}
 use Rattle.shared_account.specs.Closed.{Closed}
-use Rattle.shared_account.specs.Seen.{StoodIn}
+use Rattle.turn_account.specs.Seen.{StoodIn}
 use Rattle.tariff_core.specs.Laws.{IsProper}
 
 -- the accounts and the calls of a part, by the account of each call

@@ -7,9 +7,10 @@ ghost use Rattle.rated_records.specs.Tables.{NoRowIsPrinted, TablesHaveNoDiffere
 
 use moment_texts::printed_moments_are_read;
 use run_laws::{calls_pay_their_route, records_are_in_range};
-use shared_account::{Shared, TurnAccount};
+use shared_account::Shared;
 use table_core::{printed_decimals_are_read, printed_tables_are_read};
 use tariff_core::read_tariffs_are_proper;
+use turn_account::TurnAccount;
 
 /// The records of a run have no difference: whatever `rate` says of a record, where its start is
 /// taken for the answer and its times before the switch and after it as they are, it finds the

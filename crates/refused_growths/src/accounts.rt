@@ -5,7 +5,7 @@ use crate::closing;
 use crate::forms::two_seats;
 use crate::outcome::{Course, Outcome, expect};
 use account_core::{Account, AccountFault, AccountPort, Entry, Op, Port, Reply};
-use shared_account::{Seat, SharedAccount};
+use locked_account::{Seat, SharedAccount};
 use std::alloc::{AllocError, Global};
 
 /// The account of each call here.

@@ -5,8 +5,10 @@ ghost use Rattle.std.specs.Prelude.{◌≡◌, IfOk};
 use crate::asks::{LIMIT, OPENING};
 use crate::outcome::Outcome;
 use account_core::Entry;
-use shared_account::{Book, Seat, Shared, SharedAccount, TurnAccount, TurnSeat};
+use locked_account::{Seat, SharedAccount};
+use shared_account::{Book, Shared};
 use std::alloc::Global;
+use turn_account::{TurnAccount, TurnSeat};
 
 /// The number of each account.
 pub(crate) const NUMBER: u32 = 7;

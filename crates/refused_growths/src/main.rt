@@ -19,11 +19,12 @@ mod tariffs;
 mod workers;
 
 use crate::outcome::{Course, Outcome};
-use shared_account::{SharedAccount, TurnAccount};
+use locked_account::SharedAccount;
 use std::process::ExitCode;
 use std::sync::Wait;
 use std::thread::Threads;
 use std::{env, io};
+use turn_account::TurnAccount;
 
 /// A call that is tried.
 #[derive(Clone, Copy)]

@@ -2,7 +2,7 @@
 
 ghost use Rattle.std.specs.Prelude.{◌≡◌, ◌∷◌, [], IfOk, IsTrue, OnOk};
 ghost use Rattle.std.specs.Map.{keys_of};
-ghost use Rattle.shared_account.specs.Seats.{seat_reads};
+ghost use Rattle.locked_account.specs.Seats.{seat_reads};
 ghost use Rattle.workers_core.specs.Workers.{IsReady};
 
 use crate::asks::{LIMIT, OPENING};
@@ -13,8 +13,9 @@ use crate::service::{
 };
 use account_core::AccountFault;
 use cap_values::{Cause, Number, ScfOp, SsfMsg};
+use locked_account::{Seat, SharedAccount};
 use run_values::{Answer, Body, OpeningCredit, Post, RunSetup};
-use shared_account::{OpenGate, Seat, SharedAccount};
+use shared_account::OpenGate;
 use std::alloc::Global;
 use std::sync::Wait;
 use tariff_core::Tariff;

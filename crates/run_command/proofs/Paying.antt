@@ -8,7 +8,7 @@ use Rattle.run_laws.specs.Records.{CallsPayTheirRoute, IsServedRun, RecordsSumUp
 use Rattle.run_laws.specs.Starts.{HaveTheirStarts}
 use Rattle.run_values.specs.declared.directory.OpeningCredit.{OpeningCredit}
 use Rattle.runs_core.specs.Hearing.{all_heard}
-use Rattle.shared_account.specs.Seen.{StoodIn}
+use Rattle.turn_account.specs.Seen.{StoodIn}
 use Rattle.ssf_core.specs.Laws.{InitialDpIsFirst}
 
 pub played_paid : InitialDpIsFirst → RecordsSumUp StoodIn → UnroutedCallsPayNothing StoodIn → CallsPayTheirRoute StoodIn → PlayedCallsHavePaid

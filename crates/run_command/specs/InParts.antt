@@ -31,7 +31,7 @@ use Rattle.runs_core.specs.Hearing.{all_heard}
 use Rattle.runs_core.specs.Runs.{IsRun}
 use Rattle.runs_core.specs.Teams.{are_workers}
 use Rattle.shared_account.specs.Closed.{Closed}
-use Rattle.shared_account.specs.Seen.{StoodIn}
+use Rattle.turn_account.specs.Seen.{StoodIn}
 use Rattle.tariff_core.specs.Bands.{Band, have_steps}
 
 -- what a part comes to: the books of its own accounts, the records of its calls where these are printed, its refusals, and its events that had no place

@@ -20,7 +20,7 @@ use Rattle.runs_core.specs.Hearing.{all_heard}
 use Rattle.runs_core.specs.Runs.{IsRun}
 use Rattle.runs_core.specs.Teams.{are_workers}
 use Rattle.shared_account.specs.Closed.{Closed}
-use Rattle.shared_account.specs.Seen.{StoodIn}
+use Rattle.turn_account.specs.Seen.{StoodIn}
 use Rattle.std.specs.List.{All}
 
 -- what a play over a setup has come to: what its player has given, and its books

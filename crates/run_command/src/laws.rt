@@ -12,8 +12,8 @@ use run_laws::{
 };
 use run_values::Driver;
 use script_player::ScriptPlayer;
-use shared_account::TurnAccount;
 use ssf_core::{initial_dp_is_first, reports_are_in_range};
+use turn_account::TurnAccount;
 
 /// What a player that has ended has given is the play of its rows by the answers that it has heard,
 /// in which the rows had no place that it says.

@@ -11,12 +11,13 @@ use call_records::{call_table, records};
 use moment_texts::Clock;
 use run_values::{Answer, Driver, Post, RunSetup};
 use runs_core::{handled, refusals};
-use shared_account::{Book, OpenGate, TurnAccount};
+use shared_account::{Book, OpenGate};
 use std::alloc::{AllocError, Global};
 use std::process::Abort;
 use std::sync::Wait;
 use std::test::Fail;
 use std::thread::Threads;
+use turn_account::TurnAccount;
 
 /// The limit of the accounts' histories, the posts, one in each round, and the refusals of the
 /// posts of worker 0, and of those of worker 1.

@@ -8,14 +8,16 @@ use crate::setups::set_up;
 use crate::shutting::Holding;
 use account_core::{AccountFault, Entry, Reply};
 use cap_values::Number;
+use locked_account::SharedAccount;
 use run_values::{Body, Driver, RunSetup};
 use runs_core::{RunFault, serve_over};
-use shared_account::{Book, Gate, OpenGate, Shared, SharedAccount, TurnAccount};
+use shared_account::{Book, Gate, OpenGate, Shared};
 use std::alloc::Global;
 use std::process::Abort;
 use std::sync::Wait;
 use std::test::Fail;
 use std::thread::Threads;
+use turn_account::TurnAccount;
 
 const TABLE: &[u8] = b"prefix,from,fee,rate\n49,00:00,50,1000\n49,00:01,0,400\n";
 

@@ -2,7 +2,7 @@
 
 ghost use Rattle.std.specs.Prelude.{◌≡◌, ◌∷◌, [], IfOk, IsTrue, OnOk};
 ghost use Rattle.std.specs.Map.{keys_of};
-ghost use Rattle.shared_account.specs.Seats.{seat_reads};
+ghost use Rattle.locked_account.specs.Seats.{seat_reads};
 ghost use Rattle.workers_core.specs.Workers.{IsReady};
 
 use crate::looking::gives;
@@ -12,8 +12,9 @@ use crate::setups::{BAND, set_up};
 use crate::shutting::{ALWAYS, Shutting};
 use account_core::AccountFault;
 use cap_values::Number;
+use locked_account::{Seat, SharedAccount};
 use run_values::{Body, Post, RunSetup};
-use shared_account::{OpenGate, Seat, SharedAccount};
+use shared_account::OpenGate;
 use std::alloc::Global;
 use std::process::Abort;
 use std::sync::Wait;

@@ -14,7 +14,7 @@ use Rattle.run_values.specs.declared.post.Post.{Post}
 use Rattle.shared_account.specs.Closed.{Closed}
 use Rattle.shared_account.specs.Own.{asks_of_call, own}
 use Rattle.shared_account.specs.Refusals.{Knowing}
-use Rattle.shared_account.specs.Seen.{CallsOfOneSeatAreAlone, IsBySeat, StoodIn}
+use Rattle.turn_account.specs.Seen.{CallsOfOneSeatAreAlone, IsBySeat, StoodIn}
 use Rattle.workers_core.proofs.Refusing.{never_refused}
 use Rattle.workers_core.specs.Laws.{EntriesComeFromPosts}
 use Rattle.workers_core.specs.Served.{AreServed, IsServed, Report, begun_by, begun_of, held_in, held_calls_of, reported_in, reports_of, settled_in, settles_of}

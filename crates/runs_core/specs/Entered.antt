@@ -6,7 +6,7 @@ use Rattle.runs_core.specs.Runs.{IsRun}
 use Rattle.shared_account.specs.Closed.{Closed}
 use Rattle.shared_account.specs.Own.{own}
 use Rattle.shared_account.specs.Refusals.{Knowing}
-use Rattle.shared_account.specs.Seen.{IsBySeat, StoodIn}
+use Rattle.turn_account.specs.Seen.{IsBySeat, StoodIn}
 use Rattle.workers_core.specs.Chains.{IsWorked, refusals_in}
 use Rattle.workers_core.specs.Handled.{answer_view}
 use Rattle.workers_core.specs.Laws.{IsOnTerms, accepted_of}

@@ -5,7 +5,8 @@ ghost use Rattle.runs_core.specs.Entered.{RechargesAreInTheBooks, ReservesAreInT
 ghost use Rattle.runs_core.specs.Headline.{BooksAreRight};
 
 use account_core::{closed_calls_pay_the_tariff, no_balance_is_negative};
-use shared_account::{Shared, calls_of_one_seat_are_alone};
+use shared_account::Shared;
+use turn_account::calls_of_one_seat_are_alone;
 use workers_core::{entries_come_from_posts, recharges_are_entered, reserves_are_on_terms};
 
 /// In a book of a run no balance is negative, and every call that was closed within its grants has

@@ -14,7 +14,7 @@ ghost use Rattle.runs_core.specs.Teams.{AreFresh, are_workers};
 ghost use Rattle.account_core.specs.Answers.{IsLegal};
 ghost use Rattle.shared_account.specs.Closed.{IsBookOf};
 ghost use Rattle.shared_account.specs.Seats.{are_all};
-ghost use Rattle.shared_account.specs.Seen.{StoodIn};
+ghost use Rattle.turn_account.specs.Seen.{StoodIn};
 ghost use Rattle.workers_core.specs.Workers.{number_by};
 
 use crate::crew::Crew;
@@ -23,12 +23,13 @@ use crate::rounds::play;
 use crate::threads::{finish_all, start_all};
 use crate::{RunFault, laws};
 use run_values::{Driver, RunSetup};
-use shared_account::{Book, CloseFault, Gate, Shared, TurnAccount};
+use shared_account::{Book, CloseFault, Gate, Shared};
 use std::alloc::Global;
 use std::sync::Wait;
 use std::thread;
 use std::thread::{Scope, Threads};
 use std::vec::IntoIter;
+use turn_account::TurnAccount;
 use workers_core::Worker;
 
 /// The most workers of a run.

@@ -1,11 +1,23 @@
--- The first seats of an account are all of its seats.
-use Rattle.std.proofs.Common.{◌≡◌, ℕ, ◌+◌, true, List, [], ◌∷◌, ◌++◌, length, length-append, map, refl, ap, ◌∙◌, arith, zero, suc}
-use Rattle.std.specs.Prelude.{◌==◌, All, Err, IfOk, Ok, Result}
-use Rattle.std.proofs.lemmas.Bool.{and_from, eq-eqb}
-use Rattle.std.proofs.lemmas.List.{length-map, map-append}
-use Rattle.std.proofs.lemmas.List.Elements.{All-nil, All-push}
-use Rattle.shared_account.specs.Seats.{SeatView, are_all, are_numbered, fresh_seats}
-use Rattle.shared_account.proofs.Merging.{first_by}
+-- Numbers of seats that go on by ones.
+use Rattle.std.proofs.Common.{◌≡◌, ℕ, ◌+◌, ◌<◌, Bool, true, false, List, [], ◌∷◌, ◌++◌, length, map, refl, arith, zero, suc}
+use Rattle.std.specs.Prelude.{◌==◌, ◌&&◌, slice_index_or}
+use Rattle.std.proofs.lemmas.Bool.{and_from, eq-eqb, eqb-true}
+use Rattle.shared_account.specs.Seats.{are_numbered}
+
+pub first_by : (here rest : Bool) → here && rest ≡ true → (here ≡ true) × (rest ≡ true)
+first_by true rest is = (refl, is)
+first_by false rest is = cc
+
+pub numbered_at : {T : Type 0} (number : T → ℕ) (first : ℕ) (seats : List T) (k : ℕ) (d : T) → are_numbered first (map number seats) ≡ true → k < length seats
+    → number (slice_index_or seats k d) ≡ first + k
+numbered_at number first [] k d are within = absurd (omega (arith, within))
+numbered_at number first (seat ∷ seats) zero d are within =
+    let here : number seat ≡ first = eqb-true (number seat) first (first_by (number seat == first) (are_numbered (first + 1) (map number seats)) are).0 in
+    omega (arith, here)
+numbered_at number first (seat ∷ seats) (suc k) d are within =
+    let rest : number (slice_index_or seats k d) ≡ first + 1 + k =
+    numbered_at number (first + 1) seats k d (first_by (number seat == first) (are_numbered (first + 1) (map number seats)) are).1 (omega (arith, within)) in
+    omega (arith, rest)
 
 pub numbered_push : (first : ℕ) (numbers : List ℕ) (last : ℕ) → are_numbered first numbers ≡ true → last ≡ first + length numbers
     → are_numbered first (numbers ++ last ∷ []) ≡ true
@@ -16,36 +28,3 @@ numbered_push first (number ∷ numbers) last are is =
     let parts = first_by (number == first) (are_numbered (first + 1) numbers) are in
     let next : last ≡ first + 1 + length numbers = omega (arith, is) in
     and_from (number == first) (are_numbered (first + 1) (numbers ++ last ∷ [])) parts.0 (numbered_push (first + 1) numbers last parts.1 next)
-
-fresh_length : (account seats : ℕ) → length (fresh_seats account seats) ≡ seats
-fresh_length account zero = refl
-fresh_length account (suc seats) =
-    omega (arith, fresh_length account seats, length-append (fresh_seats account seats) (record { account = account; number = seats; mine = [] } ∷ []))
-
-fresh_numbered : (account seats : ℕ) → are_numbered 0 (map (λ seat. seat.number) (fresh_seats account seats)) ≡ true
-fresh_numbered account zero = refl
-fresh_numbered account (suc seats) =
-    let seat : SeatView = record { account = account; number = seats; mine = [] } in
-    let number = λ (place : SeatView). place.number in
-    let count : seats ≡ 0 + length (map number (fresh_seats account seats)) =
-    omega (arith, length-map (fresh_seats account seats) number, fresh_length account seats) in
-    ap (are_numbered 0) (map-append number (fresh_seats account seats) (seat ∷ []))
-    ∙ numbered_push 0 (map number (fresh_seats account seats)) seats (fresh_numbered account seats) count
-
-pub fresh_are_all : (account seats : ℕ) → are_all seats (map (λ seat. seat.number) (fresh_seats account seats)) ≡ true
-fresh_are_all account seats =
-    let number = λ (place : SeatView). place.number in
-    let count : length (map number (fresh_seats account seats)) ≡ seats = length-map (fresh_seats account seats) number ∙ fresh_length account seats in
-    and_from (length (map number (fresh_seats account seats)) == seats) (are_numbered 0 (map number (fresh_seats account seats))) (eq-eqb _ seats count) (fresh_numbered account seats)
-
--- what is true of each of them
-pub fresh_each : (P : SeatView → Type 0) (account : ℕ) → ((seat : ℕ) → P (record { account = account; number = seat; mine = [] })) → (seats : ℕ)
-    → All P (fresh_seats account seats)
-fresh_each P account each zero = All-nil P
-fresh_each P account each (suc seats) =
-    All-push P (fresh_seats account seats) (record { account = account; number = seats; mine = [] }) (fresh_each P account each seats) (each seats)
-
--- what two clauses of a success give together
-pub both_ok : {T E : Type 0} (r : Result T E) (P Q R : T → Type 0) → ((x : T) → P x → Q x → R x) → IfOk r P → IfOk r Q → IfOk r R
-both_ok (Ok x) P Q R gives p q = gives x p q
-both_ok (Err e) P Q R gives p q = tt

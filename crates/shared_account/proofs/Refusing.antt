@@ -1,27 +1,19 @@
--- What the refusals of a held account come to for a caller who can't see it.
-use Rattle.std.proofs.Common.{◌≡◌, ◌≢◌, ◌∙◌, ap, ℕ, Bool, true, false, Option, Some, None, List, Result, Ok, Err, inl, inr, refl, sym, subst}
-use Rattle.std.specs.Prelude.{◌+◌, ◌⊎◌, if◌then◌else◌, length, nat_lt, reverse, IfErr, IsOk}
+-- What an account refuses an operation with.
+use Rattle.std.proofs.Common.{◌≡◌, ◌≢◌, ◌∙◌, ap, ℕ, Bool, true, false, Option, Some, None, List, inl, inr, refl, sym, subst}
+use Rattle.std.specs.Prelude.{◌+◌, if◌then◌else◌, length, nat_lt, reverse}
 use Rattle.account_core.specs.Answers.{misplaced}
 use Rattle.account_core.specs.Asked.{Asked, Credits, Reserves, Returns, Settles, call_of, is_in_range}
 use Rattle.account_core.specs.Entries.{EntryData}
 use Rattle.account_core.specs.Known.{CallFacts, is_open, known}
-use Rattle.account_core.specs.Ledger.{IsRefusal, Ledger, answer_of}
-use Rattle.account_core.specs.Places.{IsOwed, needed_by, or_else, over_limit, owed, refusal}
-use Rattle.account_core.specs.declared.entry.Reply.{Reply}
+use Rattle.account_core.specs.Ledger.{IsRefusal, Ledger}
+use Rattle.account_core.specs.Places.{needed_by, or_else, over_limit, owed, refusal}
 use Rattle.account_core.specs.declared.fault.AccountFault.{AccountFault}
 use Rattle.account_core.specs.declared.fault.AccountFault.TheVariants as fault
 use Rattle.account_core.specs.SharingLaws.{AccountsHaveNoGate}
-use Rattle.shared_account.specs.Kinds.{ClosesCall, IsFaultOf, IsReplyTo, IsReturn, OpensCall, RefusalsAreOfTheirKind}
-use Rattle.shared_account.proofs.Answering.{answer_fits}
+use Rattle.shared_account.specs.Kinds.{ClosesCall, IsFaultOf, OpensCall, RefusalsAreOfTheirKind}
 
-pub fits_of : (account : Ledger) (asked : Asked) (response : Reply) → response ≡ answer_of account asked → IsReplyTo asked response
-fits_of account asked response is =
-    let R : Reply → Type 0 = IsReplyTo asked in
-    subst R (sym is) (answer_fits account.opening account.until (reverse account.history) asked)
-
--- ---- a Return of a call that is open by the seat's own entries
-
-return_closed : (open_yet : Bool) (account : Ledger) (call : ℕ) (why : AccountFault) → is_open (known call (reverse account.history)) ≡ open_yet
+-- a Return that the account doesn't owe is of a call that isn't open
+pub return_closed : (open_yet : Bool) (account : Ledger) (call : ℕ) (why : AccountFault) → is_open (known call (reverse account.history)) ≡ open_yet
     → (open_yet ≡ true → ⊥) → IsRefusal account (Returns call) why → why ≡ fault.NotOpen
 unfolding refusal
 return_closed true account call why is never refused = absurd (never refl)
@@ -29,37 +21,6 @@ return_closed false account call why is never (inl response) =
     let first : Some fault.NotOpen ≡ Some why = rw is at response in cc first
 return_closed false account call why is never (inr response) =
     let first : Some fault.NotOpen ≡ None = rw is at response.0 in cc first
-
-fails : (why : AccountFault) → IsOk {T = Reply} {E = AccountFault} (Err why) → ⊥
-fails why is = cc
-
-pub returning_of : (account : Ledger) (mine : List EntryData) (asked : Asked) (response : Result Reply AccountFault) → IfErr response (IsRefusal account asked)
-    → (IsOwed (reverse account.history) asked → IsOwed (reverse mine) asked → IsOk response) → IsReturn asked → IsOwed (reverse mine) asked
-    → IfErr response (λ why. why ≡ fault.NotOpen)
-returning_of account mine asked (Ok answered) refused is_owed return own = tt
-returning_of account mine (Credits amount moment) (Err why) refused is_owed return own = absurd return
-returning_of account mine (Reserves call plan wanted least at) (Err why) refused is_owed return own = absurd return
-returning_of account mine (Settles call number info) (Err why) refused is_owed return own = absurd return
-returning_of account mine (Returns call) (Err why) refused is_owed return own =
-    return_closed (is_open (known call (reverse account.history))) account call why refl (λ is. fails why (is_owed is own)) refused
-
-open_or_not : (open_yet : Bool) (account : Ledger) (call : ℕ) (why : AccountFault) → is_open (known call (reverse account.history)) ≡ open_yet
-    → (is_open (known call (reverse account.history)) ≡ true → why ≡ fault.GateClosed) → (why ≡ fault.GateClosed) ⊎ IsRefusal account (Returns call) why
-    → (why ≡ fault.NotOpen) ⊎ (why ≡ fault.GateClosed)
-open_or_not true account call why is is_owed refused = inr (is_owed is)
-open_or_not false account call why is is_owed (inl gate) = inr gate
-open_or_not false account call why is is_owed (inr refused) = inl (return_closed false account call why is (λ e. cc e) refused)
-
--- the same where the account is seen, and its gate may have refused too
-pub returned_by : (account : Ledger) (asked : Asked) (response : Result Reply AccountFault) → IfErr response (λ why. (why ≡ fault.GateClosed) ⊎ IsRefusal account asked why)
-    → (IsOwed (reverse account.history) asked → IfErr response (λ why. why ≡ fault.GateClosed)) → IsReturn asked
-    → IfErr response (λ why. (why ≡ fault.NotOpen) ⊎ (why ≡ fault.GateClosed))
-returned_by account asked (Ok answered) refused is_owed return = tt
-returned_by account (Credits amount moment) (Err why) refused is_owed return = absurd return
-returned_by account (Reserves call plan wanted least at) (Err why) refused is_owed return = absurd return
-returned_by account (Settles call number info) (Err why) refused is_owed return = absurd return
-returned_by account (Returns call) (Err why) refused is_owed return =
-    open_or_not (is_open (known call (reverse account.history))) account call why refl is_owed refused
 
 -- ---- the kind of a fault
 

@@ -1,16 +1,8 @@
 pub mod Closed
-pub mod Ended
 pub mod Faults
 pub mod Kinds
 pub mod Own
-pub mod Plays
 pub mod Prefixes
 pub mod Refusals
-pub mod Room
 pub mod Seats
-pub mod Seen
-pub mod Sitting
 pub mod Terms
-pub mod TurnViews
-pub mod Turns
-pub mod Views

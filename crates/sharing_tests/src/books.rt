@@ -8,14 +8,14 @@ use crate::forms::{
 use crate::histories::{RUNS, Row, Run};
 use crate::looking::gives;
 use account_core::{Account, AccountFault, Op, Port};
+use locked_account::{Seat, SharedAccount};
 use price_core::MAX_MONEY;
-use shared_account::{
-    Book, CloseFault, Gate, OpenGate, Seat, Shared, SharedAccount, SharedPort, TurnAccount,
-};
+use shared_account::{Book, CloseFault, Gate, OpenGate, Shared, SharedPort};
 use std::alloc::Global;
 use std::process::Abort;
 use std::sync::Wait;
 use std::test::Fail;
+use turn_account::TurnAccount;
 
 /// Closes an account with its seats in another order.
 fn refuses_an_exchange<S: Shared, R: Abort>(rt: &R, alloc: Global) -> Result<(), Fail> {

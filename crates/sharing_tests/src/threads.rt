@@ -5,7 +5,8 @@ ghost use Rattle.std.specs.Prelude.{◌≡◌};
 use crate::forms::{Answer, Ask, Said, answer_of, close, op_of, two_seats};
 use crate::looking::gives;
 use account_core::{AccountFault, Op};
-use shared_account::{Gate, OpenGate, Shared, SharedAccount, TurnAccount};
+use locked_account::SharedAccount;
+use shared_account::{Gate, OpenGate, Shared};
 use std::alloc::Global;
 use std::process::Abort;
 use std::sync::Wait;
@@ -13,6 +14,7 @@ use std::sync::atomic::{AtomicBool, Ordering};
 use std::test::Fail;
 use std::thread;
 use std::thread::Threads;
+use turn_account::TurnAccount;
 
 /// Holds what it is asked before a call, or inside an account, until another call was answered.
 #[derive(Drop)]

@@ -4,13 +4,14 @@ ghost use Rattle.std.specs.Prelude.{◌≡◌};
 
 use crate::forms::{Ask, Said, close, entries_of_each, op_of, says, two_seats};
 use crate::looking::gives;
-use shared_account::{Book, Gate, OpenGate, TurnAccount, TurnSeat};
+use shared_account::{Book, Gate, OpenGate};
 use std::alloc::Global;
 use std::process::Abort;
 use std::sync::Wait;
 use std::test::Fail;
 use std::thread;
 use std::thread::Threads;
+use turn_account::{TurnAccount, TurnSeat};
 
 /// The book of an account whose two seats met, and credited once more or not.
 fn book_of_met<R: Abort + Wait>(rt: &R, alloc: Global, more: bool) -> Result<Book, Fail> {

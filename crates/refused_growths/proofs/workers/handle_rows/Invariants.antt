@@ -1,4 +1,4 @@
-use Rattle.shared_account.specs.Seats.{seat_reads}
+use Rattle.locked_account.specs.Seats.{seat_reads}
 use Rattle.workers_core.specs.Workers.{IsReady}
 use Rattle.refused_growths.proofs.workers.handle_rows.Given as goal
 

@@ -1,7 +1,7 @@
 use Rattle.std.proofs.Common.{ap, ◌∙◌}
 use Rattle.account_core.specs.Entries.{entry_data}
 use Rattle.shared_account.specs.Own.{own}
-use Rattle.shared_account.proofs.Ending.{own_data}
+use Rattle.shared_account.proofs.OwnData.{own_data}
 use Rattle.std.proofs.Common.{map}
 use Rattle.shared_account.proofs.book.Book.own.Goals as goal
 

@@ -1,0 +1,5 @@
+pub mod Merging
+pub mod Numbering
+pub mod Returning
+pub mod Roominess
+pub mod Seeing

@@ -1,0 +1,3 @@
+pub mod Closing
+pub mod Room
+pub mod Seats
