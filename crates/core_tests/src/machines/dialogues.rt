@@ -1,0 +1,393 @@
+//! Every rule of the service.
+
+use super::making::{arms, charge, number};
+use crate::looking::gives;
+use account_core::{AccountFault, Op, Reply};
+use cap_values::{Cause, Event, Leg, Mode, ScfOp, SsfMsg};
+use dialogue_core::{
+    Dialogue, DialogueFault, ServiceConfig, Turn, honest_replies_are_expected,
+    one_return_if_granted, one_settle_a_grant,
+};
+use price_core::{Plan, TimeInfo};
+use std::process::Abort;
+use tariff_core::Route;
+
+/// What a dialogue is handed.
+enum Input {
+    Initial,
+    /// A report of 300 units, and whether the call goes on.
+    Report(bool),
+    Event(Event, Option<Leg>, Mode),
+    Ended,
+    Answer(Reply),
+    Refusal,
+}
+
+/// What it is to do then.
+enum Want {
+    /// 600 units are reserved.
+    Reserve,
+    /// The report is settled.
+    Settle,
+    Return,
+    Nothing,
+    Continue,
+    /// The call is cleared with this cause.
+    Release(u8),
+    /// A further period: its length.
+    Charge(u32),
+    /// The call is watched, charged for a period and continued: its length, and whether it is the
+    /// last.
+    Start(u32, bool),
+    Done,
+    Fault(DialogueFault),
+}
+
+const CONFIG: ServiceConfig = ServiceConfig {
+    wanted: 600,
+    least: 50,
+    tccd: 50,
+};
+
+const PLAN: Plan = Plan {
+    fee: 50,
+    before: 1000,
+    after: Some(400),
+    free: 0,
+    first: 0,
+    step: 1,
+};
+
+/// The tariff switches after 600 units.
+const ROUTE: Route = Route {
+    plan: PLAN,
+    switch_at: Some(600),
+};
+
+/// More time is asked for at a moment.
+fn reserve(at: u64) -> Op {
+    Op::Reserve {
+        call: 1,
+        plan: PLAN,
+        wanted: 600,
+        least: 50,
+        at,
+    }
+}
+
+const SETTLE: Op = Op::Settle {
+    call: 1,
+    number: 7,
+    info: TimeInfo::NoSwitch { t: 300 },
+};
+
+const UNALLOCATED_NUMBER: u8 = 1;
+
+const NORMAL_CLEARING: u8 = 16;
+
+const CALL_REJECTED: u8 = 21;
+
+const TEMPORARY_FAILURE: u8 = 41;
+
+const ASK_PENDING: Want = Want::Fault(DialogueFault::AskPending);
+
+const NO_ASK: Want = Want::Fault(DialogueFault::NoAskPending);
+
+const UNEXPECTED: Want = Want::Fault(DialogueFault::Unexpected);
+
+const ANSWER: Input = Input::Event(Event::Answer, None, Mode::NotifyAndContinue);
+
+const BUSY: Input = Input::Event(Event::CalledPartyBusy, None, Mode::NotifyAndContinue);
+
+const HUNG_UP: Input = Input::Event(Event::Disconnect, Some(Leg::One), Mode::Interrupted);
+
+const GRANTED: Input = Input::Answer(Reply::Granted {
+    units: 240,
+    last: true,
+    available: 0,
+});
+
+const GRANTED_MORE: Input = Input::Answer(Reply::Granted {
+    units: 270,
+    last: true,
+    available: 0,
+});
+
+const GRANTED_A_DAY: Input = Input::Answer(Reply::Granted {
+    units: 864_000,
+    last: false,
+    available: 0,
+});
+
+const GRANTED_PAST_A_DAY: Input = Input::Answer(Reply::Granted {
+    units: 864_001,
+    last: false,
+    available: 0,
+});
+
+const GRANTED_NOTHING: Input = Input::Answer(Reply::Granted {
+    units: 0,
+    last: false,
+    available: 0,
+});
+
+const GRANTED_NOTHING_AT_LAST: Input = Input::Answer(Reply::Granted {
+    units: 0,
+    last: true,
+    available: 0,
+});
+
+const DENIED: Input = Input::Answer(Reply::Denied { available: 0 });
+
+const SETTLED: Input = Input::Answer(Reply::Settled {
+    paid: 0,
+    available: 0,
+});
+
+const FORFEIT: Input = Input::Answer(Reply::Forfeit {
+    paid: 0,
+    available: 0,
+});
+
+const RETURNED: Input = Input::Answer(Reply::Returned {
+    paid: 0,
+    available: 0,
+});
+
+/// Dialogues: what each is handed in turn, and what it is to do.
+const DIALOGUES: [(&str, &[(Input, Want)]); 14] = [
+    (
+        "the first ask",
+        &[
+            (Input::Initial, ASK_PENDING),
+            (BUSY, ASK_PENDING),
+            (Input::Ended, ASK_PENDING),
+            (SETTLED, UNEXPECTED),
+            (RETURNED, UNEXPECTED),
+            (GRANTED_NOTHING_AT_LAST, UNEXPECTED),
+            (GRANTED_PAST_A_DAY, UNEXPECTED),
+            (GRANTED, Want::Start(240, true)),
+            (GRANTED, NO_ASK),
+            (Input::Refusal, NO_ASK),
+            (Input::Initial, UNEXPECTED),
+        ],
+    ),
+    (
+        "a grant of a day",
+        &[(GRANTED_A_DAY, Want::Start(864_000, false))],
+    ),
+    (
+        "a denial",
+        &[(DENIED, Want::Release(CALL_REJECTED)), (DENIED, NO_ASK)],
+    ),
+    (
+        "a refusal",
+        &[
+            (Input::Refusal, Want::Release(TEMPORARY_FAILURE)),
+            (Input::Ended, Want::Done),
+        ],
+    ),
+    (
+        "a running call",
+        &[
+            (GRANTED, Want::Start(240, true)),
+            (ANSWER, Want::Nothing),
+            (Input::Initial, UNEXPECTED),
+            (SETTLED, NO_ASK),
+            (BUSY, Want::Return),
+            (BUSY, ASK_PENDING),
+            (SETTLED, UNEXPECTED),
+            (RETURNED, Want::Nothing),
+            (Input::Report(true), UNEXPECTED),
+            (Input::Initial, UNEXPECTED),
+            (BUSY, Want::Nothing),
+            (HUNG_UP, Want::Continue),
+            (RETURNED, NO_ASK),
+            (Input::Refusal, NO_ASK),
+            (Input::Ended, Want::Done),
+            (Input::Ended, UNEXPECTED),
+            (BUSY, UNEXPECTED),
+            (RETURNED, NO_ASK),
+            (Input::Refusal, NO_ASK),
+        ],
+    ),
+    (
+        "a party that hangs up",
+        &[
+            (GRANTED, Want::Start(240, true)),
+            (HUNG_UP, Want::Return),
+            (RETURNED, Want::Continue),
+        ],
+    ),
+    (
+        "an end, and a refusal",
+        &[
+            (GRANTED, Want::Start(240, true)),
+            (Input::Ended, Want::Return),
+            (Input::Refusal, Want::Done),
+        ],
+    ),
+    (
+        "an active report, and the last one",
+        &[
+            (GRANTED, Want::Start(240, true)),
+            (Input::Report(true), Want::Settle),
+            (Input::Ended, ASK_PENDING),
+            (RETURNED, UNEXPECTED),
+            (SETTLED, Want::Reserve),
+            (Input::Ended, ASK_PENDING),
+            (SETTLED, UNEXPECTED),
+            (GRANTED_NOTHING, UNEXPECTED),
+            (GRANTED_MORE, Want::Charge(270)),
+            (Input::Report(false), Want::Settle),
+            (SETTLED, Want::Return),
+            (RETURNED, Want::Nothing),
+        ],
+    ),
+    (
+        "an active report that is forfeit",
+        &[
+            (GRANTED, Want::Start(240, true)),
+            (Input::Report(true), Want::Settle),
+            (FORFEIT, Want::Return),
+            (RETURNED, Want::Release(TEMPORARY_FAILURE)),
+        ],
+    ),
+    (
+        "an active report that is refused",
+        &[
+            (GRANTED, Want::Start(240, true)),
+            (Input::Report(true), Want::Settle),
+            (Input::Refusal, Want::Return),
+            (Input::Refusal, Want::Release(TEMPORARY_FAILURE)),
+        ],
+    ),
+    (
+        "a last report that is forfeit",
+        &[
+            (GRANTED, Want::Start(240, true)),
+            (Input::Report(false), Want::Settle),
+            (FORFEIT, Want::Return),
+            (RETURNED, Want::Nothing),
+        ],
+    ),
+    (
+        "a last report that is refused",
+        &[
+            (GRANTED, Want::Start(240, true)),
+            (Input::Report(false), Want::Settle),
+            (Input::Refusal, Want::Return),
+            (RETURNED, Want::Nothing),
+        ],
+    ),
+    (
+        "a further grant that is denied",
+        &[
+            (GRANTED, Want::Start(240, true)),
+            (Input::Report(true), Want::Settle),
+            (SETTLED, Want::Reserve),
+            (DENIED, Want::Return),
+            (RETURNED, Want::Release(NORMAL_CLEARING)),
+        ],
+    ),
+    (
+        "a further grant that is refused",
+        &[
+            (GRANTED, Want::Start(240, true)),
+            (Input::Report(true), Want::Settle),
+            (SETTLED, Want::Reserve),
+            (Input::Refusal, Want::Return),
+            (RETURNED, Want::Release(TEMPORARY_FAILURE)),
+        ],
+    ),
+];
+
+fn initial(rt: &impl Abort) -> SsfMsg {
+    SsfMsg::InitialDp {
+        call: 1,
+        calling: number(rt, "491700001"),
+        called: number(rt, "4930"),
+    }
+}
+
+fn report(active: bool) -> SsfMsg {
+    SsfMsg::ChargingReport {
+        active,
+        info: TimeInfo::NoSwitch { t: 300 },
+    }
+}
+
+/// Whether a turn is the one that is wanted, where the last report was of this moment.
+fn is_wanted(
+    rt: &impl Abort,
+    turn: &Result<Turn, DialogueFault>,
+    want: &Want,
+    reported: u64,
+) -> bool {
+    match (turn, want) {
+        (Ok(Turn::Ask(asked)), Want::Reserve) => *asked == reserve(reported),
+        (Ok(Turn::Ask(asked)), Want::Settle) => *asked == SETTLE,
+        (Ok(Turn::Ask(asked)), Want::Return) => *asked == Op::Return { call: 1 },
+        (Ok(Turn::Send(sent)), Want::Nothing) => sent.is_empty(),
+        (Ok(Turn::Send(sent)), Want::Continue) => {
+            sent.as_slice() == [ScfOp::Continue].as_slice()
+        }
+        (Ok(Turn::Send(sent)), Want::Release(cause)) => {
+            let cause = Cause::new(*cause).expect(rt, "a cause");
+            sent.as_slice() == [ScfOp::ReleaseCall(cause)].as_slice()
+        }
+        (Ok(Turn::Send(sent)), Want::Charge(period)) => {
+            sent.as_slice() == [charge(rt, *period, None, true)].as_slice()
+        }
+        (Ok(Turn::Send(sent)), Want::Start(period, last)) => {
+            let watch = arms(rt, Mode::NotifyAndContinue);
+            let charge = charge(rt, *period, Some(60), *last);
+            sent.as_slice() == [watch, charge, ScfOp::Continue].as_slice()
+        }
+        (Ok(Turn::Done), Want::Done) => true,
+        (Err(met), Want::Fault(fault)) => met == fault,
+        _ => false,
+    }
+}
+
+/// Hands a dialogue one input after the other, each at a later moment, and looks at each turn.
+fn plays(rt: &impl Abort, name: &str, rows: &[(Input, Want)]) {
+    let (mut dialogue, first) = Dialogue::begin(1, 0, Some(ROUTE), &CONFIG);
+    gives(rt, &name, &first, &Turn::Ask(reserve(0)));
+    let mut reported = 0;
+    for (row, (input, want)) in rows.iter().enumerate() {
+        let before = dialogue;
+        let at = (row as u64).saturating_add(1);
+        let turn = match *input {
+            Input::Initial => dialogue.take(7, at, initial(rt)),
+            Input::Report(active) => {
+                reported = at;
+                dialogue.take(7, at, report(active))
+            }
+            Input::Event(event, leg, mode) => {
+                dialogue.take(7, at, SsfMsg::EventReport { event, leg, mode })
+            }
+            Input::Ended => dialogue.take(7, at, SsfMsg::Ended),
+            Input::Answer(reply) => dialogue.answer(reply),
+            Input::Refusal => dialogue.refused(AccountFault::OutOfMemory),
+        };
+        let wanted = is_wanted(rt, &turn, want, reported);
+        let kept = turn.is_ok() || dialogue == before;
+        gives(rt, &(name, row, &turn), &(wanted, kept), &(true, true));
+    }
+}
+
+#[test]
+fn dialogues_play_every_row(rt: HostRuntime) {
+    one_settle_a_grant();
+    one_return_if_granted();
+    honest_replies_are_expected();
+    for &(name, rows) in &DIALOGUES {
+        plays(&rt, name, rows);
+    }
+    let (_, turn) = Dialogue::begin(1, 0, None, &CONFIG);
+    assert!(rt;
+        is_wanted(&rt, &Ok(turn), &Want::Release(UNALLOCATED_NUMBER), 0),
+        "with no route"
+    );
+}

@@ -1,0 +1,241 @@
+//! Calls driven over an account, with `tssf` 100, `tccd` 50 and the default handling Release; 600
+//! are wanted, and 50 at least. The call is charged 50 once and 1000 a minute.
+
+ghost use Rattle.std.specs.Prelude.{◌≤◌, All};
+
+use super::making::number;
+use crate::looking::gives;
+use account_core::{Account, AccountFault, AccountPort, Op, Port, Reply};
+use dialogue_core::ServiceConfig;
+use one_call::{CallEnd, DriveFault, drive_call};
+use price_core::{MAX_MONEY, Plan, TimeInfo};
+use ssf_core::{BcsmEvent, DefaultHandling, Moment, SsfConfig, State};
+use std::process::Abort;
+use tariff_core::Route;
+
+/// What a port does in place of asking its account.
+#[derive(Clone, Copy)]
+enum Habit {
+    /// It refuses each Settle.
+    Refuses,
+    /// It refuses everything.
+    Closed,
+    /// It answers each Settle by a forfeit.
+    Forfeits,
+}
+
+/// A port to an account, with a habit. It states nothing of what it keeps.
+#[derive(Drop)]
+struct Till {
+    port: AccountPort,
+    habit: Habit,
+}
+
+impl Port for Till {
+    fn ask(&mut self, op: Op) -> Result<Reply, AccountFault> {
+        match (self.habit, op) {
+            (Habit::Closed, _) => Err(AccountFault::GateClosed),
+            (Habit::Refuses, Op::Settle { .. }) => Err(AccountFault::HistoryFull),
+            (Habit::Forfeits, Op::Settle { .. }) => Ok(Reply::Forfeit {
+                paid: 0,
+                available: 0,
+            }),
+            _ => self.port.ask(op),
+        }
+    }
+}
+
+/// What is left of an account: its entries, what call 1 paid, and the credit.
+type Left = (usize, Option<u64>, u64);
+
+/// How a call ends Idle: its reports, the last of them, the forfeits, and what the gsmSSF refused.
+type End = Result<(u64, Option<u32>, u64, u64), DriveFault>;
+
+type Script = &'static [(Moment, BcsmEvent)];
+
+const ANSWER: Script = &[(100, BcsmEvent::Answer)];
+
+const BUSY: Script = &[(10, BcsmEvent::Busy)];
+
+const BACKWARDS: Script = &[(100, BcsmEvent::Answer), (50, BcsmEvent::Busy)];
+
+const UNASKED: Left = (0, None, 1500);
+
+/// The opening credit with its last moment, the delay and the script of a call, how it ends, and
+/// what is left.
+const CALLS: [((u64, Option<u64>), u32, Script, End, Left); 10] = [
+    (
+        (1500, None),
+        2,
+        ANSWER,
+        Ok((2, Some(870), 0, 0)),
+        (5, Some(1500), 0),
+    ),
+    (
+        (1050, None),
+        2,
+        ANSWER,
+        Ok((1, Some(600), 0, 0)),
+        (4, Some(1050), 0),
+    ),
+    (
+        (1500, None),
+        2,
+        BUSY,
+        Ok((0, None, 0, 0)),
+        (2, Some(0), 1500),
+    ),
+    // A further period comes too late.
+    (
+        (1500, None),
+        50,
+        ANSWER,
+        Ok((1, Some(600), 0, 1)),
+        (4, Some(1050), 450),
+    ),
+    ((1500, None), 0, ANSWER, Err(DriveFault::Delay), UNASKED),
+    ((1500, None), 51, ANSWER, Err(DriveFault::Delay), UNASKED),
+    (
+        (1500, None),
+        2,
+        BACKWARDS,
+        Err(DriveFault::Backwards),
+        UNASKED,
+    ),
+    (
+        (1500, None),
+        0,
+        BACKWARDS,
+        Err(DriveFault::Backwards),
+        UNASKED,
+    ),
+    // The second period is asked for at 700.
+    (
+        (1500, Some(700)),
+        2,
+        ANSWER,
+        Ok((2, Some(870), 0, 0)),
+        (5, Some(1500), 0),
+    ),
+    (
+        (1500, Some(699)),
+        2,
+        ANSWER,
+        Ok((1, Some(600), 0, 0)),
+        (4, Some(1050), 450),
+    ),
+];
+
+/// The same of a port with a habit, to an account with 1500, with a delay of 2.
+const HABITS: [(Habit, Script, End, Left); 4] = [
+    (Habit::Closed, &[], Ok((0, None, 0, 0)), UNASKED),
+    // Its call is cleared by the time that it would be answered.
+    (Habit::Closed, ANSWER, Ok((0, None, 0, 1)), UNASKED),
+    (
+        Habit::Refuses,
+        ANSWER,
+        Ok((1, Some(600), 0, 0)),
+        (2, Some(0), 1500),
+    ),
+    (
+        Habit::Forfeits,
+        ANSWER,
+        Ok((1, Some(600), 1, 0)),
+        (2, Some(0), 1500),
+    ),
+];
+
+const SERVICE: ServiceConfig = ServiceConfig {
+    wanted: 600,
+    least: 50,
+    tccd: 50,
+};
+
+const SWITCH: SsfConfig = SsfConfig {
+    tssf: 100,
+    tccd: 50,
+    default_handling: DefaultHandling::Release,
+};
+
+const ROUTE: Route = Route {
+    plan: Plan {
+        fee: 50,
+        before: 1000,
+        after: None,
+        free: 0,
+        first: 0,
+        step: 1,
+    },
+    switch_at: None,
+};
+
+/// Drives call 1 from 0.
+fn driven<R: Abort + AllocGlobal, P: Port>(
+    rt: &R,
+    port: &mut P,
+    delay: u32,
+    script: Script,
+) -> Result<CallEnd, DriveFault> {
+    assert!(rt; script.iter().all(|next| next.0 <= 1_000_000_000_000));
+    let calling = number(rt, "491700001");
+    let called = number(rt, "4930123456");
+    let call = (1, calling, called);
+    let alloc = rt.alloc();
+    drive_call(
+        alloc,
+        SWITCH,
+        &SERVICE,
+        delay,
+        0,
+        call,
+        Some(ROUTE),
+        script,
+        port,
+    )
+}
+
+fn end_of(end: End) -> Result<CallEnd, DriveFault> {
+    let (reports, last, forfeits, refused) = end?;
+    Ok(CallEnd {
+        state: State::Idle,
+        reports,
+        forfeits,
+        last: last.map(|t| TimeInfo::NoSwitch { t }),
+        refused,
+    })
+}
+
+fn left(account: &Account) -> Left {
+    (
+        account.history().len(),
+        account.paid(1),
+        account.available(),
+    )
+}
+
+#[test]
+fn calls_are_paid_or_not_driven(rt: HostRuntime) {
+    for &((opening, until), delay, script, end, account) in &CALLS {
+        assert!(rt; opening <= MAX_MONEY);
+        let mut port = AccountPort::new(Account::new(rt.alloc(), opening, until, 1000), 0);
+        let met = driven(&rt, &mut port, delay, script);
+        let found = (met, left(&port.account));
+        gives(
+            &rt,
+            &(until, delay, script),
+            &found,
+            &(end_of(end), account),
+        );
+    }
+}
+
+#[test]
+fn a_port_refuses_or_forfeits(rt: HostRuntime) {
+    for &(habit, script, end, account) in &HABITS {
+        let port = AccountPort::new(Account::new(rt.alloc(), 1500, None, 1000), 0);
+        let mut till = Till { port, habit };
+        let met = driven(&rt, &mut till, 2, script);
+        let found = (met, left(&till.port.account));
+        gives(&rt, &script, &found, &(end_of(end), account));
+    }
+}

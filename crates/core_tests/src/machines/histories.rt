@@ -1,0 +1,178 @@
+//! Entries in their places and out of them, with an opening credit of 1500, which expires or not,
+//! and a long history.
+
+use super::account_asks::{TWO_RATES, credit, reserve};
+use crate::looking::gives;
+use account_core::{Account, Entry, Op, Reply};
+use price_core::TimeInfo;
+
+const WHOLE: Reply = Reply::Granted {
+    units: 600,
+    last: false,
+    available: 450,
+};
+
+const REST: Reply = Reply::Granted {
+    units: 240,
+    last: true,
+    available: 0,
+};
+
+const FIRST: Entry = Entry {
+    seat: 1,
+    op: Op::Reserve {
+        call: 1,
+        plan: TWO_RATES,
+        wanted: 600,
+        least: 50,
+        at: 1000,
+    },
+    reply: WHOLE,
+};
+
+const SECOND: Entry = Entry {
+    seat: 0,
+    op: Op::Reserve {
+        call: 2,
+        plan: TWO_RATES,
+        wanted: 600,
+        least: 50,
+        at: 1001,
+    },
+    reply: REST,
+};
+
+const FIRST_ANSWERED_AS_SECOND: Entry = Entry {
+    reply: REST,
+    ..FIRST
+};
+
+const SECOND_ANSWERED_AS_FIRST: Entry = Entry {
+    reply: WHOLE,
+    ..SECOND
+};
+
+const UNASKED: Entry = Entry {
+    op: Op::Return { call: 1 },
+    ..FIRST
+};
+
+const SECOND_DENIED: Entry = Entry {
+    reply: Reply::Denied { available: 450 },
+    ..SECOND
+};
+
+const HALF_SETTLED: Entry = Entry {
+    op: Op::Settle {
+        call: 1,
+        number: 7,
+        info: TimeInfo::NoSwitch { t: 300 },
+    },
+    reply: Reply::Settled {
+        paid: 550,
+        available: 450,
+    },
+    ..FIRST
+};
+
+/// A credit that moves the last moment.
+const PROLONGED: Entry = Entry {
+    seat: 0,
+    op: Op::Credit {
+        amount: 1,
+        until: Some(2000),
+    },
+    reply: Reply::Credited { available: 451 },
+};
+
+const SECOND_GRANTED: Entry = Entry {
+    reply: Reply::Granted {
+        units: 240,
+        last: true,
+        available: 1,
+    },
+    ..SECOND
+};
+
+const ENDED: Entry = Entry {
+    op: Op::Return { call: 1 },
+    reply: Reply::Returned {
+        paid: 550,
+        available: 501,
+    },
+    ..FIRST
+};
+
+/// The second call asks past the last moment, and once more when that was moved.
+const EXPIRED: [Entry; 6] = [
+    FIRST,
+    SECOND_DENIED,
+    HALF_SETTLED,
+    PROLONGED,
+    SECOND_GRANTED,
+    ENDED,
+];
+
+/// So too, with its two replies exchanged.
+const EXPIRED_LATER: [Entry; 6] = [
+    FIRST,
+    SECOND_GRANTED,
+    HALF_SETTLED,
+    PROLONGED,
+    SECOND_DENIED,
+    ENDED,
+];
+
+#[test]
+fn checks_entries_in_their_places(rt: HostRuntime) {
+    let histories: [(Option<u64>, &[Entry], bool); 14] = [
+        (None, &[FIRST, SECOND], true),
+        (None, &[FIRST], true),
+        (None, &[], true),
+        (
+            None,
+            &[FIRST_ANSWERED_AS_SECOND, SECOND_ANSWERED_AS_FIRST],
+            false,
+        ),
+        (None, &[FIRST, SECOND_ANSWERED_AS_FIRST], false),
+        (None, &[UNASKED], false),
+        (Some(1001), &[FIRST, SECOND], true),
+        (Some(1000), &[FIRST, SECOND], false),
+        (Some(1000), &[FIRST, SECOND_DENIED], true),
+        (Some(1000), &EXPIRED, true),
+        (Some(1000), &EXPIRED_LATER, false),
+        (Some(999), &EXPIRED, false),
+        (Some(1001), &EXPIRED, false),
+        (None, &EXPIRED, false),
+    ];
+    for &(until, entries, legal) in &histories {
+        let checked = Account::check(rt.alloc(), 1500, until, entries);
+        gives(&rt, &(until, entries), &checked, &Ok(legal));
+    }
+}
+
+#[test]
+fn runs_five_thousand_calls(rt: HostRuntime) {
+    let mut account = Account::new(rt.alloc(), 0, None, 20_000);
+    for call in 1..=5000 {
+        let ops = [
+            credit(1050, None),
+            reserve(call, TWO_RATES, 600),
+            Op::Settle {
+                call,
+                number: 7,
+                info: TimeInfo::NoSwitch { t: 600 },
+            },
+            Op::Return { call },
+        ];
+        for &op in &ops {
+            gives(&rt, &op, &account.apply(0, op).is_ok(), &true);
+        }
+    }
+    assert!(rt; account.history().len() == 20_000 && account.available() == 0);
+    for call in 1..=5000 {
+        gives(&rt, &call, &account.paid(call), &Some(1050));
+    }
+    gives(&rt, &5001, &account.paid(5001), &None);
+    assert!(rt; Account::check(rt.alloc(), 0, None, account.history()) == Ok(true));
+}

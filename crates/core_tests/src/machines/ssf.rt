@@ -1,0 +1,127 @@
+//! Calls as the switch runs them.
+
+ghost use Rattle.std.specs.Prelude.{◌≤◌};
+
+use super::making::{arms, charge, number};
+use super::ssf_rows::{CALLS, Input, Row, Sent, Start};
+use crate::looking::gives;
+use cap_values::{Cause, Event, Mode, ScfOp, SsfMsg};
+use price_core::HORIZON;
+use ssf_core::{BcsmEvent, DefaultHandling, Item, Moment, Out, Ssf, SsfConfig, State};
+use std::process::Abort;
+
+/// The last moment that a gsmSSF takes.
+const LATEST: Moment = 2_000_000_000_000;
+
+fn item_of(sent: &Sent) -> Item {
+    match *sent {
+        Sent::Proceed => Item::Proceed,
+        Sent::Fail => Item::Clear(Cause::temporary_failure()),
+        Sent::Reject => Item::Clear(Cause::call_rejected()),
+        Sent::Report(active, info) => Item::Msg(SsfMsg::ChargingReport { active, info }),
+        Sent::Event(event, leg, mode) => Item::Msg(SsfMsg::EventReport { event, leg, mode }),
+        Sent::Ended => Item::Msg(SsfMsg::Ended),
+    }
+}
+
+/// Invoked and triggered at 0.
+fn triggered(rt: &impl Abort, default_handling: DefaultHandling) -> Ssf {
+    let config = SsfConfig::new(100, 50, default_handling).expect(rt, "a configuration");
+    let mut ssf = Ssf::new(config);
+    assert!(rt; ssf.state() == State::Idle);
+    assert!(rt; ssf.invoke(0).fault == None && ssf.state() == State::WaitForRequest);
+    let (calling, called) = (number(rt, "491700001"), number(rt, "4930123456"));
+    let step = ssf.trigger(0, 1, calling, called);
+    let asked = Out {
+        at: 0,
+        item: Item::Msg(SsfMsg::InitialDp {
+            call: 1,
+            calling,
+            called,
+        }),
+    };
+    gives(rt, &0, &step.sent.as_slice(), &[asked].as_slice());
+    let found = (ssf.state(), ssf.next_due());
+    gives(rt, &0, &found, &(State::WaitingForInstructions, Some(100)));
+    ssf
+}
+
+/// Armed, charged for 600 and continued at a moment.
+fn monitored(rt: &impl Abort, at: Moment, switch: Option<u32>, busy: Mode) -> Ssf
+    requires { at ≤ HORIZON }
+{
+    let mut ssf = triggered(rt, DefaultHandling::Release);
+    let watched = ssf.operation(at, arms(rt, busy));
+    let charged = ssf.operation(at, charge(rt, 600, switch, false));
+    gives(rt, &at, &(watched.fault, charged.fault), &(None, None));
+    let step = ssf.operation(at, ScfOp::Continue);
+    let proceed = Out {
+        at,
+        item: Item::Proceed,
+    };
+    gives(rt, &at, &step.sent.as_slice(), &[proceed].as_slice());
+    gives(rt, &at, &ssf.state(), &State::Monitoring);
+    ssf
+}
+
+/// Answered at 100.
+fn answered(rt: &impl Abort, at: Moment, switch: Option<u32>) -> Ssf
+    requires { at ≤ HORIZON }
+{
+    let mut ssf = monitored(rt, at, switch, Mode::NotifyAndContinue);
+    let step = ssf.event(100, BcsmEvent::Answer);
+    let answer = Out {
+        at: 100,
+        item: Item::Msg(SsfMsg::EventReport {
+            event: Event::Answer,
+            leg: None,
+            mode: Mode::NotifyAndContinue,
+        }),
+    };
+    gives(rt, &at, &step.sent.last().copied(), &Some(answer));
+    ssf
+}
+
+fn started(rt: &impl Abort, start: &Start) -> Ssf {
+    match *start {
+        Start::Triggered(default_handling) => triggered(rt, default_handling),
+        Start::Monitored(busy) => monitored(rt, 2, None, busy),
+        Start::Answered(at, switch) => {
+            assert!(rt; at <= LATEST);
+            answered(rt, at, switch)
+        }
+    }
+}
+
+/// Hands a gsmSSF one input after the other, and looks at each step.
+fn runs(rt: &impl Abort, name: &str, ssf: &mut Ssf, rows: &[Row]) {
+    for (now, input, fault, sent, state, due) in rows {
+        let now = *now;
+        assert!(rt; now <= LATEST);
+        let step = match *input {
+            Input::Charge(period) => ssf.operation(now, charge(rt, period, None, false)),
+            Input::Continue => ssf.operation(now, ScfOp::Continue),
+            Input::Reject => ssf.operation(now, ScfOp::ReleaseCall(Cause::call_rejected())),
+            Input::Event(event) => ssf.event(now, event),
+            Input::Advance => ssf.advance(now),
+        };
+        let found = (step.fault, step.sent.len(), ssf.state(), ssf.next_due());
+        gives(
+            rt,
+            &(name, now),
+            &found,
+            &(*fault, sent.len(), *state, *due),
+        );
+        for (out, (at, sent)) in step.sent.iter().zip(*sent) {
+            gives(rt, &(name, now), &(out.at, out.item), &(*at, item_of(sent)));
+        }
+    }
+}
+
+#[test]
+fn calls_run(rt: HostRuntime) {
+    for (name, start, rows) in &CALLS {
+        let mut ssf = started(&rt, start);
+        runs(&rt, name, &mut ssf, rows);
+    }
+}

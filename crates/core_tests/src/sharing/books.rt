@@ -1,0 +1,214 @@
+//! Accounts that are asked in turn, and the books that they are closed with.
+
+ghost use Rattle.std.specs.Prelude.{◌≡◌, ◌≤◌};
+
+use super::forms::{
+    Answer, Ask, Said, close, entries_of_each, op_of, says, two_seats, two_seats_within,
+};
+use super::histories::{RUNS, Row, Run};
+use crate::looking::gives;
+use account_core::{Account, AccountFault, Op, Port};
+use locked_account::{Seat, SharedAccount};
+use price_core::MAX_MONEY;
+use shared_account::{Book, CloseFault, Gate, OpenGate, Shared, SharedPort};
+use std::alloc::Global;
+use std::process::Abort;
+use std::sync::Wait;
+use std::test::Fail;
+use turn_account::TurnAccount;
+
+/// Closes an account with its seats in another order.
+fn refuses_an_exchange<S: Shared, R: Abort>(rt: &R, alloc: Global) -> Result<(), Fail> {
+    let (account, first, second) = two_seats::<S, R>(rt, alloc, 1, 1500, None)?;
+    let closed = close(alloc, account, second, first)?;
+    gives(rt, &"exchanged", &closed.err(), &Some(CloseFault::Seats));
+    Ok(())
+}
+
+/// Closes an account with a seat too few.
+fn refuses_a_lack<S: Shared, R: Abort>(rt: &R, alloc: Global) -> Result<(), Fail> {
+    let (account, first, _) = two_seats::<S, R>(rt, alloc, 1, 1500, None)?;
+    let mut seats = Vec::with_capacity(alloc, 1)?;
+    seats.push_reserved(first);
+    let fault = account.close(seats).err();
+    gives(rt, &"a lack", &fault, &Some(CloseFault::Seats));
+    Ok(())
+}
+
+/// Closes accounts of a form with seats in another order, and with a seat too few.
+fn refuses_seats<S: Shared, R: Abort>(rt: &R, alloc: Global) -> Result<(), Fail> {
+    refuses_an_exchange::<S, R>(rt, alloc)?;
+    refuses_a_lack::<S, R>(rt, alloc)
+}
+
+#[test]
+fn closes_with_all_seats_in_order(rt: HostRuntime) -> Result<(), Fail> {
+    refuses_seats::<SharedAccount, _>(&rt, rt.alloc())?;
+    refuses_seats::<TurnAccount, _>(&rt, rt.alloc())
+}
+
+/// A gate of accounts, which is open or shut.
+#[derive(Clone, Copy)]
+struct Door {
+    open: bool,
+}
+
+impl Gate for Door {
+    ghost may_shut = { λ _. Unit {0} };
+
+    fn before(&self, _worker: u32, _call: u64) -> bool {
+        true
+    }
+
+    fn inside(&self, _account: u32) -> bool {
+        self.open
+    }
+
+    fn after(&self, _worker: u32, _call: u64) {}
+}
+
+/// Asks from one of two seats.
+fn ask_one<S: Shared, R: Wait>(
+    rt: &R,
+    account: &S,
+    first: &mut S::Seat,
+    second: &mut S::Seat,
+    seat: u32,
+    op: Op,
+    gate: Door,
+) -> Answer
+    requires first { S.reads.key first.old ≡ S.key account.now }
+    requires second { S.reads.key second.old ≡ S.key account.now }
+    ensures first { S.reads.key first.new ≡ S.key account.now }
+    ensures second { S.reads.key second.new ≡ S.key account.now }
+{
+    if seat == 0 {
+        return account.call(rt, first, op, &gate);
+    }
+    account.call(rt, second, op, &gate)
+}
+
+/// The book of account 1, whose two seats asked in turn.
+fn book_of<S: Shared, R: Abort + Wait>(
+    rt: &R,
+    alloc: Global,
+    terms: (u64, Option<u64>, u32),
+    rows: &[Row],
+) -> Result<Book, Fail>
+    requires { terms.0 ≤ MAX_MONEY }
+{
+    let (opening, until, limit) = terms;
+    let (account, mut first, mut second) = two_seats_within::<S, R>(
+        rt, alloc, 1, opening, until, limit,
+    )?;
+    for (seat, open, ask, want) in rows {
+        let (op, gate) = (op_of(*ask), Door { open: *open });
+        let answer = ask_one(rt, &account, &mut first, &mut second, *seat, op, gate);
+        says(rt, op, answer, *want);
+    }
+    Ok(close(alloc, account, first, second)??)
+}
+
+/// Compares a book with what its account was opened with.
+fn expect_terms(rt: &impl Abort, book: &Book, run: &Run) {
+    let (opening, until, limit, _, made, _, _) = run;
+    let found = (book.account(), book.opening(), book.until(), book.limit());
+    gives(rt, made, &found, &(1, *opening, *until, *limit));
+    let entries = made.0.saturating_add(made.1);
+    let found = (entries_of_each(book), book.history().len());
+    gives(rt, made, &found, &(*made, entries));
+}
+
+/// Compares what a book sums up to.
+fn expect_summary(rt: &impl Abort, alloc: Global, book: &Book, run: &Run) -> Result<(), Fail> {
+    let (opening, _, _, _, made, available, calls) = run;
+    let summary = book.summary(alloc)?;
+    let found = (summary.account, summary.opening, summary.available);
+    gives(rt, made, &found, &(1, *opening, *available));
+    gives(rt, made, &summary.entries, &made.0.saturating_add(made.1));
+    gives(rt, made, &summary.calls.as_slice(), calls);
+    Ok(())
+}
+
+/// Compares the book of an account of a form, and what it sums up to.
+fn sums_up<S: Shared, R: Abort + Wait>(rt: &R, alloc: Global, run: &Run) -> Result<(), Fail> {
+    let (opening, until, limit, rows, _, _, _) = run;
+    assert!(rt; *opening <= MAX_MONEY);
+    let book = book_of::<S, R>(rt, alloc, (*opening, *until, *limit), rows)?;
+    expect_terms(rt, &book, run);
+    expect_summary(rt, alloc, &book, run)
+}
+
+#[test]
+fn sums_up_its_calls(rt: HostRuntime) -> Result<(), Fail> {
+    for run in &RUNS {
+        sums_up::<SharedAccount, _>(&rt, rt.alloc(), run)?;
+        sums_up::<TurnAccount, _>(&rt, rt.alloc(), run)?;
+    }
+    Ok(())
+}
+
+/// A port asks from its seat, and another seat is answered after it.
+fn asks_by_port<S: Shared, R: Abort + Wait>(rt: &R, alloc: Global) -> Result<(), Fail> {
+    let (account, mut first, mut second) = two_seats::<S, R>(rt, alloc, 1, 1500, None)?;
+    let mut port = SharedPort::new(&account, &mut second, rt, &OpenGate);
+    let op = op_of(Ask::Reserve(1, 0));
+    says(rt, op, port.ask(op), Said::Granted(600, false, 450));
+    let op = op_of(Ask::Credit(10, None));
+    let answer = account.call(rt, &mut first, op, &OpenGate);
+    says(rt, op, answer, Said::Credited(460));
+    Ok(())
+}
+
+const KEPT: [(Ask, Said); 4] = [
+    (Ask::Reserve(1, 0), Said::Granted(600, false, 450)),
+    (Ask::Settle(1, 600), Said::Settled(1050, 450)),
+    (Ask::Return(1), Said::Returned(1050, 450)),
+    (Ask::Return(1), Said::Refused(AccountFault::NotOpen)),
+];
+
+/// Asks an account from a seat, which keeps what it has entered.
+fn ask_from(rt: &impl Abort, seat: &mut Seat, account: &mut Account) {
+    for &(ask, want) in &KEPT {
+        let op = op_of(ask);
+        says(rt, op, seat.apply_to(account, op), want);
+    }
+    gives(rt, &"entries", &seat.mine().len(), &3);
+    gives(rt, &"entries", &seat.mine(), &account.history());
+}
+
+/// A seat keeps what it enters into an account of its own.
+fn keeps_its_entries(rt: &impl Abort, alloc: Global) -> Result<(), Fail> {
+    let (_, mut seat, other) = two_seats::<SharedAccount, _>(rt, alloc, 1, 1500, None)?;
+    gives(rt, &"seats", &(seat.number(), other.number()), &(0, 1));
+    let mut account = Account::new(alloc, 1500, None, 100);
+    ask_from(rt, &mut seat, &mut account);
+    Ok(())
+}
+
+#[test]
+fn keeps_what_it_has_entered(rt: HostRuntime) -> Result<(), Fail> {
+    asks_by_port::<SharedAccount, _>(&rt, rt.alloc())?;
+    asks_by_port::<TurnAccount, _>(&rt, rt.alloc())?;
+    keeps_its_entries(&rt, rt.alloc())
+}
+
+const FAULTS: [(CloseFault, u8, &str); 2] = [
+    (CloseFault::Seats, 1, "the seats aren't all there in order"),
+    (
+        CloseFault::Mismatch,
+        2,
+        "the history isn't what the seats have entered",
+    ),
+];
+
+#[test]
+fn names_its_faults(rt: HostRuntime) -> Result<(), Fail> {
+    for &(fault, number, want) in &FAULTS {
+        let text = format!(in rt.alloc(); "{fault}")?;
+        let found = (fault.code(), text.as_str());
+        gives(&rt, &number, &found, &(number, want));
+    }
+    assert!(rt; OpenGate.before(0, 1) && OpenGate.inside(1));
+    Ok(())
+}

@@ -1,0 +1,219 @@
+//! What accounts are asked in turn, and what is answered.
+
+use super::forms::{Ask, Said};
+use account_core::{AccountFault, CallSum, Fate};
+use price_core::MAX_MONEY;
+
+/// What is asked: from which seat, whether the gate is open, and the answer.
+pub(crate) type Row = (u32, bool, Ask, Said);
+
+const HOLDING: [Row; 2] = [
+    (1, true, Ask::Reserve(1, 0), Said::Granted(600, false, 450)),
+    (0, true, Ask::Reserve(2, 0), Said::Granted(240, true, 0)),
+];
+
+const ENDED: [Row; 7] = [
+    (1, true, Ask::Reserve(7, 0), Said::Granted(600, false, 450)),
+    (1, true, Ask::Settle(7, 300), Said::Settled(550, 450)),
+    (1, true, Ask::Return(7), Said::Returned(550, 950)),
+    (0, true, Ask::Reserve(5, 0), Said::Granted(540, true, 0)),
+    (0, true, Ask::Settle(5, 600), Said::Forfeit(950, 0)),
+    (0, true, Ask::Reserve(6, 0), Said::Denied(0)),
+    (0, true, Ask::Return(5), Said::Returned(950, 0)),
+];
+
+const REFUSED: [Row; 9] = [
+    (
+        0,
+        false,
+        Ask::Credit(5, None),
+        Said::Refused(AccountFault::GateClosed),
+    ),
+    (
+        0,
+        false,
+        Ask::Credit(0, None),
+        Said::Refused(AccountFault::GateClosed),
+    ),
+    (
+        0,
+        false,
+        Ask::Settle(1, 600),
+        Said::Refused(AccountFault::GateClosed),
+    ),
+    (
+        0,
+        false,
+        Ask::Return(1),
+        Said::Refused(AccountFault::GateClosed),
+    ),
+    (
+        1,
+        true,
+        Ask::Return(1),
+        Said::Refused(AccountFault::NotOpen),
+    ),
+    (
+        1,
+        true,
+        Ask::Credit(0, None),
+        Said::Refused(AccountFault::OutOfRange),
+    ),
+    (1, true, Ask::Credit(1, None), Said::Credited(101)),
+    (1, true, Ask::Credit(MAX_MONEY, None), Said::Over(101)),
+    (0, true, Ask::Credit(1, None), Said::Credited(102)),
+];
+
+const FILLED: [Row; 12] = [
+    (0, true, Ask::Reserve(1, 0), Said::Granted(600, false, 450)),
+    (
+        1,
+        true,
+        Ask::Settle(2, 300),
+        Said::Refused(AccountFault::NotOpen),
+    ),
+    (
+        1,
+        true,
+        Ask::Reserve(2, 0),
+        Said::Refused(AccountFault::HistoryFull),
+    ),
+    (1, true, Ask::Credit(1, None), Said::Credited(451)),
+    (0, true, Ask::Settle(1, 300), Said::Settled(550, 451)),
+    (1, true, Ask::Credit(1, None), Said::Credited(452)),
+    (
+        1,
+        true,
+        Ask::Credit(1, None),
+        Said::Refused(AccountFault::HistoryFull),
+    ),
+    (1, true, Ask::Return(1), Said::Returned(550, 952)),
+    (
+        0,
+        true,
+        Ask::Reserve(1, 0),
+        Said::Refused(AccountFault::CallUsed),
+    ),
+    (
+        0,
+        true,
+        Ask::Return(1),
+        Said::Refused(AccountFault::NotOpen),
+    ),
+    (
+        0,
+        true,
+        Ask::Credit(0, None),
+        Said::Refused(AccountFault::OutOfRange),
+    ),
+    (
+        0,
+        true,
+        Ask::Reserve(3, 0),
+        Said::Refused(AccountFault::HistoryFull),
+    ),
+];
+
+const EXPIRED: [Row; 6] = [
+    (
+        0,
+        true,
+        Ask::Reserve(1, 1000),
+        Said::Granted(600, false, 450),
+    ),
+    (1, true, Ask::Reserve(2, 1001), Said::Denied(450)),
+    (0, true, Ask::Settle(1, 300), Said::Settled(550, 450)),
+    (1, true, Ask::Credit(1, Some(2000)), Said::Credited(451)),
+    (1, true, Ask::Reserve(2, 1001), Said::Granted(240, true, 1)),
+    (0, true, Ask::Return(1), Said::Returned(550, 501)),
+];
+
+/// An opening, a last moment and a limit; what is asked, how many entries each seat makes, the
+/// credit that is left, and what the calls come to.
+pub(crate) type Run = (
+    u64,
+    Option<u64>,
+    u32,
+    &'static [Row],
+    (usize, usize),
+    u64,
+    &'static [CallSum],
+);
+
+pub(crate) const RUNS: [Run; 6] = [
+    (1500, None, 100, &[], (0, 0), 1500, &[]),
+    (
+        1500,
+        None,
+        100,
+        &HOLDING,
+        (1, 1),
+        0,
+        &[
+            CallSum {
+                call: 1,
+                paid: 0,
+                fate: Fate::Holding,
+            },
+            CallSum {
+                call: 2,
+                paid: 0,
+                fate: Fate::Holding,
+            },
+        ],
+    ),
+    (
+        1500,
+        None,
+        100,
+        &ENDED,
+        (4, 3),
+        0,
+        &[
+            CallSum {
+                call: 5,
+                paid: 950,
+                fate: Fate::Forfeit,
+            },
+            CallSum {
+                call: 7,
+                paid: 550,
+                fate: Fate::Returned,
+            },
+        ],
+    ),
+    (100, None, 100, &REFUSED, (1, 2), 102, &[]),
+    (
+        1500,
+        None,
+        5,
+        &FILLED,
+        (2, 3),
+        952,
+        &[CallSum {
+            call: 1,
+            paid: 550,
+            fate: Fate::Returned,
+        }],
+    ),
+    (
+        1500,
+        Some(1000),
+        100,
+        &EXPIRED,
+        (3, 3),
+        501,
+        &[
+            CallSum {
+                call: 1,
+                paid: 550,
+                fate: Fate::Returned,
+            },
+            CallSum {
+                call: 2,
+                paid: 0,
+                fate: Fate::Holding,
+            },
+        ],
+    ),
+];
