@@ -3,9 +3,13 @@
 #![tactic(auto)]
 
 #[cfg(test)]
+mod answers;
+#[cfg(test)]
 mod looking;
 #[cfg(test)]
 mod machines;
+#[cfg(test)]
+mod plans;
 #[cfg(test)]
 mod sharing;
 #[cfg(test)]

@@ -8,3 +8,5 @@ mod live;
 mod looking;
 #[cfg(test)]
 mod runs;
+#[cfg(test)]
+mod setups;

@@ -1,6 +1,7 @@
-//! What accounts are asked in tests, and what they are to answer.
+//! What accounts are asked in tests.
 
-use account_core::{AccountFault, Op, Reply};
+use crate::plans::{CHEAPER, FREE, SINGLE};
+use account_core::Op;
 use price_core::{Plan, TimeInfo};
 
 /// What an account is asked.
@@ -24,47 +25,6 @@ pub(crate) enum Ask {
     /// A call ends.
     Return(u64),
 }
-
-/// What it is to answer: the fields of the reply, in their order.
-pub(crate) enum Want {
-    Credited(u64),
-    CreditOver(u64),
-    Granted(u32, bool, u64),
-    Denied(u64),
-    Settled(u64, u64),
-    Forfeit(u64, u64),
-    Returned(u64, u64),
-    Fault(AccountFault),
-}
-
-/// The second rate is cheaper.
-pub(crate) const TWO_RATES: Plan = Plan {
-    fee: 50,
-    before: 1000,
-    after: Some(400),
-    free: 0,
-    first: 0,
-    step: 1,
-};
-
-const ONE_RATE: Plan = Plan {
-    fee: 0,
-    before: 1000,
-    after: None,
-    free: 0,
-    first: 0,
-    step: 1,
-};
-
-/// The two rates with free units.
-const WITH_FREE: Plan = Plan {
-    fee: 50,
-    before: 1000,
-    after: Some(400),
-    free: 300,
-    first: 0,
-    step: 1,
-};
 
 /// A call reserves units, and 50 at least, at moment 0.
 pub(crate) fn reserve(call: u64, plan: Plan, wanted: u32) -> Op {
@@ -93,10 +53,10 @@ pub(crate) fn op_of(ask: &Ask) -> Op {
     match *ask {
         Ask::Credit(amount) => credit(amount, None),
         Ask::CreditUntil(amount, until) => credit(amount, Some(until)),
-        Ask::Reserve(call, wanted) => reserve(call, TWO_RATES, wanted),
-        Ask::ReserveAt(call, wanted, at) => reserve_at(call, TWO_RATES, wanted, at),
-        Ask::ReserveAtOneRate(call, wanted) => reserve(call, ONE_RATE, wanted),
-        Ask::ReserveWithFree(call, wanted) => reserve(call, WITH_FREE, wanted),
+        Ask::Reserve(call, wanted) => reserve(call, CHEAPER, wanted),
+        Ask::ReserveAt(call, wanted, at) => reserve_at(call, CHEAPER, wanted, at),
+        Ask::ReserveAtOneRate(call, wanted) => reserve(call, SINGLE, wanted),
+        Ask::ReserveWithFree(call, wanted) => reserve(call, FREE, wanted),
         Ask::NoSwitch(call, t) => Op::Settle {
             call,
             number,
@@ -109,22 +69,4 @@ pub(crate) fn op_of(ask: &Ask) -> Op {
         },
         Ask::Return(call) => Op::Return { call },
     }
-}
-
-/// The answer that is wanted.
-pub(crate) fn answer_of(want: &Want) -> Result<Reply, AccountFault> {
-    Ok(match *want {
-        Want::Credited(available) => Reply::Credited { available },
-        Want::CreditOver(available) => Reply::CreditOver { available },
-        Want::Granted(units, last, available) => Reply::Granted {
-            units,
-            last,
-            available,
-        },
-        Want::Denied(available) => Reply::Denied { available },
-        Want::Settled(paid, available) => Reply::Settled { paid, available },
-        Want::Forfeit(paid, available) => Reply::Forfeit { paid, available },
-        Want::Returned(paid, available) => Reply::Returned { paid, available },
-        Want::Fault(fault) => return Err(fault),
-    })
 }

@@ -1,6 +1,7 @@
 //! What accounts are asked in turn, and what they answer.
 
-use super::account_asks::{Ask, Want};
+use super::account_asks::Ask;
+use crate::answers::Want;
 use account_core::AccountFault;
 
 const NOT_OPEN: Want = Want::Fault(AccountFault::NotOpen);

@@ -1,7 +1,8 @@
 //! Worked accounts.
 
-use super::account_asks::{Ask, Want, answer_of, op_of};
+use super::account_asks::{Ask, op_of};
 use super::account_rows::{ACCOUNTS, MANY, MOST, WHOLE_CALL};
+use crate::answers::{Want, answer_of};
 use crate::looking::gives;
 use account_core::{Account, AccountPort, Entry, Op, Port, Reply};
 use std::process::Abort;
@@ -47,7 +48,7 @@ fn answers<R: Abort + AllocGlobal>(
     let mut account = Account::new(rt.alloc(), opening, until, limit);
     let mut entries = 0usize;
     for (ask, want) in rows {
-        let (op, want) = (op_of(ask), answer_of(want));
+        let (op, want) = (op_of(ask), answer_of(*want));
         gives(rt, &(name, op), &account.apply(3, op), &want);
         if let Ok(reply) = want {
             enters(rt, name, &account, Entry { seat: 3, op, reply });
@@ -71,7 +72,7 @@ fn a_port_asks_its_account(rt: HostRuntime) {
     let mut port = AccountPort::new(Account::new(rt.alloc(), 1500, Some(1000), MANY), 3);
     for (ask, want) in &WHOLE_CALL {
         let op = op_of(ask);
-        gives(&rt, &op, &port.ask(op), &answer_of(want));
+        gives(&rt, &op, &port.ask(op), &answer_of(*want));
     }
     let entries = port.account.history();
     assert!(rt; entries.len() == 3 && entries[2].seat == 3);

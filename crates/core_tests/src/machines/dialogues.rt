@@ -2,13 +2,14 @@
 
 use super::making::{arms, charge, number};
 use crate::looking::gives;
+use crate::plans::CHEAPER;
 use account_core::{AccountFault, Op, Reply};
 use cap_values::{Cause, Event, Leg, Mode, ScfOp, SsfMsg};
 use dialogue_core::{
     Dialogue, DialogueFault, ServiceConfig, Turn, honest_replies_are_expected,
     one_return_if_granted, one_settle_a_grant,
 };
-use price_core::{Plan, TimeInfo};
+use price_core::TimeInfo;
 use std::process::Abort;
 use tariff_core::Route;
 
@@ -49,18 +50,9 @@ const CONFIG: ServiceConfig = ServiceConfig {
     tccd: 50,
 };
 
-const PLAN: Plan = Plan {
-    fee: 50,
-    before: 1000,
-    after: Some(400),
-    free: 0,
-    first: 0,
-    step: 1,
-};
-
 /// The tariff switches after 600 units.
 const ROUTE: Route = Route {
-    plan: PLAN,
+    plan: CHEAPER,
     switch_at: Some(600),
 };
 
@@ -68,7 +60,7 @@ const ROUTE: Route = Route {
 fn reserve(at: u64) -> Op {
     Op::Reserve {
         call: 1,
-        plan: PLAN,
+        plan: CHEAPER,
         wanted: 600,
         least: 50,
         at,

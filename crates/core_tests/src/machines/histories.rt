@@ -1,8 +1,9 @@
 //! Entries in their places and out of them, with an opening credit of 1500, which expires or not,
 //! and a long history.
 
-use super::account_asks::{TWO_RATES, credit, reserve};
+use super::account_asks::{credit, reserve};
 use crate::looking::gives;
+use crate::plans::CHEAPER;
 use account_core::{Account, Entry, Op, Reply};
 use price_core::TimeInfo;
 
@@ -22,7 +23,7 @@ const FIRST: Entry = Entry {
     seat: 1,
     op: Op::Reserve {
         call: 1,
-        plan: TWO_RATES,
+        plan: CHEAPER,
         wanted: 600,
         least: 50,
         at: 1000,
@@ -34,7 +35,7 @@ const SECOND: Entry = Entry {
     seat: 0,
     op: Op::Reserve {
         call: 2,
-        plan: TWO_RATES,
+        plan: CHEAPER,
         wanted: 600,
         least: 50,
         at: 1001,
@@ -157,7 +158,7 @@ fn runs_five_thousand_calls(rt: HostRuntime) {
     for call in 1..=5000 {
         let ops = [
             credit(1050, None),
-            reserve(call, TWO_RATES, 600),
+            reserve(call, CHEAPER, 600),
             Op::Settle {
                 call,
                 number: 7,

@@ -2,10 +2,9 @@
 
 ghost use Rattle.std.specs.Prelude.{◌≡◌, ◌≤◌};
 
-use super::forms::{
-    Answer, Ask, Said, close, entries_of_each, op_of, says, two_seats, two_seats_within,
-};
+use super::forms::{Ask, close, entries_of_each, op_of, says, two_seats, two_seats_within};
 use super::histories::{RUNS, Row, Run};
+use crate::answers::{Answer, Want};
 use crate::looking::gives;
 use account_core::{Account, AccountFault, Op, Port};
 use locked_account::{Seat, SharedAccount};
@@ -153,18 +152,18 @@ fn asks_by_port<S: Shared, R: Abort + Wait>(rt: &R, alloc: Global) -> Result<(),
     let (account, mut first, mut second) = two_seats::<S, R>(rt, alloc, 1, 1500, None)?;
     let mut port = SharedPort::new(&account, &mut second, rt, &OpenGate);
     let op = op_of(Ask::Reserve(1, 0));
-    says(rt, op, port.ask(op), Said::Granted(600, false, 450));
+    says(rt, op, port.ask(op), Want::Granted(600, false, 450));
     let op = op_of(Ask::Credit(10, None));
     let answer = account.call(rt, &mut first, op, &OpenGate);
-    says(rt, op, answer, Said::Credited(460));
+    says(rt, op, answer, Want::Credited(460));
     Ok(())
 }
 
-const KEPT: [(Ask, Said); 4] = [
-    (Ask::Reserve(1, 0), Said::Granted(600, false, 450)),
-    (Ask::Settle(1, 600), Said::Settled(1050, 450)),
-    (Ask::Return(1), Said::Returned(1050, 450)),
-    (Ask::Return(1), Said::Refused(AccountFault::NotOpen)),
+const KEPT: [(Ask, Want); 4] = [
+    (Ask::Reserve(1, 0), Want::Granted(600, false, 450)),
+    (Ask::Settle(1, 600), Want::Settled(1050, 450)),
+    (Ask::Return(1), Want::Returned(1050, 450)),
+    (Ask::Return(1), Want::Fault(AccountFault::NotOpen)),
 ];
 
 /// Asks an account from a seat, which keeps what it has entered.

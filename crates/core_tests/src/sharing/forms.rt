@@ -2,15 +2,15 @@
 
 ghost use Rattle.std.specs.Prelude.{◌≡◌, ◌≤◌, IfOk};
 
+use crate::answers::{Answer, Want, answer_of};
 use crate::looking::gives;
-use account_core::{AccountFault, Op, Reply};
-use price_core::{MAX_MONEY, Plan, TimeInfo};
+use crate::plans::CHEAPER;
+use account_core::Op;
+use price_core::{MAX_MONEY, TimeInfo};
 use shared_account::{Book, CloseFault, Shared};
 use std::alloc::{AllocError, Global};
 use std::process::Abort;
 use std::test::Fail;
-
-pub(crate) type Answer = Result<Reply, AccountFault>;
 
 /// An account with two seats, and room for 100 entries.
 pub(crate) fn two_seats<S: Shared, R: Abort>(
@@ -76,16 +76,6 @@ fn entries_of(book: &Book, seat: u32) -> usize {
     count
 }
 
-/// Two rates, the second cheaper.
-const TWO_RATES: Plan = Plan {
-    fee: 50,
-    before: 1000,
-    after: Some(400),
-    free: 0,
-    first: 0,
-    step: 1,
-};
-
 /// What is asked, in short.
 #[derive(Clone, Copy)]
 pub(crate) enum Ask {
@@ -103,7 +93,7 @@ pub(crate) fn op_of(ask: Ask) -> Op {
     match ask {
         Ask::Reserve(call, at) => Op::Reserve {
             call,
-            plan: TWO_RATES,
+            plan: CHEAPER,
             wanted: 600,
             least: 50,
             at,
@@ -118,39 +108,7 @@ pub(crate) fn op_of(ask: Ask) -> Op {
     }
 }
 
-/// What is answered, in short: units, whether they are the last, what was paid, and at the end what
-/// is available.
-#[derive(Clone, Copy)]
-pub(crate) enum Said {
-    Granted(u32, bool, u64),
-    Denied(u64),
-    Settled(u64, u64),
-    Forfeit(u64, u64),
-    Returned(u64, u64),
-    Credited(u64),
-    Over(u64),
-    Refused(AccountFault),
-}
-
-/// Compares an answer with what is to be said.
-pub(crate) fn says(rt: &impl Abort, op: Op, answer: Answer, said: Said) {
-    gives(rt, &op, &answer, &answer_of(said));
-}
-
-/// The answer that says it.
-pub(crate) fn answer_of(said: Said) -> Answer {
-    Ok(match said {
-        Said::Granted(units, last, available) => Reply::Granted {
-            units,
-            last,
-            available,
-        },
-        Said::Denied(available) => Reply::Denied { available },
-        Said::Settled(paid, available) => Reply::Settled { paid, available },
-        Said::Forfeit(paid, available) => Reply::Forfeit { paid, available },
-        Said::Returned(paid, available) => Reply::Returned { paid, available },
-        Said::Credited(available) => Reply::Credited { available },
-        Said::Over(available) => Reply::CreditOver { available },
-        Said::Refused(fault) => return Err(fault),
-    })
+/// Compares an answer with the one that is wanted.
+pub(crate) fn says(rt: &impl Abort, op: Op, answer: Answer, want: Want) {
+    gives(rt, &op, &answer, &answer_of(want));
 }

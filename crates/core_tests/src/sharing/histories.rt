@@ -1,25 +1,26 @@
 //! What accounts are asked in turn, and what is answered.
 
-use super::forms::{Ask, Said};
+use super::forms::Ask;
+use crate::answers::Want;
 use account_core::{AccountFault, CallSum, Fate};
 use price_core::MAX_MONEY;
 
 /// What is asked: from which seat, whether the gate is open, and the answer.
-pub(crate) type Row = (u32, bool, Ask, Said);
+pub(crate) type Row = (u32, bool, Ask, Want);
 
 const HOLDING: [Row; 2] = [
-    (1, true, Ask::Reserve(1, 0), Said::Granted(600, false, 450)),
-    (0, true, Ask::Reserve(2, 0), Said::Granted(240, true, 0)),
+    (1, true, Ask::Reserve(1, 0), Want::Granted(600, false, 450)),
+    (0, true, Ask::Reserve(2, 0), Want::Granted(240, true, 0)),
 ];
 
 const ENDED: [Row; 7] = [
-    (1, true, Ask::Reserve(7, 0), Said::Granted(600, false, 450)),
-    (1, true, Ask::Settle(7, 300), Said::Settled(550, 450)),
-    (1, true, Ask::Return(7), Said::Returned(550, 950)),
-    (0, true, Ask::Reserve(5, 0), Said::Granted(540, true, 0)),
-    (0, true, Ask::Settle(5, 600), Said::Forfeit(950, 0)),
-    (0, true, Ask::Reserve(6, 0), Said::Denied(0)),
-    (0, true, Ask::Return(5), Said::Returned(950, 0)),
+    (1, true, Ask::Reserve(7, 0), Want::Granted(600, false, 450)),
+    (1, true, Ask::Settle(7, 300), Want::Settled(550, 450)),
+    (1, true, Ask::Return(7), Want::Returned(550, 950)),
+    (0, true, Ask::Reserve(5, 0), Want::Granted(540, true, 0)),
+    (0, true, Ask::Settle(5, 600), Want::Forfeit(950, 0)),
+    (0, true, Ask::Reserve(6, 0), Want::Denied(0)),
+    (0, true, Ask::Return(5), Want::Returned(950, 0)),
 ];
 
 const REFUSED: [Row; 9] = [
@@ -27,90 +28,80 @@ const REFUSED: [Row; 9] = [
         0,
         false,
         Ask::Credit(5, None),
-        Said::Refused(AccountFault::GateClosed),
+        Want::Fault(AccountFault::GateClosed),
     ),
     (
         0,
         false,
         Ask::Credit(0, None),
-        Said::Refused(AccountFault::GateClosed),
+        Want::Fault(AccountFault::GateClosed),
     ),
     (
         0,
         false,
         Ask::Settle(1, 600),
-        Said::Refused(AccountFault::GateClosed),
+        Want::Fault(AccountFault::GateClosed),
     ),
     (
         0,
         false,
         Ask::Return(1),
-        Said::Refused(AccountFault::GateClosed),
+        Want::Fault(AccountFault::GateClosed),
     ),
-    (
-        1,
-        true,
-        Ask::Return(1),
-        Said::Refused(AccountFault::NotOpen),
-    ),
+    (1, true, Ask::Return(1), Want::Fault(AccountFault::NotOpen)),
     (
         1,
         true,
         Ask::Credit(0, None),
-        Said::Refused(AccountFault::OutOfRange),
+        Want::Fault(AccountFault::OutOfRange),
     ),
-    (1, true, Ask::Credit(1, None), Said::Credited(101)),
-    (1, true, Ask::Credit(MAX_MONEY, None), Said::Over(101)),
-    (0, true, Ask::Credit(1, None), Said::Credited(102)),
+    (1, true, Ask::Credit(1, None), Want::Credited(101)),
+    (1, true, Ask::Credit(MAX_MONEY, None), Want::CreditOver(101)),
+    (0, true, Ask::Credit(1, None), Want::Credited(102)),
 ];
 
 const FILLED: [Row; 12] = [
-    (0, true, Ask::Reserve(1, 0), Said::Granted(600, false, 450)),
+    (0, true, Ask::Reserve(1, 0), Want::Granted(600, false, 450)),
     (
         1,
         true,
         Ask::Settle(2, 300),
-        Said::Refused(AccountFault::NotOpen),
+        Want::Fault(AccountFault::NotOpen),
     ),
     (
         1,
         true,
         Ask::Reserve(2, 0),
-        Said::Refused(AccountFault::HistoryFull),
+        Want::Fault(AccountFault::HistoryFull),
     ),
-    (1, true, Ask::Credit(1, None), Said::Credited(451)),
-    (0, true, Ask::Settle(1, 300), Said::Settled(550, 451)),
-    (1, true, Ask::Credit(1, None), Said::Credited(452)),
+    (1, true, Ask::Credit(1, None), Want::Credited(451)),
+    (0, true, Ask::Settle(1, 300), Want::Settled(550, 451)),
+    (1, true, Ask::Credit(1, None), Want::Credited(452)),
     (
         1,
         true,
         Ask::Credit(1, None),
-        Said::Refused(AccountFault::HistoryFull),
+        Want::Fault(AccountFault::HistoryFull),
     ),
-    (1, true, Ask::Return(1), Said::Returned(550, 952)),
+    (1, true, Ask::Return(1), Want::Returned(550, 952)),
     (
         0,
         true,
         Ask::Reserve(1, 0),
-        Said::Refused(AccountFault::CallUsed),
+        Want::Fault(AccountFault::CallUsed),
     ),
-    (
-        0,
-        true,
-        Ask::Return(1),
-        Said::Refused(AccountFault::NotOpen),
-    ),
+    (0, true, Ask::Return(1), Want::Fault(AccountFault::NotOpen)),
     (
         0,
         true,
         Ask::Credit(0, None),
-        Said::Refused(AccountFault::OutOfRange),
+        Want::Fault(AccountFault::OutOfRange),
     ),
     (
         0,
         true,
         Ask::Reserve(3, 0),
-        Said::Refused(AccountFault::HistoryFull),
+        Want::Fault(AccountFault::HistoryFull),
     ),
 ];
 
@@ -119,13 +110,13 @@ const EXPIRED: [Row; 6] = [
         0,
         true,
         Ask::Reserve(1, 1000),
-        Said::Granted(600, false, 450),
+        Want::Granted(600, false, 450),
     ),
-    (1, true, Ask::Reserve(2, 1001), Said::Denied(450)),
-    (0, true, Ask::Settle(1, 300), Said::Settled(550, 450)),
-    (1, true, Ask::Credit(1, Some(2000)), Said::Credited(451)),
-    (1, true, Ask::Reserve(2, 1001), Said::Granted(240, true, 1)),
-    (0, true, Ask::Return(1), Said::Returned(550, 501)),
+    (1, true, Ask::Reserve(2, 1001), Want::Denied(450)),
+    (0, true, Ask::Settle(1, 300), Want::Settled(550, 450)),
+    (1, true, Ask::Credit(1, Some(2000)), Want::Credited(451)),
+    (1, true, Ask::Reserve(2, 1001), Want::Granted(240, true, 1)),
+    (0, true, Ask::Return(1), Want::Returned(550, 501)),
 ];
 
 /// An opening, a last moment and a limit; what is asked, how many entries each seat makes, the

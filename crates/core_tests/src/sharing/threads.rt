@@ -2,7 +2,8 @@
 
 ghost use Rattle.std.specs.Prelude.{◌≡◌};
 
-use super::forms::{Answer, Ask, Said, answer_of, close, op_of, two_seats};
+use super::forms::{Ask, close, op_of, two_seats};
+use crate::answers::{Answer, Want, answer_of};
 use crate::looking::gives;
 use account_core::{AccountFault, Op};
 use locked_account::SharedAccount;
@@ -164,8 +165,8 @@ fn grants_what_there_is<S: Shared, R: Abort + Threads + Wait + Sync>(
         (op_of(Ask::Reserve(2, 0)), None),
     );
     let ((one, _), (other, _), entries) = ask_one_account::<S, R, _>(rt, alloc, ops, &OpenGate)?;
-    let whole = answer_of(Said::Granted(600, false, 450));
-    let rest = answer_of(Said::Granted(240, true, 0));
+    let whole = answer_of(Want::Granted(600, false, 450));
+    let rest = answer_of(Want::Granted(240, true, 0));
     assert!(rt; (one == whole && other == rest) || (one == rest && other == whole));
     gives(rt, &"what there is", &entries, &2);
     Ok(())
@@ -185,10 +186,10 @@ fn grants_more_later<S: Shared, R: Abort + Threads + Wait + Sync>(
     );
     let gate = Holds::new(2, 0, 1);
     let (one, other, entries) = ask_one_account::<S, R, _>(rt, alloc, ops, &gate)?;
-    let granted = answer_of(Said::Granted(600, false, 450));
-    let credited = answer_of(Said::Credited(1050));
+    let granted = answer_of(Want::Granted(600, false, 450));
+    let credited = answer_of(Want::Credited(1050));
     gives(rt, &"more later", &one, &(granted, Some(credited)));
-    let granted_more = answer_of(Said::Granted(600, false, 0));
+    let granted_more = answer_of(Want::Granted(600, false, 0));
     gives(rt, &"more later", &other, &(granted_more, None));
     gives(rt, &"more later", &entries, &3);
     Ok(())
@@ -213,7 +214,7 @@ fn holds_one_alone<S: Shared, R: Abort + Threads + Wait + Sync>(
         ops,
         &gate,
     );
-    let granted = (answer_of(Said::Granted(600, false, 450)), None);
+    let granted = (answer_of(Want::Granted(600, false, 450)), None);
     gives(rt, &"one alone", &one, &granted);
     gives(rt, &"one alone", &other, &granted);
     Ok(())

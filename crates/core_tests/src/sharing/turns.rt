@@ -2,7 +2,8 @@
 
 ghost use Rattle.std.specs.Prelude.{◌≡◌};
 
-use super::forms::{Ask, Said, close, entries_of_each, op_of, says, two_seats};
+use super::forms::{Ask, close, entries_of_each, op_of, says, two_seats};
+use crate::answers::Want;
 use crate::looking::gives;
 use shared_account::{Book, Gate, OpenGate};
 use std::alloc::Global;
@@ -18,17 +19,17 @@ fn book_of_met<R: Abort + Wait>(rt: &R, alloc: Global, more: bool) -> Result<Boo
     let (account, mut first, mut second) = two_seats::<TurnAccount, R>(rt, alloc, 1, 0, None)?;
     let op = op_of(Ask::Credit(600, None));
     let answer = account.call(rt, &mut first, op, &OpenGate);
-    says(rt, op, answer, Said::Credited(600));
+    says(rt, op, answer, Want::Credited(600));
     gives(rt, &"seats", &(first.number(), second.number()), &(0, 1));
     account.meet(&mut first, &mut second);
     let op = op_of(Ask::Reserve(1, 0));
     let answer = account.call(rt, &mut second, op, &OpenGate);
-    says(rt, op, answer, Said::Granted(330, true, 0));
+    says(rt, op, answer, Want::Granted(330, true, 0));
     if more {
         account.meet(&mut second, &mut first);
         let op = op_of(Ask::Credit(1, None));
         let answer = account.call(rt, &mut first, op, &OpenGate);
-        says(rt, op, answer, Said::Credited(1));
+        says(rt, op, answer, Want::Credited(1));
     }
     Ok(close(alloc, account, first, second)??)
 }

@@ -2,12 +2,12 @@
 
 ghost use Rattle.std.specs.Prelude.{◌≡◌, true, IsSome};
 
-use super::plans::{
+use super::reports::times;
+use crate::looking::gives;
+use crate::plans::{
     BY_SIX_SECONDS, BY_THE_MINUTE, CHEAPER, DEARER, DEAREST, DEAREST_IN_STEPS, FREE, FREE_DEARER,
     SINGLE,
 };
-use super::reports::times;
-use crate::looking::gives;
 use price_core::{
     DAY, Plan, Times, afford, afforded_is_greatest, ceiling, ceiling_is_greatest,
     lawful_times_follow, price,

@@ -2,8 +2,8 @@
 
 ghost use Rattle.std.specs.Prelude.{◌≡◌};
 
-use super::plans::{CHEAPER, SINGLE};
 use crate::looking::gives;
+use crate::plans::{CHEAPER, SINGLE};
 use price_core::{DAY, Plan, TimeInfo, Times, debit, lawful, price, read_times};
 use std::process::Abort;
 

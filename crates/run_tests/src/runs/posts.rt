@@ -3,9 +3,9 @@
 use super::meeting::{Meeting, Of};
 use super::messages::{Round, Say, Sends, bodies_of, last_of};
 use super::rounds::{Heard, Rounds};
-use super::setups::set_up;
 use super::shutting::Holding;
 use crate::looking::gives;
+use crate::setups::{ONE, set_up};
 use account_core::{AccountFault, Entry, Reply};
 use cap_values::Number;
 use locked_account::SharedAccount;
@@ -20,8 +20,6 @@ use std::thread::Threads;
 use turn_account::TurnAccount;
 
 const TABLE: &[u8] = b"prefix,from,fee,rate\n49,00:00,50,1000\n49,00:01,0,400\n";
-
-pub(crate) const ONE: &str = "491700001";
 
 const TWO: &str = "491700002";
 

@@ -2,9 +2,10 @@
 //! refused.
 
 use super::messages::{Round, Say};
-use super::posts::{ONE, play, stage};
+use super::posts::{play, stage};
 use super::rounds::{Heard, Rounds};
 use crate::looking::gives;
+use crate::setups::ONE;
 use account_core::{AccountFault, MIN_LIMIT};
 use arrayvec::ArrayVec;
 use call_records::{call_table, records};

@@ -1,8 +1,8 @@
 //! Readers that fail: the tables of a setup and of a script keep that fault, unless a row in front
 //! of it has one. Each fault of their rows is tried in tests/program.
 
-use super::setups::list;
 use crate::looking::gives;
+use crate::setups::list;
 use run_texts::{read_script, read_setup};
 use run_values::Directory;
 use std::alloc::Global;
