@@ -21,7 +21,7 @@ use Rattle.run_texts.specs.declared.input_fault.InputFault.TheVariants as input
 use Rattle.run_trace.specs.Tables.{trace_header}
 use Rattle.run_values.specs.Setups.{Setup}
 use Rattle.run_values.specs.declared.post.Body.{Body}
-use Rattle.runs_core.specs.declared.run_fault.RunFault.TheVariants as run
+use Rattle.run_values.specs.declared.run_fault.RunFault.TheVariants as run
 use Rattle.shared_account.specs.Closed.{Closed}
 use Rattle.answer_command.specs.Ends.{IsCutAt, IsCutEnd, IsEndOf, is_cut_off}
 use Rattle.answer_command.specs.Heads.{IsOfHead, IsOfLog, IsOfRun, RefusesService}

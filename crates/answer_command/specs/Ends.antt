@@ -11,7 +11,7 @@ use Rattle.rating.specs.Fronts.{AppendsFront}
 use Rattle.run_options.specs.declared.live.LiveOutput.{LiveOutput}
 use Rattle.run_options.specs.declared.live.LiveOutput.TheVariants as output
 use Rattle.tariff_core.specs.Bands.{have_steps}
-use Rattle.runs_core.specs.declared.run_fault.RunFault.TheVariants as run
+use Rattle.run_values.specs.declared.run_fault.RunFault.TheVariants as run
 use Rattle.answer_command.specs.declared.error.ServeError.{ServeError}
 use Rattle.answer_command.specs.declared.error.ServeError.TheVariants as error
 

@@ -1,14 +1,15 @@
 //! Why an input isn't served to its end.
 
 ghost use Rattle.std.specs.Prelude.{◌≡◌};
-ghost use Rattle.runs_core.specs.declared.run_fault.RunFault.TheVariants as fault;
+ghost use Rattle.run_values.specs.declared.run_fault.RunFault.TheVariants as fault;
 ghost use Rattle.answer_command.specs.Heads.{of_replay};
 ghost use Rattle.answer_command.specs.declared.error.ServeError.TheVariants as out;
 
-use live_answers::{LineKind, LiveFault, ReplayFault};
+use live_answers::{LiveFault, ReplayFault};
 use live_log::LogFault;
+use message_rows::LineKind;
 use run_texts::InputFault;
-use runs_core::RunFault;
+use run_values::RunFault;
 use std::alloc::AllocError;
 
 /// Why an input isn't served to its end.

@@ -9,7 +9,7 @@ use Rattle.live_answers.specs.Live.{Heard, heard_after, last_after, next_after}
 use Rattle.live_answers.specs.Standing.{LineView, said_after}
 use Rattle.live_answers.specs.declared.fault.Stop.{Stop}
 use Rattle.live_answers.specs.declared.fault.Stop.TheVariants as stop
-use Rattle.live_answers.specs.declared.kind.LineKind.{LineKind}
+use Rattle.message_rows.specs.declared.kind.LineKind.{LineKind}
 
 pub stopped : (heard : List Heard) (why : Stop) → IsChecked heard (Err (replay_fault_of why))
 stopped heard (stop.Failed why) = tt

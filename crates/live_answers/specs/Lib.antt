@@ -1,7 +1,6 @@
 pub mod Checks
 pub mod Cuts
 pub mod Groups
-pub mod Kinds
 pub mod Laws
 pub mod Lines
 pub mod Live

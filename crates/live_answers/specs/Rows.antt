@@ -1,9 +1,9 @@
 -- The rows that a live run prints of a line, and what it logs of it.
 use Rattle.std.specs.Prelude.{◌+◌, ℕ, Option, Some, None, List, [], ◌++◌, Ok, Err, codes, min, if◌then◌else◌, nat_lt}
 use Rattle.std.specs.Fmt.{decimal}
-use Rattle.live_answers.specs.Kinds.{line_kind_name}
+use Rattle.message_rows.specs.Kinds.{line_kind_name}
 use Rattle.live_answers.specs.Standing.{LineView}
-use Rattle.live_answers.specs.declared.kind.LineKind.{LineKind}
+use Rattle.message_rows.specs.declared.kind.LineKind.{LineKind}
 use Rattle.live_answers.specs.declared.replay.Replay.{Replay}
 use Rattle.message_rows.specs.Messages.{MessageView}
 use Rattle.moment_texts.specs.declared.clock.Clock.TheVariants as clock

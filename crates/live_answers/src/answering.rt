@@ -5,8 +5,8 @@ ghost use Rattle.live_answers.specs.Runs.{IsLiveRunTo, MayEndLive};
 
 use crate::driver::LiveDriver;
 use crate::{LiveFault, Replay};
-use run_values::{Body, RunSetup};
-use runs_core::{RunFault, serve};
+use run_values::{Body, RunFault, RunSetup};
+use runs_core::serve;
 use shared_account::{Book, OpenGate};
 use std::alloc::Global;
 use std::io::{BufRead, Write};

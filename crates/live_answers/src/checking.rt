@@ -7,10 +7,10 @@ ghost use Rattle.live_answers.specs.Live.{heard_in};
 ghost use Rattle.live_answers.specs.Said.{line_view_of};
 ghost use Rattle.live_answers.specs.declared.checking.ReplayFault.TheVariants as faults;
 
-use crate::LineKind;
 use crate::fault::Stop;
 use crate::judging::{Said, judge};
 use crate::line::take_line;
+use message_rows::LineKind;
 use std::alloc::{AllocError, Global};
 use table_core::RowKind;
 

@@ -5,12 +5,12 @@ ghost use Rattle.std.specs.Result.{result_map_both};
 ghost use Rattle.live_answers.specs.Live.{next_after};
 ghost use Rattle.live_answers.specs.Said.{IsInRange, line_view_of};
 ghost use Rattle.live_answers.specs.Standing.{in_time, last_item_moment, placed, said_after};
-ghost use Rattle.live_answers.specs.declared.kind.LineKind.TheVariants as kinds;
+ghost use Rattle.message_rows.specs.declared.kind.LineKind.TheVariants as kinds;
 ghost use Rattle.message_rows.specs.Views.{view_of};
 ghost use Rattle.table_core.specs.Judging.{and_then};
 
-use crate::{LineKind, MAX_LINE};
-use message_rows::{Message, read_line};
+use crate::MAX_LINE;
+use message_rows::{LineKind, Message, read_line};
 use price_core::HORIZON;
 use run_values::Body;
 use std::alloc::{AllocError, Global};

@@ -11,7 +11,7 @@ use Rattle.entry_rows.specs.Column.{counted_interval}
 use Rattle.entry_rows.specs.Columns.{number_or_empty}
 use Rattle.live_answers.specs.Live.{Heard, given_by, given_of, heard_after, last_after, next_after}
 use Rattle.live_answers.specs.Standing.{LineView, in_time, numbered_message, placed, said_after, standing}
-use Rattle.live_answers.specs.declared.kind.LineKind.TheVariants as kind
+use Rattle.message_rows.specs.declared.kind.LineKind.TheVariants as kind
 use Rattle.live_recovery.proofs.Decimals.{IsShort, is_short}
 use Rattle.message_rows.specs.Lines.{line_message, message_of, nine}
 use Rattle.message_rows.specs.Messages.{MessageView, Speech, message_call_in, charging_report_in, ended_message_in, event_message_in, event_report_in, initial_in, interval_in, leg_in, message_in, mode_in, report_without_switch, of_switch, recharge_message_in, report_state_in, report_with_switch, switched_in, message_when_blank}

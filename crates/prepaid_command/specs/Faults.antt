@@ -8,7 +8,7 @@ use Rattle.live_log.specs.declared.fault.LogFault.{LogFault}
 use Rattle.live_log.specs.declared.fault.LogFault.TheVariants as log
 use Rattle.run_command.specs.declared.error.RunError.{RunError}
 use Rattle.run_command.specs.declared.error.RunError.TheVariants as error
-use Rattle.runs_core.specs.declared.run_fault.RunFault.TheVariants as run
+use Rattle.run_values.specs.declared.run_fault.RunFault.TheVariants as run
 use Rattle.table_commands.specs.Faults.{no_header, of_run_input}
 use Rattle.table_commands.specs.Input.{is_out_of_memory}
 use Rattle.table_commands.specs.declared.fault.Fault.{Fault}

@@ -8,7 +8,7 @@ use answer_command::ServeError;
 use live_answers::LiveFault;
 use live_log::LogFault;
 use run_command::RunError;
-use runs_core::RunFault;
+use run_values::RunFault;
 use std::io::{Error, ErrorKind};
 use table_commands::{Fault, TableName};
 

@@ -3,8 +3,7 @@
 use account_core::AccountFault;
 use cap_values::ValueFault;
 use one_call::DriveFault;
-use run_values::SetupFault;
-use runs_core::RunFault;
+use run_values::{RunFault, SetupFault};
 use shared_account::CloseFault;
 use std::alloc::{AllocError, AllocFailed};
 use std::io;

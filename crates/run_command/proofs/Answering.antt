@@ -20,7 +20,7 @@ use Rattle.run_options.specs.declared.options.PartsAsk.{PartsAsk}
 use Rattle.run_options.specs.declared.options.RunAsk.{RunAsk}
 use Rattle.run_texts.specs.declared.script.ScriptRow.{ScriptRow}
 use Rattle.run_values.specs.Setups.{Setup}
-use Rattle.runs_core.specs.declared.run_fault.RunFault.TheVariants as run
+use Rattle.run_values.specs.declared.run_fault.RunFault.TheVariants as run
 use Rattle.std.specs.Prelude.{string_bytes}
 
 module _ (ask : RunAsk) (input : List ℕ) (setup : Setup) (rows : List ScriptRow) (start : IsStartOf ask input setup rows) where

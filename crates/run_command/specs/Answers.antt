@@ -24,8 +24,8 @@ use Rattle.run_command.specs.declared.error.RunError.TheVariants as error
 use Rattle.run_trace.specs.Tables.{trace_text}
 use Rattle.runs_core.specs.Hearing.{all_heard}
 use Rattle.runs_core.specs.Teams.{are_workers}
-use Rattle.runs_core.specs.declared.run_fault.RunFault.{RunFault}
-use Rattle.runs_core.specs.declared.run_fault.RunFault.TheVariants as run
+use Rattle.run_values.specs.declared.run_fault.RunFault.{RunFault}
+use Rattle.run_values.specs.declared.run_fault.RunFault.TheVariants as run
 use Rattle.shared_account.specs.Closed.{Closed}
 use Rattle.tariff_core.specs.Bands.{have_steps}
 use Rattle.run_values.specs.declared.post.Answer.{Answer}

@@ -10,7 +10,7 @@ use Rattle.run_texts.specs.Inputs.{RunInput, input_of}
 use Rattle.run_texts.specs.Views.{row_data}
 use Rattle.run_texts.specs.declared.script.ScriptRow.{ScriptRow}
 use Rattle.run_values.specs.Setups.{Setup}
-use Rattle.runs_core.specs.declared.run_fault.RunFault.TheVariants as run
+use Rattle.run_values.specs.declared.run_fault.RunFault.TheVariants as run
 
 -- the setup and the rows are those that the input says, which is in range
 pub record IsStartOf (ask : RunAsk) (input : List ℕ) (setup : Setup) (rows : List ScriptRow) : Type 0 where

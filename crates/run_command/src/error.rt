@@ -1,11 +1,11 @@
 //! Why a run has no text.
 
 ghost use Rattle.std.specs.Prelude.{◌≡◌};
-ghost use Rattle.runs_core.specs.declared.run_fault.RunFault.TheVariants as fault;
+ghost use Rattle.run_values.specs.declared.run_fault.RunFault.TheVariants as fault;
 ghost use Rattle.run_command.specs.declared.error.RunError.TheVariants as out;
 
 use run_texts::InputFault;
-use runs_core::RunFault;
+use run_values::RunFault;
 use std::alloc::{AllocError, AllocFailed};
 
 /// Why a run has no text: the first fault of its input, or what ended the run.

@@ -8,7 +8,7 @@ ghost use Rattle.run_command.specs.declared.error.RunError.TheVariants as error;
 ghost use Rattle.run_command.specs.declared.jobs.Job.{Job};
 ghost use Rattle.run_options.specs.Options.{ask_of};
 ghost use Rattle.run_texts.specs.Views.{rows_are_in_order};
-ghost use Rattle.runs_core.specs.declared.run_fault.RunFault.TheVariants as run;
+ghost use Rattle.run_values.specs.declared.run_fault.RunFault.TheVariants as run;
 
 use crate::RunError;
 use crate::parts::{Part, play_part};
@@ -17,8 +17,7 @@ use price_core::MAX_MOMENT;
 use run_options::RunOptions;
 use run_parts::Firsts;
 use run_texts::ScriptRow;
-use run_values::RunSetup;
-use runs_core::RunFault;
+use run_values::{RunFault, RunSetup};
 use std::alloc::{AllocError, Global};
 use std::sync::Wait;
 use std::thread::Threads;

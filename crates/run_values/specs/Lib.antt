@@ -1,3 +1,4 @@
 pub mod Openings
+pub mod RunFaults
 pub mod SetupFaults
 pub mod Setups

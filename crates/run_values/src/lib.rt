@@ -1,11 +1,12 @@
-//! The values of a run: what it is set up with, what its workers are sent, and what they answer;
-//! and what drives it.
+//! The values of a run: what it is set up with, what its workers are sent, what they answer, and
+//! what can end it; and what drives it.
 #![tactic(auto)]
 
 mod directory;
 mod driver;
 mod laws;
 mod post;
+mod run_fault;
 mod setup;
 mod setup_fault;
 
@@ -13,5 +14,6 @@ pub use directory::{Directory, OpeningCredit};
 pub use driver::Driver;
 pub use laws::limits_in_numbers;
 pub use post::{Answer, Body, Post};
+pub use run_fault::RunFault;
 pub use setup::{MAX_ACCOUNTS, MAX_SUBSCRIBERS, RunSetup};
 pub use setup_fault::SetupFault;

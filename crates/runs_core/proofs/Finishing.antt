@@ -17,8 +17,8 @@ use Rattle.runs_core.specs.Sending.{AreLeftBy, ArePromised, IsFirstFault, IsLeft
 use Rattle.runs_core.specs.Teams.{IsLeft, terms_of, terms_with}
 use Rattle.runs_core.specs.declared.worker_link.WorkerLink.{WorkerLink}
 use Rattle.runs_core.specs.declared.worker_link.WorkerPromise.{WorkerPromise}
-use Rattle.runs_core.specs.declared.run_fault.RunFault.{RunFault}
-use Rattle.runs_core.specs.declared.run_fault.RunFault.TheVariants as out
+use Rattle.run_values.specs.declared.run_fault.RunFault.{RunFault}
+use Rattle.run_values.specs.declared.run_fault.RunFault.TheVariants as out
 
 pub promised_more : {S G T : Type 0} (setup : Setup) (accounts : List S) (gate : G) (number : ℕ) (promises : List (WorkerPromise S G T)) (promise : WorkerPromise S G T)
     → ArePromised setup accounts gate number promises → IsPromised setup accounts gate (number + length promises) promise → ArePromised setup accounts gate number (promises ++ promise ∷ [])

@@ -2,7 +2,7 @@
 use Rattle.std.proofs.Common.{◌≡◌, ◌≢◌, Option, Some, None, refl, rules}
 use Rattle.std.specs.Prelude.{Err, IfSome, Ok, Result}
 use Rattle.runs_core.specs.RunFaults.{MayAskGate, ended_by}
-use Rattle.runs_core.specs.declared.run_fault.RunFault.{RunFault}
+use Rattle.run_values.specs.declared.run_fault.RunFault.{RunFault}
 
 pub gate_of : {X Y : Type 0} (may_shut : Type 0) (failed : Option RunFault) (finished : Result X RunFault) (ran : Result Y RunFault)
     → MayAskGate may_shut finished → MayAskGate may_shut ran → IfSome failed (λ why. ran ≡ Err why) → MayAskGate may_shut (ended_by failed finished ran)

@@ -14,7 +14,7 @@ use Rattle.runs_core.proofs.HandOuts.{agrees, differs, numbered-append}
 use Rattle.runs_core.specs.Crews.{joined_lists}
 use Rattle.runs_core.specs.Hearing.{AnswersEach, AreAnswers, HearsMore, HearsRounds, all_heard, answers_to}
 use Rattle.runs_core.specs.Shares.{Item, numbered, worker_of}
-use Rattle.runs_core.specs.declared.run_fault.RunFault.{RunFault}
+use Rattle.run_values.specs.declared.run_fault.RunFault.{RunFault}
 
 -- ---- answers after answers
 

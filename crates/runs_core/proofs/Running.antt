@@ -20,7 +20,7 @@ use Rattle.runs_core.specs.Closing.{IsInBooks, StoodAt, lists_of, refuses_in, te
 use Rattle.runs_core.specs.Hearing.{HasLeft}
 use Rattle.runs_core.specs.Runs.{HasRun}
 use Rattle.runs_core.specs.Teams.{IsLeft, terms_of}
-use Rattle.runs_core.specs.declared.run_fault.RunFault.{RunFault}
+use Rattle.run_values.specs.declared.run_fault.RunFault.{RunFault}
 
 -- what a worker has left, as the books show it
 shown_by : {K T : Type 0} (read : Reads K T) (Was : T → Knowing) (Stood : Closed → ℕ → Knowing) (keys : List K) (setup : Setup) (worker : ℕ) (posts : List Post) (answers : List AnswerView) (team : List T) (books : List Closed)

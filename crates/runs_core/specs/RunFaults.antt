@@ -1,23 +1,7 @@
--- The names of what can end a run.
-use Rattle.std.specs.Prelude.{◌≡◌, ◌≢◌, ℕ, List, Option, Some, None, Result, Ok, Err, codes}
-use Rattle.runs_core.specs.declared.run_fault.RunFault.{RunFault}
-use Rattle.runs_core.specs.declared.run_fault.RunFault.TheVariants as fault
-use Rattle.workers_core.specs.declared.worker_fault.WorkerFault.{WorkerFault}
-use Rattle.workers_core.specs.declared.worker_fault.WorkerFault.TheVariants as worker
-
--- the fault of a worker that ends a run
-abbrev pub run_fault_of : WorkerFault → RunFault
-run_fault_of worker.OutOfMemory = fault.OutOfMemory
-run_fault_of worker.GateClosed = fault.GateClosed
-
--- the name of a fault
-abbrev pub run_fault_name : RunFault → List ℕ
-run_fault_name fault.OutOfMemory = codes "OutOfMemory"
-run_fault_name fault.Workers = codes "Workers"
-run_fault_name fault.GateClosed = codes "GateClosed"
-run_fault_name fault.Mismatch = codes "Mismatch"
-run_fault_name fault.Channel = codes "Channel"
-run_fault_name fault.Thread = codes "Thread"
+-- How a step of a run may fail, and how a run ends.
+use Rattle.std.specs.Prelude.{◌≡◌, ◌≢◌, Option, Some, None, Result, Ok, Err}
+use Rattle.run_values.specs.declared.run_fault.RunFault.{RunFault}
+use Rattle.run_values.specs.declared.run_fault.RunFault.TheVariants as fault
 
 -- a step that asks no gate: it fails neither by a gate nor for the number of workers
 abbrev pub AsksNoGate : {X : Type 0} → Result X RunFault → Type 0

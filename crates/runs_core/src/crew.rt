@@ -10,9 +10,8 @@ ghost use Rattle.workers_core.specs.Handled.{answer_view};
 ghost use Rattle.workers_core.specs.Workers.{IsReady, number_by};
 ghost use Rattle.run_values.specs.declared.post.Answer.{Answer};
 
-use crate::RunFault;
 use crate::worker_link::WorkerLink;
-use run_values::{Answer, Post};
+use run_values::{Answer, Post, RunFault};
 use shared_account::{Gate, Shared};
 use std::alloc::Global;
 use std::sync::Wait;

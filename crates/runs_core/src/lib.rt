@@ -6,7 +6,6 @@ mod crew;
 mod laws;
 mod opened;
 mod rounds;
-mod run_fault;
 mod serving;
 mod shares;
 mod threads;
@@ -17,6 +16,5 @@ pub use laws::{
     run_calls_are_of_one_worker, run_entries_are_served, run_lists_are_worked,
     run_owed_is_never_refused,
 };
-pub use run_fault::RunFault;
 pub use serving::{serve, serve_over};
 pub use shares::{handled, refusals};

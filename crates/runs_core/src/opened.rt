@@ -4,9 +4,8 @@ ghost use Rattle.std.specs.Prelude.{◌≡◌, ◌≤◌, [], length, map, IfOk,
 ghost use Rattle.runs_core.specs.Teams.{AreFresh, IsNew, terms_of};
 ghost use Rattle.runs_core.specs.LaidOut.{laid_out};
 
-use crate::RunFault;
 use price_core::MAX_MONEY;
-use run_values::{OpeningCredit, RunSetup};
+use run_values::{OpeningCredit, RunFault, RunSetup};
 use shared_account::Shared;
 use std::alloc::{AllocError, AllocFailed, Global};
 

@@ -11,11 +11,10 @@ ghost use Rattle.runs_core.specs.Shares.{AreShares, item_at, item_of, worker_of}
 ghost use Rattle.workers_core.specs.Workers.{IsReady, accounts_of, number_by, setup_of};
 ghost use Rattle.run_values.specs.declared.post.Body.{Body};
 
-use crate::RunFault;
 use crate::crew::{Crew, Replies};
 use crate::shares::{share_out, worker_of};
 use price_core::HORIZON;
-use run_values::{Answer, Body, Driver};
+use run_values::{Answer, Body, Driver, RunFault};
 use shared_account::{Gate, Shared};
 use std::alloc::Global;
 use std::collections::VecDeque;

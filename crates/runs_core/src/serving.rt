@@ -18,11 +18,11 @@ ghost use Rattle.turn_account.specs.Seen.{StoodIn};
 ghost use Rattle.workers_core.specs.Workers.{number_by};
 
 use crate::crew::Crew;
+use crate::laws;
 use crate::opened::{Opened, deal, empty_piles, open_accounts};
 use crate::rounds::play;
 use crate::threads::{finish_all, start_all};
-use crate::{RunFault, laws};
-use run_values::{Driver, RunSetup};
+use run_values::{Driver, RunFault, RunSetup};
 use shared_account::{Book, CloseFault, Gate, Shared};
 use std::alloc::Global;
 use std::sync::Wait;

@@ -8,9 +8,8 @@ ghost use Rattle.runs_core.specs.Sending.{AreLeftBy, ArePromised, IsFirstFault, 
 ghost use Rattle.runs_core.specs.Teams.{AreFresh};
 ghost use Rattle.workers_core.specs.Workers.{number_by};
 
-use crate::RunFault;
 use crate::worker_link::{WorkerLink, start};
-use run_values::RunSetup;
+use run_values::{RunFault, RunSetup};
 use shared_account::{Gate, Shared};
 use std::alloc::Global;
 use std::sync::Wait;

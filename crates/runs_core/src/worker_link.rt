@@ -13,9 +13,8 @@ ghost use Rattle.workers_core.specs.Workers.{IsReady, number_by};
 ghost use Rattle.run_values.specs.declared.post.Answer.{Answer};
 ghost use Rattle.workers_core.specs.declared.mailboxes.Mail.TheVariants as mail;
 
-use crate::RunFault;
 use crate::crew::answer_all;
-use run_values::{Answer, Post, RunSetup};
+use run_values::{Answer, Post, RunFault, RunSetup};
 use shared_account::{Gate, Shared};
 use std::alloc::{AllocError, Global};
 use std::snapshot::Snapshot;
@@ -384,7 +383,7 @@ impl<'s, S: Shared, G: Gate> Promise<Result<Finished<S>, RunFault>> for WorkerPr
     ghost use Rattle.std.specs.Prelude.{◌≡◌, ◌≢◌, true, map, IfOk, Err};
     ghost use Rattle.runs_core.specs.Teams.{IsLeft};
     ghost use Rattle.runs_core.specs.Mails.{items_in};
-    ghost use Rattle.runs_core.specs.declared.run_fault.RunFault.TheVariants as out;
+    ghost use Rattle.run_values.specs.declared.run_fault.RunFault.TheVariants as out;
     ghost use Rattle.workers_core.specs.Ends.{IsSameInbox, IsSameOutbox, sent, taken};
     ghost use Rattle.workers_core.specs.Handled.{answer_view};
     ghost use Rattle.workers_core.specs.Logs.{has_close};

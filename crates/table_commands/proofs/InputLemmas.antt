@@ -4,7 +4,7 @@ use Rattle.std.specs.Prelude.{IfSome, Result, Ok, Err, option_map, if◌then◌e
 use Rattle.std.specs.declared.io.ErrorKind.{ErrorKind}
 use Rattle.std.proofs.lemmas.Bool.Decides.{nat_tests}
 use Rattle.std.proofs.lemmas.List.{take_all}
-use Rattle.runs_core.specs.declared.run_fault.RunFault.TheVariants as run
+use Rattle.run_values.specs.declared.run_fault.RunFault.TheVariants as run
 use Rattle.table_commands.specs.Faults.{FaultMayAlwaysCome, RefusesCommand}
 use Rattle.table_commands.specs.Input.{failed_input, is_out_of_memory, sized}
 use Rattle.table_commands.specs.declared.fault.Fault.{Fault}

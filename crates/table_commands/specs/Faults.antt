@@ -3,14 +3,14 @@ use Rattle.std.specs.Prelude.{◌≡◌, ℕ, List, ◌++◌, Option, Some, None
 use Rattle.std.specs.Fmt.{decimal}
 use Rattle.command_words.specs.declared.fault.WordsFault.{WordsFault}
 use Rattle.command_words.specs.declared.fault.WordsFault.TheVariants as words
-use Rattle.live_answers.specs.Kinds.{line_kind_name as name_of_line}
+use Rattle.message_rows.specs.Kinds.{line_kind_name as name_of_line}
 use Rattle.live_log.specs.Faults.{log_fault_name as name_of_log}
 use Rattle.run_texts.specs.declared.input_fault.InputFault.{InputFault}
 use Rattle.run_texts.specs.declared.input_fault.InputFault.TheVariants as input
 use Rattle.rating.specs.declared.fault.RateFault.{RateFault}
 use Rattle.rating.specs.declared.fault.RateFault.TheVariants as rate
-use Rattle.runs_core.specs.RunFaults.{run_fault_name}
-use Rattle.runs_core.specs.declared.run_fault.RunFault.TheVariants as run
+use Rattle.run_values.specs.RunFaults.{run_fault_name}
+use Rattle.run_values.specs.declared.run_fault.RunFault.TheVariants as run
 use Rattle.table_core.specs.Faults.{row_fault_text}
 use Rattle.table_core.specs.declared.fault.RowFault.{RowFault}
 use Rattle.table_core.specs.declared.fault.RowKind.TheVariants as kind

@@ -7,7 +7,7 @@ use Rattle.rating.specs.Fronts.{AppendsFront}
 use Rattle.rating.specs.Texts.{rate_input_of}
 use Rattle.rating.specs.declared.fault.RateFault.{RateFault}
 use Rattle.rating.specs.declared.score.Score.{Score}
-use Rattle.runs_core.specs.declared.run_fault.RunFault.TheVariants as run
+use Rattle.run_values.specs.declared.run_fault.RunFault.TheVariants as run
 use Rattle.table_commands.specs.Faults.{line_of_fault, of_rate}
 use Rattle.table_commands.specs.Outputs.{IsSaidOfOutput}
 use Rattle.table_commands.specs.Summaries.{status_of_rating, summary_of}

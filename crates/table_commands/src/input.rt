@@ -6,7 +6,7 @@ ghost use Rattle.table_commands.specs.Faults.{GivesAnswer};
 ghost use Rattle.table_commands.specs.Input.{failed_input, sized};
 
 use crate::Fault;
-use runs_core::RunFault;
+use run_values::RunFault;
 use std::alloc::Global;
 use std::io::{Error, ErrorKind, Read};
 

@@ -1,9 +1,10 @@
 //! Why a worker gives up.
 
 ghost use Rattle.std.specs.Prelude.{◌≡◌, Some};
-ghost use Rattle.workers_core.specs.WorkerFaults.{worker_fault_name};
+ghost use Rattle.workers_core.specs.WorkerFaults.{run_fault_of, worker_fault_name};
 ghost use Rattle.workers_core.specs.declared.worker_fault.WorkerFault.TheVariants as out;
 
+use run_values::RunFault;
 use std::alloc::{AllocError, AllocFailed};
 use std::error::Error;
 use std::fmt;
@@ -43,5 +44,16 @@ impl<T: Drop> From<AllocFailed<T>> for WorkerFault {
 
     fn from(_error: AllocFailed<T>) -> WorkerFault {
         WorkerFault::OutOfMemory
+    }
+}
+
+impl From<WorkerFault> for RunFault {
+    ghost from_gives = { λ why fault. fault ≡ run_fault_of why };
+
+    fn from(why: WorkerFault) -> RunFault {
+        match why {
+            WorkerFault::OutOfMemory => RunFault::OutOfMemory,
+            WorkerFault::GateClosed => RunFault::GateClosed,
+        }
     }
 }

@@ -1,8 +1,7 @@
 //! The names and the numbers of faults.
 
 use crate::looking::gives;
-use run_values::SetupFault;
-use runs_core::RunFault;
+use run_values::{RunFault, SetupFault};
 use std::alloc::Global;
 use std::fmt::Display;
 use std::process::Abort;

@@ -1,6 +1,6 @@
 use Rattle.std.proofs.Common.{◌≡◌, ◌≢◌, length, map, None, Some}
 use Rattle.runs_core.specs.Sending.{heard_by, promises_of, sent_by}
-use Rattle.runs_core.specs.declared.run_fault.RunFault.TheVariants as out
+use Rattle.run_values.specs.declared.run_fault.RunFault.TheVariants as out
 use Rattle.runs_core.proofs.HearingLemmas.{AreHeard}
 use Rattle.runs_core.proofs.crew.hear_all.Given as goal
 

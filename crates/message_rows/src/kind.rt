@@ -1,7 +1,7 @@
 //! What is wrong with a line.
 
 ghost use Rattle.std.specs.Prelude.{Some};
-ghost use Rattle.live_answers.specs.Kinds.{line_kind_name};
+ghost use Rattle.message_rows.specs.Kinds.{line_kind_name};
 
 use std::fmt;
 use table_core::RowKind;
@@ -9,7 +9,7 @@ use table_core::RowKind;
 /// What is wrong with a line.
 #[derive(Clone, Copy, Debug, PartialEq, Eq)]
 pub enum LineKind {
-    /// It has more than `MAX_LINE` bytes.
+    /// It has more bytes than a line may have.
     TooLong,
     /// It is no message row, or one that may not follow those before it.
     Row(RowKind),

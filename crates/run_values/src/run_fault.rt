@@ -1,13 +1,12 @@
 //! What can end a run without books.
 
 ghost use Rattle.std.specs.Prelude.{◌≡◌, Some};
-ghost use Rattle.runs_core.specs.RunFaults.{run_fault_name, run_fault_of};
-ghost use Rattle.runs_core.specs.declared.run_fault.RunFault.TheVariants as out;
+ghost use Rattle.run_values.specs.RunFaults.{run_fault_name};
+ghost use Rattle.run_values.specs.declared.run_fault.RunFault.TheVariants as out;
 
 use std::alloc::{AllocError, AllocFailed};
 use std::error::Error;
 use std::fmt;
-use workers_core::WorkerFault;
 
 /// Why a run ended without books.
 #[derive(Clone, Copy, Debug, PartialEq, Eq)]
@@ -56,16 +55,5 @@ impl<T: Drop> From<AllocFailed<T>> for RunFault {
 
     fn from(_error: AllocFailed<T>) -> RunFault {
         RunFault::OutOfMemory
-    }
-}
-
-impl From<WorkerFault> for RunFault {
-    ghost from_gives = { λ why fault. fault ≡ run_fault_of why };
-
-    fn from(why: WorkerFault) -> RunFault {
-        match why {
-            WorkerFault::OutOfMemory => RunFault::OutOfMemory,
-            WorkerFault::GateClosed => RunFault::GateClosed,
-        }
     }
 }

@@ -1,8 +1,8 @@
 -- The names of what is wrong with a line.
 use Rattle.std.specs.Prelude.{ℕ, List, codes}
 use Rattle.table_core.specs.Faults as rows
-use Rattle.live_answers.specs.declared.kind.LineKind.{LineKind}
-use Rattle.live_answers.specs.declared.kind.LineKind.TheVariants as kind
+use Rattle.message_rows.specs.declared.kind.LineKind.{LineKind}
+use Rattle.message_rows.specs.declared.kind.LineKind.TheVariants as kind
 
 -- the name of a kind
 abbrev pub line_kind_name : LineKind → List ℕ
