@@ -1,7 +1,6 @@
 //! Setups that are made, and setups that aren't.
 
 use crate::looking::gives;
-use crate::setups::{BAND, ONE, list, set_up};
 use cap_values::Number;
 use dialogue_core::ServiceConfig;
 use price_core::MAX_MOMENT;
@@ -11,6 +10,50 @@ use std::alloc::Global;
 use std::process::Abort;
 use std::test::Fail;
 use tariff_core::Tariff;
+
+/// One band for called numbers that begin with 49.
+pub(crate) const BAND: &[u8] = b"prefix,from,fee,rate\n49,00:00,50,1000\n";
+
+/// An opening credit that doesn't expire.
+fn lasting(amount: u64) -> OpeningCredit {
+    OpeningCredit {
+        amount,
+        until: None,
+    }
+}
+
+/// A setup over a tariff, with one service. No account's credit expires.
+pub(crate) fn set_up(
+    alloc: Global,
+    tariff: &[u8],
+    accounts: &[(u32, u64)],
+    subscribers: &[(Number, u32)],
+    limit: u32,
+) -> Result<Result<RunSetup, SetupFault>, Fail> {
+    let tariff = Tariff::read(alloc, tariff)?;
+    let service = ServiceConfig::new(600, 50, 50)?;
+    let mut opened = Vec::new(alloc);
+    for (number, amount) in accounts {
+        opened.push((*number, lasting(*amount)))?;
+    }
+    Ok(RunSetup::new(
+        alloc,
+        opened.as_slice(),
+        subscribers,
+        tariff,
+        service,
+        limit,
+    ))
+}
+
+/// A directory of these accounts, without subscribers.
+pub(crate) fn list(alloc: Global, accounts: &[(u32, u64)]) -> Result<Directory, Fail> {
+    let mut directory = Directory::new(alloc);
+    for (number, amount) in accounts {
+        directory.account(*number, lasting(*amount))?;
+    }
+    Ok(directory)
+}
 
 const MOST: u64 = 1_000_000_000_000_000;
 
@@ -52,7 +95,7 @@ fn fault_of(
     payers: &[u32],
     limit: u32,
 ) -> Result<Option<SetupFault>, Fail> {
-    let one = Number::new(ONE)?;
+    let one = Number::new("491700001")?;
     let mut subscribers = Vec::new(alloc);
     for account in payers {
         subscribers.push((one, *account))?;
@@ -118,7 +161,7 @@ fn expect_listed(rt: &impl Abort, directory: &Directory) {
 
 #[test]
 fn a_directory_judges_one_after_another(rt: HostRuntime) -> Result<(), Fail> {
-    let one = Number::new(ONE)?;
+    let one = Number::new("491700001")?;
     let mut directory = list(rt.alloc(), &[(9, 300), (2, 100)])?;
     judge_accounts(&rt, &mut directory);
     judge_payers(&rt, &mut directory, one);

@@ -1,11 +1,11 @@
 //! Runs of a few posts over two accounts of 1500, of either form.
 
-use super::meeting::{Meeting, Of};
-use super::messages::{Round, Say, Sends, bodies_of, last_of};
-use super::rounds::{Heard, Rounds};
-use super::shutting::Holding;
 use crate::looking::gives;
-use crate::setups::{ONE, set_up};
+use crate::meeting::{Meeting, Of};
+use crate::messages::{Round, Say, Sends, bodies_of, last_of};
+use crate::rounds::{Heard, Rounds};
+use crate::setups::set_up;
+use crate::shutting::Holding;
 use account_core::{AccountFault, Entry, Reply};
 use cap_values::Number;
 use locked_account::SharedAccount;
@@ -20,6 +20,8 @@ use std::thread::Threads;
 use turn_account::TurnAccount;
 
 const TABLE: &[u8] = b"prefix,from,fee,rate\n49,00:00,50,1000\n49,00:01,0,400\n";
+
+pub(crate) const ONE: &str = "491700001";
 
 const TWO: &str = "491700002";
 

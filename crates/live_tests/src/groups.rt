@@ -1,10 +1,8 @@
 //! Lines that are at hand at once: they are logged together, and answered together. A live run
 //! that is given them by a switch at the other end, which waits for the answers to those before.
 
-use super::talk::{Has, Kept, LOGGED, TALK};
 use crate::looking::gives;
-use crate::setups::set_up_seven;
-use account_core::MAX_LIMIT;
+use crate::talk::{Has, Kept, LOGGED, TALK, set_up_seven};
 use live_answers::{LiveFault, MAX_GROUP, Replay, answer_live};
 use std::alloc::Global;
 use std::cell::Cell;
@@ -167,7 +165,7 @@ fn serve_bursts<R: Wait + Threads + Sync>(
     bursts: &[(Vec<u8>, usize)],
     fails: Fails,
 ) -> Result<Served, Fail> {
-    let setup = set_up_seven(alloc, MAX_LIMIT)?;
+    let setup = set_up_seven(alloc)?;
     let (printed, logged) = (Cell::new(0), Cell::new(0));
     let input = Bursts {
         bursts,

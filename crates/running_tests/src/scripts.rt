@@ -2,13 +2,14 @@
 
 ghost use Rattle.std.specs.Prelude.{◌≡◌, [], IfOk};
 
-use super::posts::{
-    ALL_RETURNED, ALL_SETTLED, REST, RETURNED, SETTLED, WHOLE, entries_of, expect_entries,
-};
-use super::shutting::{ALWAYS, Shutting};
 use crate::looking::gives;
-use crate::setups::{list, set_up_seven};
+use crate::runs::{
+    ALL_RETURNED, ALL_SETTLED, ONE, REST, RETURNED, SETTLED, WHOLE, entries_of, expect_entries,
+};
+use crate::setups::{BAND, list, set_up};
+use crate::shutting::{ALWAYS, Shutting};
 use account_core::{CallSum, Fate, Reply};
+use cap_values::Number;
 use run_texts::read_script;
 use run_values::RunFault;
 use runs_core::serve;
@@ -52,7 +53,8 @@ fn serve_script<R: Threads + Wait + Sync>(
     limit: u32,
     gate: &Shutting,
 ) -> Result<Result<Vec<Book>, RunFault>, Fail> {
-    let setup = set_up_seven(alloc, limit)?;
+    let subscribers = [(Number::new(ONE)?, 7)];
+    let setup = set_up(alloc, BAND, &[(7, 1500)], &subscribers, limit)??;
     let mut player = player(alloc, script)?;
     Ok(serve(rt, alloc, &setup, &mut player, 2, gate))
 }

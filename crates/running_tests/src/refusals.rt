@@ -1,11 +1,10 @@
 //! The refusals of a run, beside the posts that they are of, and the records of calls that were
 //! refused.
 
-use super::messages::{Round, Say};
-use super::posts::{play, stage};
-use super::rounds::{Heard, Rounds};
 use crate::looking::gives;
-use crate::setups::ONE;
+use crate::messages::{Round, Say};
+use crate::rounds::{Heard, Rounds};
+use crate::runs::{ONE, play, stage};
 use account_core::{AccountFault, MIN_LIMIT};
 use arrayvec::ArrayVec;
 use call_records::{call_table, records};

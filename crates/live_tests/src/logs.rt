@@ -1,7 +1,7 @@
 //! A log whose lines are heard again.
 
-use super::talk::Kept;
 use crate::looking::gives;
+use crate::talk::Kept;
 use live_log::Skipping;
 use std::cell::Cell;
 use std::io::Write;

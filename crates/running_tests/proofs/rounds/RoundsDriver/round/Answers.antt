@@ -1,6 +1,6 @@
 use Rattle.std.proofs.Common.{◌≡◌, ◌++◌, List, ap, refl, ◌∙◌}
 use Rattle.std.proofs.lemmas.List.{append_assoc}
-use Rattle.run_tests.proofs.runs.rounds.RoundsDriver.round.Goals as goal
+use Rattle.running_tests.proofs.rounds.RoundsDriver.round.Goals as goal
 
 abbrev Grows : {A : Type 0} → List A → List A → Type 0
 Grows {A} old new = (added : List A) × (new ≡ old ++ added)

@@ -3,7 +3,7 @@ use Rattle.std.specs.List.{HoldsAt}
 use Rattle.std.specs.Map.{keys_of}
 use Rattle.std.proofs.lemmas.Bool.Decides.{nat_tests}
 use Rattle.run_values.specs.declared.directory.OpeningCredit.{OpeningCredit}
-use Rattle.run_tests.proofs.runs.workers.has_seven.Goals as goal
+use Rattle.running_tests.proofs.workers.has_seven.Goals as goal
 
 only_key : (accounts : List (ℕ × OpeningCredit)) (key : ℕ) → length accounts ≡ 1 → HoldsAt (λ account. account.0 ≡ key) accounts 0 → keys_of accounts ≡ key ∷ []
 only_key [] key one at = absurd (omega (arith, one))

@@ -1,9 +1,18 @@
 //! A talk with a live run, and where its answers and its log go.
 
+use account_core::MAX_LIMIT;
+use cap_values::Number;
+use dialogue_core::ServiceConfig;
+use run_values::{OpeningCredit, RunSetup};
 use std::alloc::Global;
 use std::cell::Cell;
 use std::io;
 use std::io::{ErrorKind, Write};
+use std::test::Fail;
+use tariff_core::Tariff;
+
+/// One band for called numbers that begin with 49.
+const BAND: &[u8] = b"prefix,from,fee,rate\n49,00:00,50,1000\n";
 
 /// Lines, and what is printed of each before the next one is read.
 pub(crate) const TALK: [(&str, &str); 14] = [
@@ -138,4 +147,23 @@ impl Write for Kept<'_> {
         self.flushes = self.flushes.saturating_add(1);
         Ok(())
     }
+}
+
+/// One account with a subscriber, and a service that asks for 60 seconds each time.
+pub(crate) fn set_up_seven(alloc: Global) -> Result<RunSetup, Fail> {
+    let tariff = Tariff::read(alloc, BAND)?;
+    let service = ServiceConfig::new(600, 50, 50)?;
+    let opening = OpeningCredit {
+        amount: 1500,
+        until: None,
+    };
+    let subscribers = [(Number::new("491700001")?, 7)];
+    Ok(RunSetup::new(
+        alloc,
+        &[(7, opening)],
+        &subscribers,
+        tariff,
+        service,
+        MAX_LIMIT,
+    )?)
 }

@@ -5,11 +5,13 @@ ghost use Rattle.std.specs.Map.{keys_of};
 ghost use Rattle.locked_account.specs.Seats.{seat_reads};
 ghost use Rattle.workers_core.specs.Workers.{IsReady};
 
-use super::messages::{Round, Say, Sends, are_sent, bodies_of_round, body_of};
-use super::shutting::{ALWAYS, Shutting};
 use crate::looking::gives;
-use crate::setups::{ONE, set_up_seven};
+use crate::messages::{Round, Say, Sends, are_sent, bodies_of_round, body_of};
+use crate::runs::ONE;
+use crate::setups::{BAND, set_up};
+use crate::shutting::{ALWAYS, Shutting};
 use account_core::AccountFault;
+use cap_values::Number;
 use locked_account::{Seat, SharedAccount};
 use run_values::{Body, Post, RunSetup};
 use shared_account::OpenGate;
@@ -19,11 +21,12 @@ use std::sync::Wait;
 use std::test::Fail;
 use workers_core::{Worker, WorkerFault};
 
-/// The setup with account 7, of which it is known then that it has no other account.
-fn set_up_alone(rt: &impl Abort, alloc: Global, limit: u32) -> Result<RunSetup, Fail>
+/// Account 7, whose history has this limit, and subscriber 491700001 of it.
+fn set_up_seven(rt: &impl Abort, alloc: Global, limit: u32) -> Result<RunSetup, Fail>
     ensures { IfOk result (λ setup. keys_of setup.accounts ≡ 7 ∷ []) }
 {
-    let setup = set_up_seven(alloc, limit)?;
+    let subscribers = [(Number::new(ONE)?, 7)];
+    let setup = set_up(alloc, BAND, &[(7, 1500)], &subscribers, limit)??;
     assert!(rt; has_seven(&setup));
     Ok(setup)
 }
@@ -184,7 +187,7 @@ fn handle_all<R: Abort + Wait>(
     limit: u32,
     rows: &[Row],
 ) -> Result<usize, Fail> {
-    let setup = set_up_alone(rt, alloc, limit)?;
+    let setup = set_up_seven(rt, alloc, limit)?;
     let (account, seats) = account_seven(rt, alloc, limit)?;
     let accounts = [account];
     let mut worker = Worker::new(alloc, 1, &setup, &accounts, seats)?;
@@ -225,7 +228,7 @@ fn fault_past<R: Abort + Wait>(
     round: Round,
 ) -> Result<Option<WorkerFault>, Fail> {
     let (first, second) = bodies_of_round(round)?;
-    let setup = set_up_alone(rt, alloc, 1000)?;
+    let setup = set_up_seven(rt, alloc, 1000)?;
     let (account, seats) = account_seven(rt, alloc, 1000)?;
     let accounts = [account];
     let mut worker = Worker::new(alloc, 1, &setup, &accounts, seats)?;

@@ -1,6 +1,0 @@
-//! The tests of a live run and its log.
-
-mod groups;
-mod lines;
-mod logs;
-mod talk;
