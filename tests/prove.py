@@ -4,10 +4,9 @@
 The crate is prepaid where none is named, and its program comes into crates/prepaid/out.
 
 `rt` proves the libraries below a crate one after another, and keeps their proofs, which each crate above loads again.
-This gives the longest chain of crates two processors at least, each other crate those that no further one waits for, and
-keeps of a library what crates above can name, its statements, as the gate does. A library is proved from nothing where
-its files or those of a library below have changed. `rt` finds each where it keeps its own. JOBS says how many processors
-there are.
+This gives each crate one processor, and the longest chain of crates those too that no other crate waits for. It keeps of
+a library what crates above can name, its statements, as the gate does. A library is proved from nothing where its files
+or those of a library below have changed. `rt` finds each where it keeps its own. JOBS says how many processors there are.
 """
 import copy
 import os
@@ -19,10 +18,9 @@ import threading
 from concurrent.futures import FIRST_COMPLETED, ThreadPoolExecutor, wait
 
 ROOT = os.path.dirname(os.path.dirname(os.path.abspath(__file__)))
-# More jobs on one crate than these take more time of the processors and end hardly sooner.
+# More jobs on one crate than these take more time of the processors and end hardly sooner. A second job takes some 10 to
+# 30 % more of it, so a crate has one alone while others wait.
 MOST_JOBS = 4
-# The next crate of the longest chain has these at least. Each job more on a crate costs some 10 % of its time.
-CHAIN_JOBS = 2
 # As many lines of code take as long as what is done of a library before its first function, and as a function that is
 # generic over what a trait promises. So it was measured of the libraries below prepaid.
 FIRST_LINES = 550
@@ -128,12 +126,11 @@ def prove(libraries, processors):
             longest = max(map(behind.get, left), default=0)
             for place, it in enumerate(ready, 1):
                 idle = processors - sum(jobs for _, jobs in running.values())
-                # The longest chain waits for no processor.
+                # The longest chain waits for no processor, and gets those that no other library waits for.
                 is_next = behind[it] == longest
                 if idle <= 0 and not is_next:
                     break
-                # The others get the processors that no other library waits for.
-                jobs = max(min(most, CHAIN_JOBS) if is_next else 1, min(most, idle - (len(ready) - place)))
+                jobs = max(1, min(most, idle - (len(ready) - place))) if is_next else 1
                 niceness = 0 if is_next else NICENESS * (longest - behind[it]) // longest
                 running[pool.submit(build, it, jobs, niceness)] = it, jobs
                 left.remove(it)
