@@ -6,7 +6,7 @@ JOBS = $(shell nproc)
 SOURCES := crates.txt $(shell find crates -path '*/out' -prune -o -name '*.rt' -print -o -name '*.antt' -print)
 # The program that `rt ci` builds, and what of it has a test of its own.
 BUILT := crates/prepaid/out/prepaid
-HELD := serve dist docs explain words report pipe into divide program
+HELD := serve devices dist docs explain words report pipe into divide program
 
 .PHONY: all quick run report picture test edits install dist bench recipes
 .PHONY: test-edits test-tries test-prove test-growths test-random $(HELD:%=test-%)
@@ -52,10 +52,10 @@ TREE = $(shell git rev-parse HEAD) $(if $(shell git status --porcelain),changed,
 # completions against the formats, runs the program over worked rows and the commands of the pages as they are, makes
 # packages and uses them, compares reports with their tables, runs in parts with whole ones and the files of a run with
 # what runs print, drives the service over a pipe, compares what is said of faults with a table, on a terminal too, cuts
-# and kills a service with a log, refuses memory to each call that takes any, and compares the program with its model.
-# Libraries that an earlier gate left, which have no stamp, are removed: where rt ci has kept all proofs it would put them
-# back as they were, and the edits would be tried over them. Once all has passed, out/passed.txt says so of the commit;
-# make expands TREE before the first line.
+# and kills a service with a log, lets inputs, outputs and logs fail, refuses memory to each call that takes any, and
+# compares the program with its model. Libraries that an earlier gate left, which have no stamp, are removed: where rt ci
+# has kept all proofs it would put them back as they were, and the edits would be tried over them. Once all has passed,
+# out/passed.txt says so of the commit; make expands TREE before the first line.
 test:
 	mkdir -p out
 	rm -f out/passed.txt

@@ -116,7 +116,7 @@ class Talk:
 class Trial:
     """A program, and a folder for its logs."""
 
-    def __init__(self, program, folder, seed, kills):
+    def __init__(self, program, folder, seed=None, kills=0):
         self.program, self.folder, self.seed, self.kills, self.made = program, folder, seed, kills, 0
         self.talk, self.numbered, self.lock = Talk(HEAD, TALK), Talk(HEAD, numbered(TALK)), threading.Lock()
 
