@@ -1,9 +1,14 @@
-//! The tests of the public calls of runs, from the workers to the records of their calls: they are
-//! apart so that no crate under them is proved a second time for its tests.
+//! The tests of the public calls of runs, from the workers to the records of their calls, and of a
+//! line and a log of the service live: they are apart so that no crate under them is proved a
+//! second time for its tests.
 #![tactic(auto)]
 
 #[cfg(test)]
 mod faults;
+#[cfg(test)]
+mod live_lines;
+#[cfg(test)]
+mod live_logs;
 #[cfg(test)]
 mod looking;
 #[cfg(test)]
