@@ -91,7 +91,7 @@ fn rate_records<I: Read + Drop, O: Write>(
         width: rows.row().len(),
         differing: ask.differing,
     };
-    rate_rows(&rater, rows, text, output)
+    rate_rows(&rater, &mut rows, &mut text, output)
 }
 
 /// What a row is rated by.
@@ -144,13 +144,14 @@ impl Rater<'_> {
 /// printed of the header.
 fn rate_rows<I: Read + Drop, O: Write>(
     rater: &Rater<'_>,
-    mut rows: Rows<I>,
-    mut text: Vec<u8>,
+    rows: &mut Rows<I>,
+    text: &mut Vec<u8>,
     output: &mut O,
 ) -> Result<Score, RateFault>
     requires { HasAllColumns rater.now.width rater.now.columns }
     ensures ends { (header : Fields) → (left : List Fields)
-        → HasRowsLeft I.remaining rows (map shown left) → text.items ≡ header_line header
+        → HasRowsLeft I.remaining rows.old (map shown left)
+        → text.old.items ≡ header_line header
         → length header ≡ rater.now.width
         → EndsRating rater.now.differing (Ok (record {
           bands = rater.now.tariff.now;
@@ -175,8 +176,8 @@ fn rate_rows<I: Read + Drop, O: Write>(
             write_rest(output, text.as_slice())?;
             return Ok(score);
         }
-        rater.add_row(rows.row(), &mut text, &mut score)?;
-        send(output, &mut text)?;
+        rater.add_row(rows.row(), text, &mut score)?;
+        send(output, text)?;
     }
     Err(RateFault::Input(InputFault::OutOfMemory))
 }

@@ -9,7 +9,7 @@ pub loop-turn-init : goal.loop-turn-init
 loop-turn-init g c = (
   c.new-score.ensures.bounded,
   rw c.new-score.ensures.exact (omega arith),
-  λ header left has text width. rw c.new-score.ensures.exact (at_first g.I.Read.remaining c.args.rater.now.differing _ c.args.rows (g.O.Write.contents c.args.output.now) c.args.text.items has text),
+  λ header left has text width. rw c.new-score.ensures.exact (at_first g.I.Read.remaining c.args.rater.now.differing _ c.args.rows.now (g.O.Write.contents c.args.output.now) c.args.text.now.items has text),
 )
 
 pub returns-in-Err-clause-ends : goal.returns-in-Err-clause-ends
