@@ -1,6 +1,7 @@
 //! Looking at values.
 
-use std::fmt::Debug;
+use std::alloc::Global;
+use std::fmt::{Debug, Display};
 use std::process::Abort;
 
 /// Looks at what an input gives. One function for every type, so that each look is proved once.
@@ -11,4 +12,17 @@ pub(crate) fn gives<I: Debug, T: Debug + PartialEq>(
     want: &T,
 ) {
     assert_eq!(rt; *found, *want, "at {input:?}");
+}
+
+/// Looks at the number of a fault, and at the text that is printed for it.
+pub(crate) fn reads<I: Debug, T: Display>(
+    rt: &impl Abort,
+    alloc: Global,
+    input: &I,
+    printed: &T,
+    number: u8,
+    want: (u8, &str),
+) {
+    let text = printed.to_string(alloc).expect(rt, "memory");
+    gives(rt, input, &(number, text.as_str()), &want);
 }

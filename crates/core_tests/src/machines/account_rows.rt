@@ -28,7 +28,7 @@ pub(crate) const WHOLE_CALL: [(Ask, Want); 4] = [
 
 /// Accounts: the opening credit and its last moment, the number of entries, and what each is asked
 /// in turn.
-pub(crate) const ACCOUNTS: [(&str, u64, Option<u64>, u32, &[(Ask, Want)]); 26] = [
+pub(crate) static ACCOUNTS: [(&str, u64, Option<u64>, u32, &[(Ask, Want)]); 26] = [
     (
         "a call that talks all of its grant",
         1500,

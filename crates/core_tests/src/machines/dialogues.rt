@@ -147,7 +147,7 @@ const RETURNED: Input = Input::Answer(Reply::Returned {
 });
 
 /// Dialogues: what each is handed in turn, and what it is to do.
-const DIALOGUES: [(&str, &[(Input, Want)]); 14] = [
+static DIALOGUES: [(&str, &[(Input, Want)]); 14] = [
     (
         "the first ask",
         &[

@@ -63,7 +63,7 @@ const UNASKED: Left = (0, None, 1500);
 
 /// The opening credit with its last moment, the delay and the script of a call, how it ends, and
 /// what is left.
-const CALLS: [((u64, Option<u64>), u32, Script, End, Left); 10] = [
+static CALLS: [((u64, Option<u64>), u32, Script, End, Left); 10] = [
     (
         (1500, None),
         2,
@@ -213,19 +213,25 @@ fn left(account: &Account) -> Left {
     )
 }
 
+/// Opens an account, drives a call over it, and looks at how it ends and what is left.
+fn drives<R: Abort + AllocGlobal>(
+    rt: &R,
+    (opening, until): (u64, Option<u64>),
+    delay: u32,
+    script: Script,
+    want: &(Result<CallEnd, DriveFault>, Left),
+) {
+    assert!(rt; opening <= MAX_MONEY);
+    let mut port = AccountPort::new(Account::new(rt.alloc(), opening, until, 1000), 0);
+    let met = driven(rt, &mut port, delay, script);
+    let found = (met, left(&port.account));
+    gives(rt, &(until, delay, script), &found, want);
+}
+
 #[test]
 fn calls_are_paid_or_not_driven(rt: HostRuntime) {
-    for &((opening, until), delay, script, end, account) in &CALLS {
-        assert!(rt; opening <= MAX_MONEY);
-        let mut port = AccountPort::new(Account::new(rt.alloc(), opening, until, 1000), 0);
-        let met = driven(&rt, &mut port, delay, script);
-        let found = (met, left(&port.account));
-        gives(
-            &rt,
-            &(until, delay, script),
-            &found,
-            &(end_of(end), account),
-        );
+    for &(opened, delay, script, end, account) in &CALLS {
+        drives(&rt, opened, delay, script, &(end_of(end), account));
     }
 }
 

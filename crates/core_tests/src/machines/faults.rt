@@ -1,6 +1,6 @@
 //! The texts and the numbers of faults.
 
-use crate::looking::gives;
+use crate::looking::reads;
 use account_core::AccountFault;
 use dialogue_core::DialogueFault;
 use one_call::DriveFault;
@@ -45,19 +45,22 @@ const DRIVE_FAULTS: [(DriveFault, u8, &str); 3] = [
 #[test]
 fn faults_have_texts_and_numbers(rt: HostRuntime) {
     for &(fault, number, want) in &ACCOUNT_FAULTS {
-        let text = fault.to_string(rt.alloc()).expect(&rt, "memory");
-        gives(&rt, &fault, &(fault as u8, text.as_str()), &(number, want));
+        reads(&rt, rt.alloc(), &fault, &fault, fault as u8, (number, want));
     }
     for &(fault, number, want) in &SSF_FAULTS {
-        let text = fault.to_string(rt.alloc()).expect(&rt, "memory");
-        gives(&rt, &fault, &(fault as u8, text.as_str()), &(number, want));
+        reads(&rt, rt.alloc(), &fault, &fault, fault as u8, (number, want));
     }
     for &(fault, number, want) in &DIALOGUE_FAULTS {
-        let text = fault.to_string(rt.alloc()).expect(&rt, "memory");
-        gives(&rt, &fault, &(fault.code(), text.as_str()), &(number, want));
+        reads(
+            &rt,
+            rt.alloc(),
+            &fault,
+            &fault,
+            fault.code(),
+            (number, want),
+        );
     }
     for &(fault, number, want) in &DRIVE_FAULTS {
-        let text = fault.to_string(rt.alloc()).expect(&rt, "memory");
-        gives(&rt, &fault, &(fault as u8, text.as_str()), &(number, want));
+        reads(&rt, rt.alloc(), &fault, &fault, fault as u8, (number, want));
     }
 }

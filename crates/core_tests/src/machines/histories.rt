@@ -6,6 +6,8 @@ use crate::looking::gives;
 use crate::plans::CHEAPER;
 use account_core::{Account, Entry, Op, Reply};
 use price_core::TimeInfo;
+use std::alloc::Global;
+use std::process::Abort;
 
 const WHOLE: Reply = Reply::Granted {
     units: 600,
@@ -124,32 +126,37 @@ const EXPIRED_LATER: [Entry; 6] = [
     ENDED,
 ];
 
+/// The last moments under which the expired entries are legal, and are not.
+const WHEN_EXPIRED: [(Option<u64>, bool); 4] = [
+    (Some(1000), true),
+    (Some(999), false),
+    (Some(1001), false),
+    (None, false),
+];
+
+/// Checks entries under each last moment, and looks at whether they are legal then.
+fn checks(rt: &impl Abort, alloc: Global, entries: &[Entry], rows: &[(Option<u64>, bool)]) {
+    for &(until, legal) in rows {
+        let checked = Account::check(alloc, 1500, until, entries);
+        gives(rt, &(until, entries), &checked, &Ok(legal));
+    }
+}
+
 #[test]
 fn checks_entries_in_their_places(rt: HostRuntime) {
-    let histories: [(Option<u64>, &[Entry], bool); 14] = [
-        (None, &[FIRST, SECOND], true),
-        (None, &[FIRST], true),
-        (None, &[], true),
-        (
-            None,
-            &[FIRST_ANSWERED_AS_SECOND, SECOND_ANSWERED_AS_FIRST],
-            false,
-        ),
-        (None, &[FIRST, SECOND_ANSWERED_AS_FIRST], false),
-        (None, &[UNASKED], false),
-        (Some(1001), &[FIRST, SECOND], true),
-        (Some(1000), &[FIRST, SECOND], false),
-        (Some(1000), &[FIRST, SECOND_DENIED], true),
-        (Some(1000), &EXPIRED, true),
-        (Some(1000), &EXPIRED_LATER, false),
-        (Some(999), &EXPIRED, false),
-        (Some(1001), &EXPIRED, false),
-        (None, &EXPIRED, false),
-    ];
-    for &(until, entries, legal) in &histories {
-        let checked = Account::check(rt.alloc(), 1500, until, entries);
-        gives(&rt, &(until, entries), &checked, &Ok(legal));
-    }
+    let alloc = rt.alloc();
+    let answered_in_turn = [(None, true), (Some(1001), true), (Some(1000), false)];
+    checks(&rt, alloc, &[FIRST, SECOND], &answered_in_turn);
+    checks(&rt, alloc, &[FIRST], &[(None, true)]);
+    checks(&rt, alloc, &[], &[(None, true)]);
+    let exchanged = [FIRST_ANSWERED_AS_SECOND, SECOND_ANSWERED_AS_FIRST];
+    checks(&rt, alloc, &exchanged, &[(None, false)]);
+    let both_as_first = [FIRST, SECOND_ANSWERED_AS_FIRST];
+    checks(&rt, alloc, &both_as_first, &[(None, false)]);
+    checks(&rt, alloc, &[UNASKED], &[(None, false)]);
+    checks(&rt, alloc, &[FIRST, SECOND_DENIED], &[(Some(1000), true)]);
+    checks(&rt, alloc, &EXPIRED, &WHEN_EXPIRED);
+    checks(&rt, alloc, &EXPIRED_LATER, &[(Some(1000), false)]);
 }
 
 #[test]

@@ -250,7 +250,7 @@ const A_CALL_IS_INTERRUPTED: [Row; 2] = [
 ];
 
 /// Calls: where each begins, and its rows.
-pub(crate) const CALLS: [(&str, Start, &[Row]); 10] = [
+pub(crate) static CALLS: [(&str, Start, &[Row]); 10] = [
     ("a period ends", Start::Answered(2, None), &A_PERIOD_ENDS),
     (
         "switches before answer",

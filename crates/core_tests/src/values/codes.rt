@@ -136,7 +136,7 @@ const MODES: [(Point, Option<Mode>); 7] = [
 ];
 
 /// Armings that make no arms, and why.
-const NO_ARMS: [(&[Arming], ValueFault); 7] = [
+static NO_ARMS: [(&[Arming], ValueFault); 7] = [
     (&[BUSY, NO_LEG], ValueFault::MissingParameter),
     (&[BUSY, FIRST], ValueFault::ParameterOutOfRange),
     (&[BUSY, HELD], ValueFault::ParameterOutOfRange),

@@ -1,8 +1,11 @@
 //! The texts and the numbers of faults.
 
-use crate::looking::gives;
+use crate::looking::{gives, reads};
 use cap_values::ValueFault;
 use price_core::{PlanRange, TimeRange};
+use std::alloc::Global;
+use std::fmt::{Debug, Display};
+use std::process::Abort;
 use table_core::{RowFault, RowKind, TableFault};
 use tariff_core::{TariffFault, TariffKind};
 
@@ -37,33 +40,36 @@ const VALUE_FAULTS: [(ValueFault, u8, &str); 2] = [
     (ValueFault::MissingParameter, 2, "a parameter is missing"),
 ];
 
+const TABLE_FAULTS: [(TableFault, &str); 3] = [
+    (
+        TableFault::Row(RowFault {
+            row: 3,
+            kind: RowKind::Order,
+        }),
+        "row 3: Order",
+    ),
+    (TableFault::Device, "the reader failed"),
+    (TableFault::OutOfMemory, "out of memory"),
+];
+
+/// Looks at the text of a fault that has no number.
+fn reads_text<T: Debug + Display>(rt: &impl Abort, alloc: Global, fault: &T, want: &str) {
+    let text = fault.to_string(alloc).expect(rt, "memory");
+    gives(rt, fault, &text.as_str(), &want);
+}
+
 #[test]
 fn faults_have_texts_and_numbers(rt: HostRuntime) {
-    let order = RowFault {
-        row: 3,
-        kind: RowKind::Order,
-    };
-    let faults = [
-        (TableFault::Row(order), "row 3: Order"),
-        (TableFault::Device, "the reader failed"),
-        (TableFault::OutOfMemory, "out of memory"),
-    ];
-    for &(fault, want) in &faults {
-        let text = fault.to_string(rt.alloc()).expect(&rt, "memory");
-        gives(&rt, &fault, &text.as_str(), &want);
+    for &(fault, want) in &TABLE_FAULTS {
+        reads_text(&rt, rt.alloc(), &fault, want);
     }
     for &(kind, code, want) in &KINDS {
-        let text = TariffFault { row: 7, kind }
-            .to_string(rt.alloc())
-            .expect(&rt, "memory");
-        gives(&rt, &kind, &(kind.code(), text.as_str()), &(code, want));
+        let fault = TariffFault { row: 7, kind };
+        reads(&rt, rt.alloc(), &kind, &fault, kind.code(), (code, want));
     }
-    let text = PlanRange.to_string(rt.alloc()).expect(&rt, "memory");
-    gives(&rt, &PlanRange, &text.as_str(), &PLAN_RANGE);
-    let text = TimeRange.to_string(rt.alloc()).expect(&rt, "memory");
-    gives(&rt, &TimeRange, &text.as_str(), &TIME_RANGE);
+    reads_text(&rt, rt.alloc(), &PlanRange, PLAN_RANGE);
+    reads_text(&rt, rt.alloc(), &TimeRange, TIME_RANGE);
     for &(fault, number, want) in &VALUE_FAULTS {
-        let text = fault.to_string(rt.alloc()).expect(&rt, "memory");
-        gives(&rt, &fault, &(fault as u8, text.as_str()), &(number, want));
+        reads(&rt, rt.alloc(), &fault, &fault, fault as u8, (number, want));
     }
 }

@@ -14,57 +14,72 @@ use price_core::{
 };
 use std::process::Abort;
 
-/// The times before and after a switch, and their price.
-const PRICES: [(Plan, u32, u32, u64); 33] = [
-    (DEAREST_IN_STEPS, 864_000, 0, 2_880_998_333_334),
-    (DEAREST_IN_STEPS, 863_999, 0, 1_440_998_333_334),
-    (BY_THE_MINUTE, 0, 0, 0),
-    (BY_THE_MINUTE, 1, 0, 1050),
-    (BY_THE_MINUTE, 600, 0, 1050),
-    (BY_THE_MINUTE, 601, 0, 2050),
-    (BY_THE_MINUTE, 300, 300, 1050),
-    (BY_THE_MINUTE, 300, 301, 1450),
-    (BY_THE_MINUTE, 0, 1, 450),
-    (BY_THE_MINUTE, 600, 1, 1450),
-    (BY_THE_MINUTE, 601, 1, 2050),
-    (BY_SIX_SECONDS, 600, 0, 50),
-    (BY_SIX_SECONDS, 601, 0, 550),
-    (BY_SIX_SECONDS, 900, 0, 550),
-    (BY_SIX_SECONDS, 901, 0, 650),
-    (BY_SIX_SECONDS, 960, 1, 690),
-    (BY_SIX_SECONDS, 300, 300, 50),
-    (BY_SIX_SECONDS, 300, 301, 250),
-    (BY_SIX_SECONDS, 300, 700, 330),
-    (DEAREST, 864_000, 0, 1_441_000_000_000),
-    (DEAREST, 1, 863_999, 1_441_000_000_000),
-    (FREE, 1, 0, 50),
-    (FREE, 300, 0, 50),
-    (FREE, 600, 0, 550),
-    (FREE, 200, 300, 184),
-    (FREE, 0, 300, 50),
-    (CHEAPER, 0, 0, 0),
-    (CHEAPER, 1, 0, 52),
-    (CHEAPER, 600, 0, 1050),
-    (CHEAPER, 600, 300, 1250),
-    (SINGLE, 1, 0, 2),
-    (SINGLE, 2, 0, 4),
-    (SINGLE, 3, 0, 5),
+/// Plans; and the times before and after a switch, and their price.
+const PRICES: [(Plan, &[(u32, u32, u64)]); 7] = [
+    (
+        DEAREST_IN_STEPS,
+        &[
+            (864_000, 0, 2_880_998_333_334),
+            (863_999, 0, 1_440_998_333_334),
+        ],
+    ),
+    (
+        BY_THE_MINUTE,
+        &[
+            (0, 0, 0),
+            (1, 0, 1050),
+            (600, 0, 1050),
+            (601, 0, 2050),
+            (300, 300, 1050),
+            (300, 301, 1450),
+            (0, 1, 450),
+            (600, 1, 1450),
+            (601, 1, 2050),
+        ],
+    ),
+    (
+        BY_SIX_SECONDS,
+        &[
+            (600, 0, 50),
+            (601, 0, 550),
+            (900, 0, 550),
+            (901, 0, 650),
+            (960, 1, 690),
+            (300, 300, 50),
+            (300, 301, 250),
+            (300, 700, 330),
+        ],
+    ),
+    (
+        DEAREST,
+        &[
+            (864_000, 0, 1_441_000_000_000),
+            (1, 863_999, 1_441_000_000_000),
+        ],
+    ),
+    (
+        FREE,
+        &[
+            (1, 0, 50),
+            (300, 0, 50),
+            (600, 0, 550),
+            (200, 300, 184),
+            (0, 300, 50),
+        ],
+    ),
+    (
+        CHEAPER,
+        &[(0, 0, 0), (1, 0, 52), (600, 0, 1050), (600, 300, 1250)],
+    ),
+    (SINGLE, &[(1, 0, 2), (2, 0, 4), (3, 0, 5)]),
 ];
 
-/// Money, and how many of 600 units it covers.
-const AFFORDED: [(Plan, u64, u32); 12] = [
-    (FREE, 550, 600),
-    (FREE, 549, 599),
-    (FREE, 50, 300),
-    (FREE, 49, 0),
-    (FREE_DEARER, 500, 600),
-    (FREE_DEARER, 499, 599),
-    (CHEAPER, 1050, 600),
-    (CHEAPER, 1049, 599),
-    (CHEAPER, 52, 1),
-    (CHEAPER, 51, 0),
-    (DEARER, 1000, 600),
-    (DEARER, 999, 599),
+/// Plans; and money, and how many of 600 units it covers.
+const AFFORDED: [(Plan, &[(u64, u32)]); 4] = [
+    (FREE, &[(550, 600), (549, 599), (50, 300), (49, 0)]),
+    (FREE_DEARER, &[(500, 600), (499, 599)]),
+    (CHEAPER, &[(1050, 600), (1049, 599), (52, 1), (51, 0)]),
+    (DEARER, &[(1000, 600), (999, 599)]),
 ];
 
 /// What money grants of 2000 units that are billed by the minute.
@@ -76,23 +91,34 @@ const MINUTES_AFFORDED: [(u64, u32); 5] = [
     (2050, 1200),
 ];
 
+/// Looks at the price of each time.
+fn prices_times(rt: &impl Abort, plan: &Plan, rows: &[(u32, u32, u64)]) {
+    for &(before, after, want) in rows {
+        assert!(rt; before <= DAY && after <= DAY - before);
+        gives(rt, &(before, after), &price(plan, before, after), &want);
+    }
+}
+
+/// Looks at how many of so many units each amount of money affords.
+fn affords_units(rt: &impl Abort, plan: &Plan, wanted: u32, rows: &[(u64, u32)]) {
+    for &(money, want) in rows {
+        let units = afford(plan, Times::ZERO, wanted, money);
+        gives(rt, &money, &units, &want);
+    }
+}
+
 #[test]
 fn prices_and_affords_times(rt: HostRuntime) {
     ceiling_is_greatest();
     afforded_is_greatest();
     lawful_times_follow();
-    for &(plan, before, after, want) in &PRICES {
-        assert!(rt; before <= DAY && after <= DAY - before);
-        gives(&rt, &(before, after), &price(&plan, before, after), &want);
+    for &(plan, rows) in &PRICES {
+        prices_times(&rt, &plan, rows);
     }
-    for &(plan, money, want) in &AFFORDED {
-        let units = afford(&plan, Times::ZERO, 600, money);
-        gives(&rt, &money, &units, &want);
+    for &(plan, rows) in &AFFORDED {
+        affords_units(&rt, &plan, 600, rows);
     }
-    for &(money, want) in &MINUTES_AFFORDED {
-        let units = afford(&BY_THE_MINUTE, Times::ZERO, 2000, money);
-        gives(&rt, &money, &units, &want);
-    }
+    affords_units(&rt, &BY_THE_MINUTE, 2000, &MINUTES_AFFORDED);
 }
 
 /// The most units that the money covers, counted down from those wanted.

@@ -3,14 +3,16 @@
 use super::failing::Failing;
 use crate::looking::gives;
 use std::alloc::Global;
+use std::fmt::Debug;
 use std::io::{self, Read};
+use std::process::Abort;
 use table_core::{RowFault, RowKind, Table, TableFault, number};
 
 /// What a table comes to: its header, the number of its last row, and the last field of that row.
 type Last = (usize, u32, u64);
 
 /// Texts of tables that may have three rows, and what each comes to, or its fault.
-const TABLES: [(&[u8], Result<Last, (u32, RowKind)>); 16] = [
+static TABLES: [(&[u8], Result<Last, (u32, RowKind)>); 16] = [
     (b"a,b\n", Ok((0, 1, 0))),
     (b"a,b\n1,2\n", Ok((0, 2, 2))),
     (b"a,b,c\n1,2,3\n1,2,4\n", Ok((1, 3, 4))),
@@ -62,29 +64,34 @@ fn tables_are_read_to_their_ends(rt: HostRuntime) {
     }
 }
 
+/// Looks at the fault of a table whose reader fails behind these bytes.
+fn fails<I: Debug>(rt: &impl Abort, alloc: Global, input: &I, bytes: &[u8], want: TableFault) {
+    gives(rt, input, &read(alloc, Failing { bytes }), &Err(want));
+}
+
+/// The fault of a table whose reader fails behind these bytes, where the whole table comes to this:
+/// its own, if its row was read, and the reader's else.
+fn fault_behind(bytes: &[u8], whole: Result<Last, (u32, RowKind)>) -> TableFault {
+    match whole {
+        Err((row, kind)) if bytes.ends_with(b"\n") => TableFault::Row(RowFault { row, kind }),
+        _ => TableFault::Device,
+    }
+}
+
 #[test]
 fn a_failed_reader_is_no_end(rt: HostRuntime) {
     let (text, _) = TABLES[3];
     for length in 0..text.len() {
-        let bytes = &text[..length];
-        gives(
+        fails(
             &rt,
+            rt.alloc(),
             &length,
-            &read(rt.alloc(), Failing { bytes }),
-            &Err(TableFault::Device),
+            &text[..length],
+            TableFault::Device,
         );
     }
-    for &(bytes, want) in &TABLES {
-        let want = match want {
-            Err((row, kind)) if bytes.ends_with(b"\n") => TableFault::Row(RowFault { row, kind }),
-            _ => TableFault::Device,
-        };
-        gives(
-            &rt,
-            &bytes,
-            &read(rt.alloc(), Failing { bytes }),
-            &Err(want),
-        );
+    for &(bytes, whole) in &TABLES {
+        fails(&rt, rt.alloc(), &bytes, bytes, fault_behind(bytes, whole));
     }
 }
 
