@@ -64,7 +64,7 @@ const FITS: [Round; 2] = [
 ];
 
 /// Call 1 and accounts 7 and 9 are worker 1's, account 8 is worker 0's.
-const ROWS: [Row; 7] = [
+static ROWS: [Row; 7] = [
     (1000, &[], &[], &[]),
     (1000, &ENDED, &[], &[None, None, None]),
     (1000, &NOT_RECHARGED, &[], &[RANGE, None]),
@@ -88,6 +88,17 @@ fn answers_of(alloc: Global, heard: &[Heard]) -> Result<Vec<Answer>, AllocError>
     Ok(answers)
 }
 
+/// Compares the refusals of the posts of a worker, and how many posts it has.
+fn expect_list(
+    rt: &impl Abort,
+    worker: usize,
+    found: &[Option<AccountFault>],
+    posts: &[Post],
+    want: &[Option<AccountFault>],
+) {
+    gives(rt, &worker, &(found, posts.len()), &(want, want.len()));
+}
+
 /// Compares the refusals of the posts of two workers, and how many posts each has.
 fn expect_lists(
     rt: &impl Abort,
@@ -97,10 +108,8 @@ fn expect_lists(
     of_second: &[Option<AccountFault>],
 ) {
     assert!(rt; found.len() == 2 && shares.len() == 2);
-    gives(rt, &0, &found[0].as_slice(), &of_first);
-    gives(rt, &1, &found[1].as_slice(), &of_second);
-    gives(rt, &0, &shares[0].len(), &of_first.len());
-    gives(rt, &1, &shares[1].len(), &of_second.len());
+    expect_list(rt, 0, found[0].as_slice(), shares[0].as_slice(), of_first);
+    expect_list(rt, 1, found[1].as_slice(), shares[1].as_slice(), of_second);
 }
 
 /// Compares the refusals of two workers with those that the answers say.

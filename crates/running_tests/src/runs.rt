@@ -221,7 +221,7 @@ const FITS_ANSWERED: [Answered; 5] = [
 
 const FITS_REPLIES: [Reply; 5] = [WHOLE, SETTLED, REST, ALL_SETTLED, ALL_RETURNED];
 
-const ROWS: [Row; 7] = [
+static ROWS: [Row; 7] = [
     (
         1000,
         &AT_ONCE,

@@ -11,7 +11,7 @@ use crate::shutting::{ALWAYS, Shutting};
 use account_core::{CallSum, Fate, Reply};
 use cap_values::Number;
 use run_texts::read_script;
-use run_values::RunFault;
+use run_values::{RunFault, RunSetup};
 use runs_core::serve;
 use script_player::ScriptPlayer;
 use shared_account::Book;
@@ -45,6 +45,18 @@ fn player(alloc: Global, script: &str) -> Result<ScriptPlayer, Fail>
     Ok(ScriptPlayer::new(alloc, rows, config, 2)?)
 }
 
+/// Serves a script over a setup by two workers.
+fn serve_over<R: Threads + Wait + Sync>(
+    rt: &R,
+    alloc: Global,
+    setup: &RunSetup,
+    script: &str,
+    gate: &Shutting,
+) -> Result<Result<Vec<Book>, RunFault>, Fail> {
+    let mut player = player(alloc, script)?;
+    Ok(serve(rt, alloc, setup, &mut player, 2, gate))
+}
+
 /// Serves a script over account 7, whose history has this limit, by two workers.
 fn serve_script<R: Threads + Wait + Sync>(
     rt: &R,
@@ -55,8 +67,7 @@ fn serve_script<R: Threads + Wait + Sync>(
 ) -> Result<Result<Vec<Book>, RunFault>, Fail> {
     let subscribers = [(Number::new(ONE)?, 7)];
     let setup = set_up(alloc, BAND, &[(7, 1500)], &subscribers, limit)??;
-    let mut player = player(alloc, script)?;
-    Ok(serve(rt, alloc, &setup, &mut player, 2, gate))
+    serve_over(rt, alloc, &setup, script, gate)
 }
 
 /// The limit of the history, the replies that are entered, and what the call has paid.
@@ -64,7 +75,7 @@ type Row = (u32, &'static [Reply], u64);
 
 const REPLIES: [Reply; 5] = [WHOLE, SETTLED, REST, ALL_SETTLED, ALL_RETURNED];
 
-const ROWS: [Row; 3] = [
+static ROWS: [Row; 3] = [
     (4, &[WHOLE, SETTLED, RETURNED], 1050),
     (5, &REPLIES, 1500),
     (1_000_000, &REPLIES, 1500),

@@ -71,7 +71,7 @@ const UNKNOWN: Option<SetupFault> = Some(SetupFault::Unknown);
 
 const OUT_OF_RANGE: Option<SetupFault> = Some(SetupFault::OutOfRange);
 
-const ROWS: [Row; 14] = [
+static ROWS: [Row; 14] = [
     (&[], &[], 3, None),
     (&[], &[], 1_000_000, None),
     (&[], &[], 2, OUT_OF_RANGE),
@@ -183,21 +183,31 @@ const CALLING: [(&str, Option<u32>); 4] = [
     ("49170000", None),
 ];
 
+/// Compares the account at a place of a setup with the one that was read.
+fn expect_place(
+    rt: &impl Abort,
+    setup: &RunSetup,
+    place: usize,
+    number: u32,
+    opening: OpeningCredit,
+) {
+    assert!(rt; place < setup.account_count());
+    let found = (
+        setup.place_of(number),
+        setup.number(place),
+        setup.opening(place),
+    );
+    gives(rt, &place, &found, &(Some(place), number, opening));
+    let account = setup.accounts().get(place);
+    gives(rt, &place, &account, &Some(&(number, opening)));
+}
+
 /// Compares the accounts of a setup with those that were read.
 fn expect_places(rt: &impl Abort, setup: &RunSetup) {
     gives(rt, &"accounts", &setup.account_count(), &PLACES.len());
     let mut place: usize = 0;
     for &(number, amount, until) in &PLACES {
-        let opening = OpeningCredit { amount, until };
-        assert!(rt; place < setup.account_count());
-        let found = (
-            setup.place_of(number),
-            setup.number(place),
-            setup.opening(place),
-        );
-        gives(rt, &place, &found, &(Some(place), number, opening));
-        let account = setup.accounts().get(place);
-        gives(rt, &place, &account, &Some(&(number, opening)));
+        expect_place(rt, setup, place, number, OpeningCredit { amount, until });
         place = place.saturating_add(1);
     }
     gives(rt, &8, &setup.place_of(8), &None);
@@ -225,13 +235,23 @@ fn expect_terms(rt: &impl Abort, setup: &RunSetup, service: ServiceConfig) {
     }
 }
 
+/// Compares a setup with what was read, and with the service that it was given.
+fn expect_setup(rt: &impl Abort, setup: &RunSetup, service: ServiceConfig) -> Result<(), Fail> {
+    expect_places(rt, setup);
+    expect_terms(rt, setup, service);
+    expect_payers(rt, setup)
+}
+
+/// A setup of what is read, with a service.
+fn read_run(alloc: Global, service: ServiceConfig) -> Result<RunSetup, Fail> {
+    let tariff = Tariff::read(alloc, BAND)?;
+    let directory = read_setup(alloc, SETUP)?;
+    Ok(RunSetup::of(alloc, directory, tariff, service, 30)?)
+}
+
 #[test]
 fn a_run_is_set_up_with_what_was_read(rt: HostRuntime) -> Result<(), Fail> {
     let service = ServiceConfig::new(600, 50, 50)?;
-    let tariff = Tariff::read(rt.alloc(), BAND)?;
-    let directory = read_setup(rt.alloc(), SETUP)?;
-    let setup = RunSetup::of(rt.alloc(), directory, tariff, service, 30)?;
-    expect_places(&rt, &setup);
-    expect_terms(&rt, &setup, service);
-    expect_payers(&rt, &setup)
+    let setup = read_run(rt.alloc(), service)?;
+    expect_setup(&rt, &setup, service)
 }

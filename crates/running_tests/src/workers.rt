@@ -1,6 +1,6 @@
 //! A worker over one account: the posts of a call, strays, recharges, and gates that shut.
 
-ghost use Rattle.std.specs.Prelude.{◌≡◌, ◌∷◌, [], IfOk, IsTrue, OnOk};
+ghost use Rattle.std.specs.Prelude.{◌≡◌, ◌∷◌, [], IfOk, IsTrue, OnOk, map};
 ghost use Rattle.std.specs.Map.{keys_of};
 ghost use Rattle.locked_account.specs.Seats.{seat_reads};
 ghost use Rattle.workers_core.specs.Workers.{IsReady};
@@ -13,7 +13,7 @@ use crate::shutting::{ALWAYS, Shutting};
 use account_core::AccountFault;
 use cap_values::Number;
 use locked_account::{Seat, SharedAccount};
-use run_values::{Body, Post, RunSetup};
+use run_values::{Answer, Body, Post, RunSetup};
 use shared_account::OpenGate;
 use std::alloc::Global;
 use std::process::Abort;
@@ -127,13 +127,34 @@ const FITS: [Row; 2] = [
     ),
 ];
 
-const TALKS: [Talk; 3] = [(1000, &STRAYS), (4, &FILLS), (5, &FITS)];
+static TALKS: [Talk; 3] = [(1000, &STRAYS), (4, &FILLS), (5, &FITS)];
 
 fn post(number: u64, body: Body) -> Post {
     Post {
         number,
         at: 0,
         body,
+    }
+}
+
+/// Compares the answer to a post.
+fn expect_answer(rt: &impl Abort, number: u64, answer: &Answer, row: &Row) -> Result<(), Fail> {
+    let &(_, sends, stray, refused, _) = row;
+    let found = (answer.number, answer.stray, answer.refused);
+    gives(rt, &number, &found, &(number, stray, refused));
+    gives(rt, &number, &are_sent(sends, answer.ops.as_slice())?, &true);
+    Ok(())
+}
+
+/// Compares what was entered by then, where that is said.
+fn expect_entered(
+    rt: &impl Abort,
+    number: u64,
+    worker: &Worker<'_, SharedAccount>,
+    credit: Option<(usize, u64)>,
+) {
+    if credit.is_some() {
+        gives(rt, &number, &entered(worker), &credit);
     }
 }
 
@@ -149,14 +170,9 @@ fn handle<R: Abort + Wait>(
     ensures { OnOk result (IsReady (λ account. account.number) (λ account. account.number)
         seat_reads worker.new) }
 {
-    let &(say, sends, stray, refused, credit) = row;
-    let answer = worker.handle(rt, post(number, body_of(say)?), &OpenGate)?;
-    let found = (answer.number, answer.stray, answer.refused);
-    gives(rt, &number, &found, &(number, stray, refused));
-    gives(rt, &number, &are_sent(sends, answer.ops.as_slice())?, &true);
-    if credit.is_some() {
-        gives(rt, &number, &entered(worker), &credit);
-    }
+    let answer = worker.handle(rt, post(number, body_of(row.0)?), &OpenGate)?;
+    expect_answer(rt, number, &answer, row)?;
+    expect_entered(rt, number, worker, row.4);
     Ok(())
 }
 
@@ -179,6 +195,38 @@ fn handle_rows<R: Abort + Wait>(
     Ok(())
 }
 
+/// Handles posts by a worker over these accounts, and gives how many seats it hands back.
+fn handle_over<R: Abort + Wait>(
+    rt: &R,
+    alloc: Global,
+    setup: &RunSetup,
+    accounts: &[SharedAccount],
+    seats: Vec<Seat>,
+    rows: &[Row],
+) -> Result<usize, Fail>
+    requires setup { keys_of setup.now.accounts ≡ 7 ∷ [] }
+    requires account { map (λ account. account.number) accounts.now ≡ 7 ∷ [] }
+    requires seat { seats.items ≡ record { account = 7; number = 1; mine = [] } ∷ [] }
+{
+    let mut worker = Worker::new(alloc, 1, setup, accounts, seats)?;
+    handle_rows(rt, &mut worker, rows)?;
+    Ok(worker.finish().len())
+}
+
+/// Handles posts by a worker of a setup, over a history of this limit.
+fn handle_with<R: Abort + Wait>(
+    rt: &R,
+    alloc: Global,
+    setup: &RunSetup,
+    limit: u32,
+    rows: &[Row],
+) -> Result<usize, Fail>
+    requires { keys_of setup.now.accounts ≡ 7 ∷ [] }
+{
+    let (account, seats) = account_seven(rt, alloc, limit)?;
+    handle_over(rt, alloc, setup, &[account], seats, rows)
+}
+
 /// Handles posts by one worker, over a history of this limit, and gives how many seats it hands
 /// back.
 fn handle_all<R: Abort + Wait>(
@@ -188,11 +236,7 @@ fn handle_all<R: Abort + Wait>(
     rows: &[Row],
 ) -> Result<usize, Fail> {
     let setup = set_up_seven(rt, alloc, limit)?;
-    let (account, seats) = account_seven(rt, alloc, limit)?;
-    let accounts = [account];
-    let mut worker = Worker::new(alloc, 1, &setup, &accounts, seats)?;
-    handle_rows(rt, &mut worker, rows)?;
-    Ok(worker.finish().len())
+    handle_with(rt, alloc, &setup, limit, rows)
 }
 
 #[test]
@@ -220,6 +264,39 @@ fn fault_of<R: Wait>(
     worker.handle(rt, post(1, second?), gate).err()
 }
 
+/// Why a new worker over these accounts gives up past a gate.
+fn fault_over<R: Abort + Wait>(
+    rt: &R,
+    alloc: Global,
+    setup: &RunSetup,
+    accounts: &[SharedAccount],
+    seats: Vec<Seat>,
+    gate: &Shutting,
+    round: Round,
+) -> Result<Option<WorkerFault>, Fail>
+    requires setup { keys_of setup.now.accounts ≡ 7 ∷ [] }
+    requires account { map (λ account. account.number) accounts.now ≡ 7 ∷ [] }
+    requires seat { seats.items ≡ record { account = 7; number = 1; mine = [] } ∷ [] }
+{
+    let (first, second) = bodies_of_round(round)?;
+    let mut worker = Worker::new(alloc, 1, setup, accounts, seats)?;
+    Ok(fault_of(rt, &mut worker, gate, first, second))
+}
+
+/// Why a new worker of a setup gives up past a gate.
+fn fault_with<R: Abort + Wait>(
+    rt: &R,
+    alloc: Global,
+    setup: &RunSetup,
+    gate: &Shutting,
+    round: Round,
+) -> Result<Option<WorkerFault>, Fail>
+    requires { keys_of setup.now.accounts ≡ 7 ∷ [] }
+{
+    let (account, seats) = account_seven(rt, alloc, 1000)?;
+    fault_over(rt, alloc, setup, &[account], seats, gate, round)
+}
+
 /// Why a new worker gives up past a gate.
 fn fault_past<R: Abort + Wait>(
     rt: &R,
@@ -227,12 +304,8 @@ fn fault_past<R: Abort + Wait>(
     gate: &Shutting,
     round: Round,
 ) -> Result<Option<WorkerFault>, Fail> {
-    let (first, second) = bodies_of_round(round)?;
     let setup = set_up_seven(rt, alloc, 1000)?;
-    let (account, seats) = account_seven(rt, alloc, 1000)?;
-    let accounts = [account];
-    let mut worker = Worker::new(alloc, 1, &setup, &accounts, seats)?;
-    Ok(fault_of(rt, &mut worker, gate, first, second))
+    fault_with(rt, alloc, &setup, gate, round)
 }
 
 const CLOSED: Option<WorkerFault> = Some(WorkerFault::GateClosed);
@@ -265,13 +338,20 @@ const GATES: [GateRow; 11] = [
     ),
 ];
 
+/// Handles posts past a gate, and compares the fault and how often the gate was asked.
+fn expect_gate<R: Abort + Wait>(rt: &R, alloc: Global, row: &GateRow) -> Result<(), Fail> {
+    let &(before, inside, round, fault, counts) = row;
+    let gate = Shutting::new(before, inside);
+    let met = fault_past(rt, alloc, &gate, round)?;
+    let found = (met, gate.counts());
+    gives(rt, &(before, inside), &found, &(fault, counts));
+    Ok(())
+}
+
 #[test]
 fn gates_are_asked_for_calls_alone(rt: HostRuntime) -> Result<(), Fail> {
-    for &(before, inside, round, fault, counts) in &GATES {
-        let gate = Shutting::new(before, inside);
-        let met = fault_past(&rt, rt.alloc(), &gate, round)?;
-        let found = (met, gate.counts());
-        gives(&rt, &(before, inside), &found, &(fault, counts));
+    for row in &GATES {
+        expect_gate(&rt, rt.alloc(), row)?;
     }
     Ok(())
 }
