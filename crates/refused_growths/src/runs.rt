@@ -7,10 +7,10 @@ use crate::forms::NUMBER;
 use crate::outcome::{Course, Outcome, expect};
 use crate::service::{SWITCH, answered, begun, hung_up, last_report, of_call, ops_for};
 use crate::workers::{lasting, set_up};
-use account_core::{AccountFault, Reply};
+use account_core::{AccountFault, Entry, Reply};
 use cap_values::SsfMsg;
 use run_texts::read_script;
-use run_values::{Answer, Body, Directory, Driver};
+use run_values::{Answer, Body, Directory, Driver, RunSetup};
 use runs_core::{handled, serve};
 use script_player::ScriptPlayer;
 use shared_account::{Book, OpenGate};
@@ -60,9 +60,26 @@ pub(crate) fn serves<R: Wait + Threads + Sync>(rt: &R, alloc: Global) -> Course 
         player: player(alloc)?,
         refused: None,
     };
-    let books = serve(rt, alloc, &setup, &mut hearing, 2, &OpenGate)?;
-    expect(are_handled(alloc, &hearing)?)?;
-    outcome_of(books.as_slice(), hearing.refused)
+    serves_heard(rt, alloc, &setup, &mut hearing)
+}
+
+/// Serves a script that is heard.
+fn serves_heard<R: Wait + Threads + Sync>(
+    rt: &R,
+    alloc: Global,
+    setup: &RunSetup,
+    hearing: &mut Hearing,
+) -> Course
+    requires { hearing.old.player.network.given ≡ [] }
+{
+    let books = serve(rt, alloc, setup, hearing, 2, &OpenGate)?;
+    outcome_heard(alloc, hearing, books.as_slice())
+}
+
+/// The two workers have had all posts, and the books are right.
+fn outcome_heard(alloc: Global, hearing: &Hearing, books: &[Book]) -> Course {
+    expect(are_handled(alloc, hearing)?)?;
+    outcome_of(books, hearing.refused)
 }
 
 /// Whether the two workers have as many posts as were given.
@@ -126,12 +143,18 @@ fn outcome_of(books: &[Book], refused: Option<AccountFault>) -> Course {
         expect(refused == Some(AccountFault::OutOfMemory))?;
         return Ok(Outcome::Refused);
     }
-    expect(refused.is_none())?;
-    expect(entries.len() == REPLIES.len())?;
-    for (entry, reply) in entries.iter().zip(&REPLIES) {
-        expect(entry.reply == *reply)?;
-    }
+    expect(refused.is_none() && have_replies(entries))?;
     Ok(Outcome::Answered)
+}
+
+/// Whether entries have the replies to that call.
+fn have_replies(entries: &[Entry]) -> bool {
+    for (entry, reply) in entries.iter().zip(&REPLIES) {
+        if entry.reply != *reply {
+            return false;
+        }
+    }
+    entries.len() == REPLIES.len()
 }
 
 /// What the service answers to the items from this place on.

@@ -1,6 +1,6 @@
 //! A mailbox, a setup, and a worker over account 7.
 
-ghost use Rattle.std.specs.Prelude.{◌≡◌, ◌∷◌, [], IfOk, IsTrue, OnOk};
+ghost use Rattle.std.specs.Prelude.{◌≡◌, ◌∷◌, [], IfOk, IsTrue, OnOk, map};
 ghost use Rattle.std.specs.Map.{keys_of};
 ghost use Rattle.locked_account.specs.Seats.{seat_reads};
 ghost use Rattle.workers_core.specs.Workers.{IsReady};
@@ -240,15 +240,37 @@ fn is_released(handled: Outcome, row: &Row) -> bool {
     handled == Outcome::Refused && matches!(row.refused, Some(Says::Releases))
 }
 
-/// Handles posts by one worker, and is handed back its seat.
-fn handle_all<R: Wait>(rt: &R, alloc: Global, rows: &[Row]) -> Course {
-    let setup = set_up(alloc)?;
-    let (account, seats) = account_seven(rt, alloc)?;
-    let accounts = [account];
-    let mut worker = Worker::new(alloc, 1, &setup, &accounts, seats)?;
+/// Handles posts by a worker over these accounts, and is handed back its seat.
+fn handle_over<R: Wait>(
+    rt: &R,
+    alloc: Global,
+    setup: &RunSetup,
+    accounts: &[SharedAccount],
+    seats: Vec<Seat>,
+    rows: &[Row],
+) -> Course
+    requires setup { keys_of setup.now.accounts ≡ 7 ∷ [] }
+    requires account { map (λ account. account.number) accounts.now ≡ 7 ∷ [] }
+    requires seat { seats.items ≡ record { account = 7; number = 1; mine = [] } ∷ [] }
+{
+    let mut worker = Worker::new(alloc, 1, setup, accounts, seats)?;
     let outcome = handle_rows(rt, &mut worker, rows)?;
     expect(worker.finish().len() == 1)?;
     Ok(outcome)
+}
+
+/// Handles posts by a worker of a setup.
+fn handle_with<R: Wait>(rt: &R, alloc: Global, setup: &RunSetup, rows: &[Row]) -> Course
+    requires { keys_of setup.now.accounts ≡ 7 ∷ [] }
+{
+    let (account, seats) = account_seven(rt, alloc)?;
+    handle_over(rt, alloc, setup, &[account], seats, rows)
+}
+
+/// Handles posts by one worker, and is handed back its seat.
+fn handle_all<R: Wait>(rt: &R, alloc: Global, rows: &[Row]) -> Course {
+    let setup = set_up(alloc)?;
+    handle_with(rt, alloc, &setup, rows)
 }
 
 /// Makes a worker, which is given nothing.
