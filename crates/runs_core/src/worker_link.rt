@@ -177,8 +177,14 @@ impl<S: Shared, G: Gate> WorkerLink<'_, S, G> {
         let _ = outbox.send_mail(rt, Mail::Close);
         match child.join(rt) {
             Ok(finished) => {
-                compare_all(rt, outbox, finished.inbox, finished.outbox, inbox)?;
-                left.push(finished.seats)?;
+                let Finished {
+                    seats,
+                    inbox: posts,
+                    outbox: answers,
+                } = finished;
+                compare_all(rt, outbox, posts, answers, inbox)?;
+                left.reserve(1)?;
+                left.push_reserved(seats);
                 Ok(())
             }
             Err(why) => {
