@@ -94,8 +94,8 @@ pub(crate) fn start<'s, E, S: Shared, R: Wait + Threads + Sync, G: Gate + Sync>(
             awaits: false,
             child,
         }),
-        Err(_) => {
-            // Dropped by name, they make the proof shorter.
+        Err(_refused) => {
+            // Bound, and the others dropped by name, they make the proof shorter.
             drop(inbox);
             drop(outbox);
             Err(RunFault::Thread)
