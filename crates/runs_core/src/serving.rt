@@ -177,7 +177,6 @@ fn run_in<'s, E, D: Driver, S: Shared, R: Wait + Threads + Sync, G: Gate + Sync>
     ensures fault { MayAskGate (G.may_shut gate.now) result }
 {
     let mut left = Vec::with_capacity(alloc, teams.len())?;
-    let links = Vec::with_capacity(alloc, teams.len())?;
     let mut teams = teams.into_iter();
     let Some(team) = teams.next() else {
         unreachable!()
@@ -185,7 +184,7 @@ fn run_in<'s, E, D: Driver, S: Shared, R: Wait + Threads + Sync, G: Gate + Sync>
     let mut crew = Crew {
         worker: Worker::new(alloc, 0, setup, accounts, team)?,
         failed: None,
-        links,
+        links: Vec::new(alloc),
     };
     let ran = start_and_play(
         scope, rt, alloc, setup, accounts, teams, driver, gate, &mut crew,
@@ -223,7 +222,7 @@ fn start_and_play<'s, E, D: Driver, S: Shared, R: Wait + Threads + Sync, G: Gate
     alloc: Global,
     setup: &'s RunSetup,
     accounts: &'s [S],
-    teams: IntoIter<Vec<S::Seat>>,
+    mut teams: IntoIter<Vec<S::Seat>>,
     driver: &mut D,
     gate: &'s G,
     crew: &mut Crew<'s, S, G>,
@@ -254,7 +253,7 @@ fn start_and_play<'s, E, D: Driver, S: Shared, R: Wait + Threads + Sync, G: Gate
         alloc,
         setup,
         accounts,
-        teams,
+        &mut teams,
         gate,
         &mut crew.links,
     )?;

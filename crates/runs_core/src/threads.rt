@@ -24,25 +24,26 @@ pub(crate) fn start_all<'s, E, S: Shared, R: Wait + Threads + Sync, G: Gate + Sy
     alloc: Global,
     setup: &'s RunSetup,
     accounts: &'s [S],
-    teams: IntoIter<Vec<S::Seat>>,
+    teams: &mut IntoIter<Vec<S::Seat>>,
     gate: &'s G,
     links: &mut Vec<WorkerLink<'s, S, G>>,
 ) -> Result<(), RunFault>
     requires numbered { map (number_by S.terms) accounts.now ≡ keys_of setup.now.accounts }
     requires fresh { AreFresh S.reads
-        (map S.key accounts.now) 1 (map (λ team. team.items) (into_iter_items teams)) }
-    requires few { length (into_iter_items teams) < 16 }
+        (map S.key accounts.now) 1 (map (λ team. team.items) (into_iter_items teams.old)) }
+    requires few { length (into_iter_items teams.old) < 16 }
     requires none { links.old.items ≡ [] }
-    ensures count { OnOk result (length links.new.items ≡ length (into_iter_items teams)) }
+    ensures count { OnOk result (length links.new.items ≡ length (into_iter_items teams.old)) }
     ensures silent { All (λ link. sent_by link ≡ []) links.new.items }
     ensures unheard { All (λ link. heard_by link ≡ []) links.new.items }
     ensures promised { ArePromised setup.now accounts.now gate.now 1 (promises_of links.new.items) }
     ensures fault { AsksNoGate result }
 {
+    links.reserve_exact(teams.len())?;
     let mut number = 1;
-    for team in teams {
+    while let Some(team) = teams.next() {
         let link = start(scope, rt, alloc, number, setup, accounts, team, gate)?;
-        links.push(link)?;
+        links.push_reserved(link);
         number += 1;
     }
     Ok(())
