@@ -19,7 +19,6 @@ use std::vec::IntoIter;
 use workers_core::Worker;
 
 /// The workers of a run: the main thread serves the first itself, and each other has a thread.
-#[derive(Drop)]
 pub(crate) struct Crew<'s, S: Shared, G: Gate> {
     /// The first worker.
     pub worker: Worker<'s, S>,

@@ -64,11 +64,14 @@ pub(crate) fn finish_all<S: Shared, R: Wait + Threads, G: Gate>(
     ensures fault { MayAskGate (MayBeShut G.may_shut (promises_of links.entry.items)) result }
 {
     let mut fault = None;
-    for link in links {
+    // A `for` takes only what can be dropped.
+    let mut links = links.into_iter();
+    while let Some(link) = links.next() {
         if let Err(why) = link.finish(rt, left) {
             fault = fault.or(Some(why));
         }
     }
+    links.destroy_empty();
     match fault {
         None => Ok(()),
         Some(why) => Err(why),

@@ -29,8 +29,8 @@ const MAILBOX: u32 = 2;
 type Mailbox<T> = (Outbox<Vec<T>>, Inbox<Vec<T>>);
 
 /// A worker's link: the mailbox of its posts, that of its answers, and its thread. At most one
-/// round is on its way, so neither end ever waits for room.
-#[derive(Drop)]
+/// round is on its way, so neither end ever waits for room. A link can't be dropped: each worker is
+/// waited for.
 pub(crate) struct WorkerLink<'s, S: Shared, G: Gate> {
     pub outbox: Outbox<Vec<Post>>,
     pub inbox: Inbox<Vec<Answer>>,
@@ -171,8 +171,8 @@ impl<S: Shared, G: Gate> WorkerLink<'_, S, G> {
         let WorkerLink {
             mut outbox,
             inbox,
+            awaits: _,
             child,
-            ..
         } = self;
         let _ = outbox.send_mail(rt, Mail::Close);
         match child.join(rt) {
