@@ -53,43 +53,44 @@ shut_by may_shut setup accounts gate number (promise ∷ promises) promised (inl
 shut_by may_shut setup accounts gate number (promise ∷ promises) promised (inr later) = shut_by may_shut setup accounts gate (number + 1) promises promised.1 later
 
 -- the workers before a place have left, or some have failed
-pub record IsFinishing {K S G T : Type 0} (read : Reads K T) (key : S → K) (Was : T → Knowing) (may_shut : G → Type 0) (links rest : List (WorkerLink S G T)) (teams : List (List T)) (fault : Option RunFault) : Type 0 where
+pub record IsFinishing {K S G T : Type 0} (read : Reads K T) (key : S → K) (Was : T → Knowing) (may_shut : G → Type 0) (links rest : List (WorkerLink S G T)) (old teams : List (List T)) (fault : Option RunFault) : Type 0 where
   pub done : List (WorkerLink S G T)
   pub split : done ++ rest ≡ links
-  pub left_by : fault ≡ None → AreLeftBy read key Was done teams
+  pub left_by : fault ≡ None → (later : List (List T)) × (teams ≡ old ++ later) × AreLeftBy read key Was done later
   pub shut : fault ≡ Some out.GateClosed → MayBeShut may_shut (promises_of done)
   pub workers : fault ≢ Some out.Workers
   pub first : IfSome fault (λ why. IsFirstFault read key Was may_shut links why)
 
-pub none_finished : {K S G T : Type 0} (read : Reads K T) (key : S → K) (Was : T → Knowing) (may_shut : G → Type 0) (links rest : List (WorkerLink S G T)) (teams : List (List T)) → rest ≡ links → teams ≡ []
-    → IsFinishing read key Was may_shut links rest teams None
-none_finished {G = G} read key Was may_shut links rest teams whole none = record {
+pub none_finished : {K S G T : Type 0} (read : Reads K T) (key : S → K) (Was : T → Knowing) (may_shut : G → Type 0) (links rest : List (WorkerLink S G T)) (teams : List (List T)) → rest ≡ links
+    → IsFinishing read key Was may_shut links rest teams teams None
+none_finished read key Was may_shut links rest teams whole = record {
   done = [];
   split = whole;
-  left_by = λ _. subst (AreLeftBy {G = G} read key Was []) (sym none) tt;
+  left_by = λ _. ([], sym (append-nil teams), tt);
   shut = λ never. absurd (cc);
   workers = λ never. absurd (cc);
   first = tt;
 }
 
 -- one more has left
-pub one_finished : {K S G T : Type 0} (read : Reads K T) (key : S → K) (Was : T → Knowing) (may_shut : G → Type 0) (links rest : List (WorkerLink S G T)) (teams more : List (List T)) (fault : Option RunFault) (link : WorkerLink S G T) (team : List T)
-    → IsFinishing read key Was may_shut links (link ∷ rest) teams fault → more ≡ teams ++ team ∷ [] → IsLeftBy read key Was link team
-    → IsFinishing read key Was may_shut links rest more fault
-one_finished read key Was may_shut links rest teams more fault link team before grown is = record {
+pub one_finished : {K S G T : Type 0} (read : Reads K T) (key : S → K) (Was : T → Knowing) (may_shut : G → Type 0) (links rest : List (WorkerLink S G T)) (old teams more : List (List T)) (fault : Option RunFault) (link : WorkerLink S G T) (team : List T)
+    → IsFinishing read key Was may_shut links (link ∷ rest) old teams fault → more ≡ teams ++ team ∷ [] → IsLeftBy read key Was link team
+    → IsFinishing read key Was may_shut links rest old more fault
+one_finished read key Was may_shut links rest old teams more fault link team before grown is = record {
   done = before.done ++ link ∷ [];
   split = append_assoc before.done (link ∷ []) rest ∙ before.split;
-  left_by = λ none. subst (AreLeftBy read key Was (before.done ++ link ∷ [])) (sym grown) (left_more read key Was before.done teams link team (before.left_by none) is);
+  left_by = λ none. let (later, are, by) = before.left_by none in
+      (later ++ team ∷ [], grown ∙ ap (λ all. all ++ team ∷ []) are ∙ append_assoc old later (team ∷ []), left_more read key Was before.done later link team by is);
   shut = λ closed. rw (map-append (λ l. l.child.promise) before.done (link ∷ [])) (shut_more may_shut (promises_of before.done) link.child.promise (before.shut closed));
   workers = before.workers;
   first = before.first;
 }
 
 -- one more has failed
-pub one_failed : {K S G T : Type 0} (read : Reads K T) (key : S → K) (Was : T → Knowing) (may_shut : G → Type 0) (links rest : List (WorkerLink S G T)) (teams more : List (List T)) (fault : Option RunFault) (link : WorkerLink S G T) (why : RunFault)
-    → IsFinishing read key Was may_shut links (link ∷ rest) teams fault → (why ≡ out.GateClosed → may_shut link.child.promise.gate.now) → why ≢ out.Workers
-    → IsFinishing read key Was may_shut links rest more (option_or fault (Some why))
-one_failed read key Was may_shut links rest teams more None link why before shut named = record {
+pub one_failed : {K S G T : Type 0} (read : Reads K T) (key : S → K) (Was : T → Knowing) (may_shut : G → Type 0) (links rest : List (WorkerLink S G T)) (old teams more : List (List T)) (fault : Option RunFault) (link : WorkerLink S G T) (why : RunFault)
+    → IsFinishing read key Was may_shut links (link ∷ rest) old teams fault → (why ≡ out.GateClosed → may_shut link.child.promise.gate.now) → why ≢ out.Workers
+    → IsFinishing read key Was may_shut links rest old more (option_or fault (Some why))
+one_failed read key Was may_shut links rest old teams more None link why before shut named = record {
   done = before.done ++ link ∷ [];
   split = append_assoc before.done (link ∷ []) rest ∙ before.split;
   left_by = λ none. absurd (cc);
@@ -101,12 +102,12 @@ one_failed read key Was may_shut links rest teams more None link why before shut
     failed = link;
     after = rest;
     split = before.split;
-    teams = teams;
-    have_left = before.left_by refl;
+    teams = (before.left_by refl).0;
+    have_left = (before.left_by refl).2;
     shut = shut;
   };
 }
-one_failed read key Was may_shut links rest teams more (Some first) link why before shut named = record {
+one_failed read key Was may_shut links rest old teams more (Some first) link why before shut named = record {
   done = before.done ++ link ∷ [];
   split = append_assoc before.done (link ∷ []) rest ∙ before.split;
   left_by = λ none. absurd (cc);
@@ -132,10 +133,10 @@ own_err (Ok done) closed workers = ((λ never. absurd (cc)), λ never. absurd (c
 own_err (Err why) closed workers = ((λ is. let same : why ≡ out.GateClosed = cc in closed (ap Err same)), λ is. let same : why ≡ out.Workers = cc in workers (ap Err same))
 
 -- all have left
-pub all_finished : {K S G T : Type 0} (read : Reads K T) (key : S → K) (Was : T → Knowing) (may_shut : G → Type 0) (links rest : List (WorkerLink S G T)) (teams : List (List T)) (fault : Option RunFault)
-    → length rest ≡ 0 → (finishing : IsFinishing read key Was may_shut links rest teams fault) → finishing.done ≡ links
-all_finished read key Was may_shut links [] teams fault none finishing = sym (append-nil finishing.done) ∙ finishing.split
-all_finished read key Was may_shut links (link ∷ rest) teams fault none finishing = absurd (cc)
+pub all_finished : {K S G T : Type 0} (read : Reads K T) (key : S → K) (Was : T → Knowing) (may_shut : G → Type 0) (links rest : List (WorkerLink S G T)) (old teams : List (List T)) (fault : Option RunFault)
+    → length rest ≡ 0 → (finishing : IsFinishing read key Was may_shut links rest old teams fault) → finishing.done ≡ links
+all_finished read key Was may_shut links [] old teams fault none finishing = sym (append-nil finishing.done) ∙ finishing.split
+all_finished read key Was may_shut links (link ∷ rest) old teams fault none finishing = absurd (cc)
 
 left_as : {K S G T : Type 0} (read : Reads K T) (key : S → K) (Was : T → Knowing) (setup : Setup) (accounts : List S) (gate : G) (number : ℕ) (link : WorkerLink S G T) (team : List T)
     → IsPromised setup accounts gate number link.child.promise → IsLeftBy read key Was link team → IsLeft read Was (map key accounts) setup number (sent_by link) (map answer_view (heard_by link)) team

@@ -194,9 +194,9 @@ fn run_in<'s, E, D: Driver, S: Shared, R: Wait + Threads + Sync, G: Gate + Sync>
         failed,
         links,
     } = crew;
+    left.push_reserved(worker.finish());
     let finished = finish_all(rt, links, &mut left);
     first_fault(failed, finished, ran)?;
-    left.insert(0, worker.finish())?;
     Ok(left)
 }
 

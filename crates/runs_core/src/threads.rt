@@ -1,6 +1,6 @@
 //! The workers of a run are started, and waited for.
 
-ghost use Rattle.std.specs.Prelude.{◌≡◌, ◌<◌, [], length, map, All, IfErr, OnOk};
+ghost use Rattle.std.specs.Prelude.{◌≡◌, ◌<◌, ◌++◌, [], length, map, All, IfErr, OnOk, List};
 ghost use Rattle.std.specs.Map.{keys_of};
 ghost use Rattle.std.specs.Vec.Iter.{into_iter_items};
 ghost use Rattle.runs_core.specs.RunFaults.{AsksNoGate, MayAskGate};
@@ -49,16 +49,17 @@ pub(crate) fn start_all<'s, E, S: Shared, R: Wait + Threads + Sync, G: Gate + Sy
     Ok(())
 }
 
-/// Waits for all workers to end, after a last mail to each, and puts down what each leaves. The
-/// fault is that of the failed worker with the least number.
+/// Waits for all workers to end, after a last mail to each, and puts down what each leaves, behind
+/// what is there. The fault is that of the failed worker with the least number.
 pub(crate) fn finish_all<S: Shared, R: Wait + Threads, G: Gate>(
     rt: &R,
     links: Vec<WorkerLink<'_, S, G>>,
     left: &mut Vec<Vec<S::Seat>>,
 ) -> Result<(), RunFault>
-    requires none { left.old.items ≡ [] }
-    ensures left { OnOk result (AreLeftBy S.reads S.key S.was
-        links.entry.items (map (λ team. team.items) left.new.items)) }
+    ensures left { OnOk result ((teams : List (List S.Seat))
+        × (map (λ team. team.items) left.new.items
+        ≡ map (λ team. team.items) left.old.items ++ teams)
+        × AreLeftBy S.reads S.key S.was links.entry.items teams) }
     ensures first { IfErr result (λ fault. IsFirstFault S.reads S.key S.was
         G.may_shut links.entry.items fault) }
     ensures fault { MayAskGate (MayBeShut G.may_shut (promises_of links.entry.items)) result }

@@ -1,4 +1,4 @@
-use Rattle.std.proofs.Common.{map, rules, sym, ◌∙◌}
+use Rattle.std.proofs.Common.{◌≡◌, ◌++◌, ◌∷◌, [], ap, arith, map, rules, sym, ◌∙◌}
 use Rattle.runs_core.proofs.Finishing.{shut_by}
 use Rattle.runs_core.proofs.FirstFaults.{finished_well, gate_of, ran_well}
 use Rattle.runs_core.proofs.WorkerLemmas.{begins}
@@ -29,6 +29,12 @@ returns-clause-left g c =
     let is = sym c.first_fault.ensures.exact ∙ c.in_ok-first_fault.was in
     let ran = ran_well _ c.finish_all-finished.result c.start_and_play-ran.result _ is in
     let (_, finished) = finished_well _ c.finish_all-finished.result c.start_and_play-ran.result _ is in
-    rw (c.in_ok-insert.ensures.items)
+    let by = rw finished at c.finish_all-finished.ensures.left in
+    let first = c.push_reserved.ensures.items ∙ ap (λ before. before ++ c.finish.result ∷ []) c.in_ok-left.ensures.items in
+    let all : map (λ team. team.items) c.finish_all-finished.new.left.items ≡ c.finish.result.items ∷ by.0 = by.1 ∙ ap (λ before. map (λ team. team.items) before ++ by.0) first in
+    rw (all)
     (has_left g.D.Driver.given g.D.Driver.ended g.D.Driver.hears (number_by g.S.Shared.terms) g.S.Shared.key g.S.Shared.reads g.S.Shared.was c.args.setup.now c.args.accounts.now c.args.gate.now
-    _ _ _ c.finish.result.items _ _ (rw ran at c.start_and_play-ran.ensures.played) c.finish.ensures c.start_and_play-ran.ensures.promised (rw finished at c.finish_all-finished.ensures.left) (search rules))
+    _ _ _ c.finish.result.items by.0 _ (rw ran at c.start_and_play-ran.ensures.played) c.finish.ensures c.start_and_play-ran.ensures.promised by.2 (search rules))
+
+pub push_reserved-requires : goal.push_reserved-requires
+push_reserved-requires g c = omega (arith, c.in_ok-left.ensures.len, c.in_ok-left.ensures.capacity, c.len.ensures, c.requires.some, c.args.teams.ok)
