@@ -191,7 +191,7 @@ pub(crate) fn answer_all<S: Shared, R: Wait, G: Gate>(
 {
     let mut answers = Vec::with_capacity(alloc, posts.len())?;
     for post in posts {
-        answers.push(worker.handle(rt, post, gate)?)?;
+        answers.push_reserved(worker.handle(rt, post, gate)?);
     }
     Ok(answers)
 }

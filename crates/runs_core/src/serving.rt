@@ -307,7 +307,7 @@ fn close_each<S: Shared>(
         let Some(seats) = rows_left.next() else {
             unreachable!()
         };
-        books.push(close(account, seats)?)?;
+        books.push_reserved(close(account, seats)?);
     }
     Ok(books)
 }

@@ -6,6 +6,11 @@ use Rattle.runs_core.proofs.Shifting.{empty_by}
 use Rattle.runs_core.specs.Closing.{AreBooksOfSeats}
 use Rattle.runs_core.proofs.serving.close_each.Goals as goal
 
+pub loop-account-init : goal.loop-account-init
+loop-account-init g c =
+    rw (c.into_iter-account-iterator.ensures.into_iter_gives.0, c.into_iter-rows_left.ensures.rest, c.in_ok-books.ensures.items)
+    (c.requires.rows, λ later are. are, c.requires.all, omega (arith, c.in_ok-books.ensures.len, c.in_ok-books.ensures.capacity, c.len.ensures, c.args.accounts.ok))
+
 pub loop-account-preserved : goal.loop-account-preserved
 loop-account-preserved g c =
     let rows : into_iter_items c.loop-account.rows_left ≡ c.in-Some-next.seats ∷ into_iter_items c.next-in-loop-account.new.self = search rules in
@@ -13,12 +18,18 @@ loop-account-preserved g c =
     let book = c.in_ok-close.field-0 in
     let done : List Closed → Type 0 = λ later. AreBooksOfSeats g.S.Shared.reads g.S.Shared.was g.S.Shared.stood (map g.S.Shared.terms c.args.accounts.items) (map (λ row. row.items) c.args.rows.items) (c.loop-account.books.items ++ later) in
     let more = subst (λ seats. (later : List Closed) → AreBooksOfSeats g.S.Shared.reads g.S.Shared.was g.S.Shared.stood (g.S.Shared.terms c.in-Some.account ∷ map g.S.Shared.terms (into_iter_items c.next.new.self)) (map (λ row. row.items) seats) later → done later) rows before.1 in
-    rw (c.in_ok-push.ensures.items) (
+    rw (c.push_reserved.ensures.items) (
       before.0.1,
       λ later are. subst (AreBooksOfSeats g.S.Shared.reads g.S.Shared.was g.S.Shared.stood (map g.S.Shared.terms c.args.accounts.items) (map (λ row. row.items) c.args.rows.items))
           (sym (append_assoc c.loop-account.books.items (book ∷ []) later)) (more (book ∷ later) (c.in_ok-close.ensures.book, c.in_ok-close.ensures.shows, are)),
       before.2.1,
+      omega (arith, before.3, c.push_reserved.ensures.len, c.push_reserved.ensures.capacity),
     )
+
+pub push_reserved-requires : goal.push_reserved-requires
+push_reserved-requires g c =
+    let before = rw c.in-Some.ensures.steps.0 at c.loop-account.invariant in
+    omega (arith, before.3)
 
 pub returns-clause-books : goal.returns-clause-books
 returns-clause-books g c =

@@ -1,4 +1,5 @@
-use Rattle.std.proofs.Common.{◌++◌, List, map}
+use Rattle.std.proofs.Common.{◌+◌, ◌++◌, ◌≤◌, List, length, map}
+use Rattle.std.specs.Vec.{vec_capacity, vec_len}
 use Rattle.std.specs.Vec.Iter.{into_iter_items}
 use Rattle.shared_account.specs.Closed.{Closed}
 use Rattle.runs_core.specs.Closing.{AreAllThere, AreBooksOfSeats, AreSeatsOf}
@@ -11,3 +12,4 @@ invariant-loop-account g l =
     × ((later : List Closed) → AreBooksOfSeats g.S.Shared.reads g.S.Shared.was g.S.Shared.stood (map g.S.Shared.terms (into_iter_items l.account-iterator)) (map (λ row. row.items) (into_iter_items l.rows_left)) later
     → AreBooksOfSeats g.S.Shared.reads g.S.Shared.was g.S.Shared.stood (map g.S.Shared.terms l.fn.accounts.items) (map (λ row. row.items) l.fn.rows.items) (l.books.items ++ later))
     × AreAllThere (map (λ account. (g.S.Shared.terms account).seats) (into_iter_items l.account-iterator)) (map (λ row. map g.S.Shared.reads.number row.items) (into_iter_items l.rows_left))
+    × (vec_len l.books + length (into_iter_items l.account-iterator) ≤ vec_capacity l.books)
