@@ -1,5 +1,5 @@
 -- The fault that a run ends with, of those of its workers and its own.
-use Rattle.std.proofs.Common.{◌≡◌, ◌≢◌, Option, Some, None, refl, rules}
+use Rattle.std.proofs.Common.{◌≡◌, Option, Some, None, refl, rules}
 use Rattle.std.specs.Prelude.{Err, IfSome, Ok, Result}
 use Rattle.runs_core.specs.RunFaults.{MayAskGate, ended_by}
 use Rattle.run_values.specs.declared.run_fault.RunFault.{RunFault}
