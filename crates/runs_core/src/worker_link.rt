@@ -28,9 +28,8 @@ const MAILBOX: u32 = 2;
 /// The two ends of a mailbox of lists.
 type Mailbox<T> = (Outbox<Vec<T>>, Inbox<Vec<T>>);
 
-/// A worker's link: the mailbox of its posts, that of its answers, and its thread. At most one
-/// round is on its way, so neither end ever waits for room. A link can't be dropped: each worker is
-/// waited for.
+/// A worker's link: the mailboxes of its posts and its answers, and its thread. At most one round
+/// is on its way, so no end waits for room. It can't be dropped: each worker is waited for.
 pub(crate) struct WorkerLink<'s, S: Shared, G: Gate> {
     pub outbox: Outbox<Vec<Post>>,
     pub inbox: Inbox<Vec<Answer>>,
@@ -229,8 +228,7 @@ fn take_last<R: Wait>(rt: &R, inbox: &mut Inbox<Vec<Answer>>) -> Result<(), RunF
     }
 }
 
-/// Handles the posts of a worker up to the last mail, and gives its seats and its ends back. After
-/// a fault its ends are gone.
+/// Handles a worker's posts up to the last mail, and gives back its seats and its ends, or a fault.
 fn work<S: Shared, R: Wait, G: Gate>(
     rt: &R,
     alloc: Global,
@@ -279,8 +277,7 @@ fn work<S: Shared, R: Wait, G: Gate>(
     }
 }
 
-/// Handles the posts of a worker, round by round up to the last mail, answers each round, and gives
-/// the worker's seats.
+/// Handles the posts of each round up to the last mail, answers them, and gives the worker's seats.
 fn serve_posts<S: Shared, R: Wait, G: Gate>(
     rt: &R,
     alloc: Global,
@@ -363,8 +360,7 @@ fn answer_posts<S: Shared, R: Wait, G: Gate>(
     Ok(())
 }
 
-/// What a worker's thread gives back after its last mail: the worker's seats, one of each account,
-/// and its ends of the two mailboxes.
+/// What a worker's thread gives back: a seat of each account, and its ends of the two mailboxes.
 #[derive(Drop)]
 pub(crate) struct Finished<S: Shared> {
     pub seats: Vec<S::Seat>,
@@ -372,9 +368,8 @@ pub(crate) struct Finished<S: Shared> {
     pub outbox: Outbox<Vec<Answer>>,
 }
 
-/// What the thread of a worker promises: it has handled just the posts that it took, up to a Close,
-/// its seats are those that it was given, with the entries that its posts made, and it has sent
-/// their answers.
+/// What a worker's thread promises: it has handled just the posts that it took, up to a Close, its
+/// seats are those that it was given, with the entries of its posts, and it has sent the answers.
 #[derive(Drop)]
 pub(crate) struct WorkerPromise<'s, S: Shared, G: Gate> {
     pub number: u32,

@@ -99,7 +99,7 @@ fn prices_times(rt: &impl Abort, plan: &Plan, rows: &[(u32, u32, u64)]) {
     }
 }
 
-/// Looks at how many of so many units each amount of money affords.
+/// Looks at how many of the units that are wanted each amount of money affords.
 fn affords_units(rt: &impl Abort, plan: &Plan, wanted: u32, rows: &[(u64, u32)]) {
     for &(money, want) in rows {
         let units = afford(plan, Times::ZERO, wanted, money);
