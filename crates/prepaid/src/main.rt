@@ -54,11 +54,7 @@ fn main(rt: HostRuntime) -> ExitCode {
 fn words(rt: &HostRuntime) -> io::Result<Vec<String>> {
     let alloc = rt.alloc();
     let mut words: Vec<String> = env::args(rt)?.skip(1).collect(alloc)?;
-    let is_said = match words.first() {
-        Some(word) => matches!(word.as_str(), "--explain" | "--plain"),
-        None => false,
-    };
-    if !is_said && rt.stderr().is_terminal() {
+    if rt.stderr().is_terminal() && !begins(&words, "--explain") && !begins(&words, "--plain") {
         words.insert(0, String::from_str(alloc, "--explain")?)?;
     }
     Ok(words)
@@ -67,11 +63,12 @@ fn words(rt: &HostRuntime) -> io::Result<Vec<String>> {
 /// Whether it is shown how far a run is: standard error is a terminal, and the words don't begin
 /// with `--plain`.
 fn watches(rt: &HostRuntime, words: &[String]) -> bool {
-    let is_plain = match words.first() {
-        Some(word) => word.as_str() == "--plain",
-        None => false,
-    };
-    !is_plain && rt.stderr().is_terminal()
+    !begins(words, "--plain") && rt.stderr().is_terminal()
+}
+
+/// Whether words begin with this one.
+fn begins(words: &[String], first: &str) -> bool {
+    words.first().is_some_and(|word| word.as_str() == first)
 }
 
 /// Whether words ask for a command, which waits for its input.
