@@ -329,29 +329,27 @@ LONG_RUNS = [("run --workers 1", 1, True), ("run --parts 4", 4, True), ("run --p
 
 
 def long_input(program):
-    """An input whose run takes a processor four seconds at least, with a call of a number that no subscriber has, and its lines."""
+    """An input whose run takes a processor four seconds at least, with a call of a number that no subscriber has, its lines, and
+    what is said of it."""
     for hold in (120, 1200, 7200):
         words = [sys.executable, f"{ROOT}/examples/generate.py", "--calls", "150000", "--rate", "60000", "--hold", str(hold)]
         text = subprocess.run(words, capture_output=True, check=True).stdout.decode()
         text += text[text.rindex("\n", 0, -1) + 1 :].split(",")[0] + ",1000000,start,1,4930\n"
         before = os.times()
-        lines, faults, status = run(program, "run --workers 1", text)
-        if (faults, status) != ("", 0):
-            sys.exit(f"explain: a long run: {faults} {status}")
+        lines, said, status = run(program, "--explain run --workers 1", text)
+        if status or not SAID.fullmatch(said):
+            sys.exit(f"explain: a long run: {said[:300]!r} {status}")
         after = os.times()
         if after.children_user + after.children_system - before.children_user - before.children_system > 4:
-            return text, lines
+            return text, lines, said
     sys.exit("explain: no input takes four seconds")
 
 
 def progress(program):
     """What a terminal shows of how far a run is: its rows and their moments, or its parts, and at the end only what is said of
     it. The output is what it is without a terminal."""
-    text, lines = long_input(program)
+    text, lines, said = long_input(program)
     script = text.split("%%\n")[2].splitlines()
-    said = run(program, "--explain run --workers 1", text)[1]
-    if not SAID.fullmatch(said):
-        return f"a long run: {said[:300]!r}"
     for words, parts_of_all, in_order in LONG_RUNS:
         shown, output, status = on_terminal(program, words, text)
         if status or words != "run --workers 2" and output != lines or not output:
