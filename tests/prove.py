@@ -4,8 +4,8 @@
 The crate is prepaid where none is named, and its program comes into crates/prepaid/out.
 
 `rt` proves the libraries below a crate one after another, and keeps their proofs, which each crate above loads again.
-This gives each crate one processor, and the longest chain of crates those too that no other crate waits for. It keeps of
-a library what crates above can name, its statements, as the gate does. A library is proved from nothing where its files
+This gives each crate one processor, the longest chain of crates two, and shares those that no crate waits for. It keeps
+of a library what crates above can name, its statements, as the gate does. A library is proved from nothing where its files
 or those of a library below have changed. `rt` finds each where it keeps its own. JOBS says how many processors there are.
 """
 import copy
@@ -18,13 +18,15 @@ import threading
 from concurrent.futures import FIRST_COMPLETED, ThreadPoolExecutor, wait
 
 ROOT = os.path.dirname(os.path.dirname(os.path.abspath(__file__)))
-# More jobs on one crate than these take more time of the processors and end hardly sooner. A second job takes some 10 to
-# 30 % more of it, so a crate has one alone while others wait.
+# More jobs on one crate than these take more time of the processors and end hardly sooner. A second job takes some 20 %
+# more of it, so where crates wait it is for the longest chain alone.
 MOST_JOBS = 4
-# As many lines of code take as long as what is done of a library before its first function, and as a function that is
-# generic over what a trait promises. So it was measured of the libraries below prepaid.
-FIRST_LINES = 550
-GENERIC_LINES = 120
+CHAIN_JOBS = 2
+# As many lines of code take as long as what is done of a library before its first function, as a type of a function that
+# is generic over what a trait promises, and as a `?`. So it was measured of the libraries below prepaid.
+FIRST_LINES = 230
+BOUND_LINES = 50
+RETURN_LINES = 33
 # The niceness of a crate with nothing behind it; those of the longest chain have none.
 NICENESS = 19
 sys.path.insert(0, os.path.dirname(os.path.realpath(shutil.which("rt") or sys.exit("rt isn't there"))))
@@ -58,9 +60,11 @@ def lines_of(library):
     count = FIRST_LINES
     for file in rtlib.files_of(library.folder):
         if file.endswith(".rt"):
-            with open(file, "rb") as it:
+            with open(file, encoding="utf-8") as it:
                 text = it.read()
-            count += text.count(b"\n") + GENERIC_LINES * len(re.findall(rb"fn \w+<[^>(]*: ", text))
+            bounds = sum(len(re.findall(r"\b[A-Z]\w*: ", it)) for it in re.findall(r"fn \w+<([^>(]*)", text))
+            returns = len(re.findall(r"\?[;)]", text))
+            count += text.count("\n") + BOUND_LINES * bounds + RETURN_LINES * returns
     return count
 
 
@@ -123,14 +127,16 @@ def prove(libraries, processors):
     with ThreadPoolExecutor(len(libraries) or 1) as pool:
         while left or running:
             ready = sorted((it for it in left if proved.issuperset(it.below())), key=behind.get, reverse=True)
-            longest = max(map(behind.get, left), default=0)
-            for place, it in enumerate(ready, 1):
+            longest = max(behind[it] for it in [*left, *(it for it, _ in running.values())])
+            for place, it in enumerate(ready):
                 idle = processors - sum(jobs for _, jobs in running.values())
-                # The longest chain waits for no processor, and gets those that no other library waits for.
+                waiting = len(ready) - place
+                # The longest chain waits for no processor.
                 is_next = behind[it] == longest
                 if idle <= 0 and not is_next:
                     break
-                jobs = max(1, min(most, idle - (len(ready) - place))) if is_next else 1
+                jobs = max(CHAIN_JOBS, idle - waiting + 1) if is_next else -(-idle // waiting)
+                jobs = min(jobs, most)
                 niceness = 0 if is_next else NICENESS * (longest - behind[it]) // longest
                 running[pool.submit(build, it, jobs, niceness)] = it, jobs
                 left.remove(it)
