@@ -22,7 +22,12 @@ use Rattle.runs_core.specs.Hearing.{HasLeft, all_heard}
 use Rattle.runs_core.specs.Sending.{AreLeftBy, ArePromised, heard_by, promises_of, sent_by}
 use Rattle.runs_core.specs.Teams.{IsLeft}
 use Rattle.runs_core.specs.declared.crew.Crew.{Crew}
+use Rattle.runs_core.specs.declared.worker_link.WorkerLink.{WorkerLink}
 use Rattle.run_values.specs.declared.run_fault.RunFault.{RunFault}
+
+-- links of the same promises are as many
+pub same_count : {S G T : Type 0} (old now : List (WorkerLink S G T)) → promises_of now ≡ promises_of old → length now ≡ length old
+same_count old now same = sym (length-map now (λ link. link.child.promise)) ∙ ap length same ∙ length-map old (λ link. link.child.promise)
 
 -- a round more
 pub served_more : {K S G T : Type 0} (account_number : S → ℕ) (key : S → K) (read : Reads K T) (Was : T → Knowing) (setup : Setup) (accounts : List S) (given added now : List (ℕ × Body)) (answers more : List Answer) (old new : Crew S G T)

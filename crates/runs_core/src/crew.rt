@@ -2,7 +2,7 @@
 
 ghost use Rattle.std.specs.Prelude.{◌≡◌, ◌++◌, ◌∷◌, ◌⊎◌, [], List, length, map, None, Some, IfErr, IfOk, IfSome, OnOk};
 ghost use Rattle.std.specs.Vec.Iter.{into_iter_items};
-ghost use Rattle.runs_core.specs.Crews.{count_of, joined_lists};
+ghost use Rattle.runs_core.specs.Crews.{joined_lists};
 ghost use Rattle.runs_core.specs.Goings.{GoesOn};
 ghost use Rattle.runs_core.specs.RunFaults.{AsksNoGate, MayAskGate};
 ghost use Rattle.runs_core.specs.Sending.{heard_by, promises_of, sent_by};
@@ -61,7 +61,6 @@ impl<S: Shared, G: Gate> Crew<'_, S, G> {
             (map (λ list. list.items) replies.others.items)) }
         ensures others { IfOk result (λ replies.
             length replies.others.items ≡ length self.old.links.items) }
-        ensures count { count_of self.new ≡ count_of self.old }
         ensures promises { promises_of self.new.links.items ≡ promises_of self.old.links.items }
         ensures fault { MayAskGate (G.may_shut gate.now) result }
         ensures failed { IfSome self.new.failed (λ why. result ≡ Err why) }

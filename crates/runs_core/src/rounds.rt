@@ -3,7 +3,7 @@
 
 ghost use Rattle.std.specs.Prelude.{◌≡◌, ◌≤◌, ◌<◌, ◌^◌, ◌+◌, ◌++◌, ◌∷◌, [], ℕ, List, length, map, not, true, false, None, All, IfOk, IfSome, OnOk};
 ghost use Rattle.std.specs.List.{HoldsAt};
-ghost use Rattle.runs_core.specs.Crews.{HasPlayed, HasServed, IsServedRound, count_of};
+ghost use Rattle.runs_core.specs.Crews.{HasPlayed, HasServed, IsServedRound};
 ghost use Rattle.runs_core.specs.Hearing.{AreAnswers};
 ghost use Rattle.runs_core.specs.RunFaults.{AsksNoGate, MayAskGate};
 ghost use Rattle.runs_core.specs.Sending.{promises_of};
@@ -38,7 +38,6 @@ pub(crate) fn play<D: Driver, S: Shared, R: Wait, G: Gate>(
         (number_by S.terms) S.key S.reads S.was
         (setup_of crew.old.worker) (accounts_of crew.old.worker)
         driver.old driver.new crew.new) }
-    ensures count { count_of crew.new ≡ count_of crew.old }
     ensures promises { promises_of crew.new.links.items ≡ promises_of crew.old.links.items }
     ensures fault { MayAskGate (G.may_shut gate.now) result }
     ensures failed { IfSome crew.new.failed (λ why. result ≡ Err why) }
@@ -73,7 +72,6 @@ fn play_round<D: Driver, S: Shared, R: Wait, G: Gate>(
     ensures hears { IfOk result (λ _. D.hears driver.old answers.old.items driver.new) }
     ensures given { result ≡ Ok false → D.given driver.new ≡ D.given driver.old }
     ensures crew { result ≡ Ok false → crew.new ≡ crew.old }
-    ensures count { count_of crew.new ≡ count_of crew.old }
     ensures promises { promises_of crew.new.links.items ≡ promises_of crew.old.links.items }
     ensures fault { MayAskGate (G.may_shut gate.now) result }
     ensures failed { IfSome crew.new.failed (λ why. result ≡ Err why) }
@@ -104,7 +102,6 @@ fn serve_round<S: Shared, R: Wait, G: Gate>(
     requires moments { All (λ item. item.0 ≤ HORIZON) added.now }
     ensures served { OnOk result (IsServedRound (number_by S.terms) S.key S.reads S.was
         first added.now answers.new.items crew.old crew.new) }
-    ensures count { count_of crew.new ≡ count_of crew.old }
     ensures promises { promises_of crew.new.links.items ≡ promises_of crew.old.links.items }
     ensures fault { MayAskGate (G.may_shut gate.now) result }
     ensures failed { IfSome crew.new.failed (λ why. result ≡ Err why) }

@@ -4,7 +4,7 @@ ghost use Rattle.std.specs.Prelude.{◌≡◌, ◌≤◌, ◌<◌, ◌↔◌, []
 ghost use Rattle.std.specs.Map.{keys_of};
 ghost use Rattle.std.specs.Vec.Iter.{into_iter_items};
 ghost use Rattle.runs_core.specs.Closing.{AreAllThere, AreBooksOfSeats, AreNumberedFrom, AreSeatsOf, IsInBooks, ShowsAll, terms_shown};
-ghost use Rattle.runs_core.specs.Crews.{HasPlayed, count_of};
+ghost use Rattle.runs_core.specs.Crews.{HasPlayed};
 ghost use Rattle.runs_core.specs.Goings.{HasAnswered};
 ghost use Rattle.runs_core.specs.Hearing.{HasLeft};
 ghost use Rattle.runs_core.specs.RunFaults.{AsksNoGate, MayAskGate, ended_by};

@@ -11,7 +11,6 @@ loop-init g c = (
       c.requires.fresh (search rules) c.requires.served,
   refl,
   refl,
-  refl,
   c.requires.works,
 )
 
@@ -21,9 +20,8 @@ loop-preserved g c =
     let more = c.in_ok-play_round.ensures.more (search rules) in (
       played_more g.D.Driver.given g.D.Driver.ended g.D.Driver.hears (number_by g.S.Shared.terms) g.S.Shared.key g.S.Shared.reads g.S.Shared.was _ _
           _ _ _ _ _ _ _ more.0 before.0 more.1 (search rules) (search rules) more.2,
-      c.play_round.ensures.count ∙ before.1,
-      c.play_round.ensures.promises ∙ before.2,
-      c.play_round.ensures.agenda ∙ before.3,
+      c.play_round.ensures.promises ∙ before.1,
+      c.play_round.ensures.agenda ∙ before.2,
       none_failed _ _ true c.play_round.ensures.failed (search rules),
     )
 
@@ -36,20 +34,14 @@ returns-then-not-branch-clause-played g c =
 pub play_round-requires-clause-ready : goal.play_round-requires-clause-ready
 play_round-requires-clause-ready g c = λ _ _. c.loop.invariant.0.served.first.ready
 
-pub returns-in_err-play_round-clause-count : goal.returns-in_err-play_round-clause-count
-returns-in_err-play_round-clause-count g c = c.play_round.ensures.count ∙ c.loop.invariant.1
-
 pub returns-in_err-play_round-clause-promises : goal.returns-in_err-play_round-clause-promises
-returns-in_err-play_round-clause-promises g c = c.play_round.ensures.promises ∙ c.loop.invariant.2
+returns-in_err-play_round-clause-promises g c = c.play_round.ensures.promises ∙ c.loop.invariant.1
 
 pub returns-in_err-play_round-clause-agenda : goal.returns-in_err-play_round-clause-agenda
-returns-in_err-play_round-clause-agenda g c = c.play_round.ensures.agenda ∙ c.loop.invariant.3
-
-pub returns-then-not-branch-clause-count : goal.returns-then-not-branch-clause-count
-returns-then-not-branch-clause-count g c = c.play_round.ensures.count ∙ c.loop.invariant.1
+returns-in_err-play_round-clause-agenda g c = c.play_round.ensures.agenda ∙ c.loop.invariant.2
 
 pub returns-then-not-branch-clause-promises : goal.returns-then-not-branch-clause-promises
-returns-then-not-branch-clause-promises g c = c.play_round.ensures.promises ∙ c.loop.invariant.2
+returns-then-not-branch-clause-promises g c = c.play_round.ensures.promises ∙ c.loop.invariant.1
 
 pub returns-then-not-branch-clause-agenda : goal.returns-then-not-branch-clause-agenda
-returns-then-not-branch-clause-agenda g c = c.play_round.ensures.agenda ∙ c.loop.invariant.3
+returns-then-not-branch-clause-agenda g c = c.play_round.ensures.agenda ∙ c.loop.invariant.2

@@ -2,7 +2,7 @@ use Rattle.std.proofs.Common.{◌≡◌, ◌+◌, ◌∷◌, arith, ap, length, 
 use Rattle.std.specs.Vec.Iter.{into_iter_items}
 use Rattle.std.proofs.lemmas.List.{length-map}
 use Rattle.runs_core.proofs.Finishing.{none_failed}
-use Rattle.runs_core.proofs.RoundLemmas.{on_ok}
+use Rattle.runs_core.proofs.RoundLemmas.{on_ok, same_count}
 use Rattle.runs_core.specs.Crews.{count_of}
 use Rattle.runs_core.proofs.rounds.serve_round.Goals as goal
 
@@ -26,17 +26,11 @@ returns-clause-served g c =
       replies = others;
       heard = c.in_ok-replies.ensures.heard;
       are_answers = rw (lists, many) at merged;
-      count = c.in_ok-replies.ensures.count;
+      count = ap (λ n. n + 1) (same_count _ _ c.in_ok-replies.ensures.promises);
     })
-
-pub returns-in_err-replies-clause-count : goal.returns-in_err-replies-clause-count
-returns-in_err-replies-clause-count g c = c.answer_round.ensures.count
 
 pub returns-in_err-replies-clause-promises : goal.returns-in_err-replies-clause-promises
 returns-in_err-replies-clause-promises g c = c.answer_round.ensures.promises
-
-pub returns-in_err-queues-clause-count : goal.returns-in_err-queues-clause-count
-returns-in_err-queues-clause-count g c = c.in_ok-replies.ensures.count
 
 pub returns-in_err-queues-clause-promises : goal.returns-in_err-queues-clause-promises
 returns-in_err-queues-clause-promises g c = c.in_ok-replies.ensures.promises
