@@ -216,7 +216,7 @@ fn first_fault(
 }
 
 /// Starts the workers but for the first, and plays the rounds.
-fn start_and_play<'s, E, D: Driver, S: Shared, R: Wait + Threads + Sync, G: Gate + Sync>(
+fn start_and_play<'s, E, D: Driver, S: Shared, R: Wait + Sync, G: Gate + Sync>(
     scope: &Scope<'s, E>,
     rt: &'s R,
     alloc: Global,

@@ -18,7 +18,7 @@ use std::vec::IntoIter;
 
 /// Starts a worker for each team, in order from number 1 on, and puts down its link. After a fault
 /// the links are those of the workers that were started.
-pub(crate) fn start_all<'s, E, S: Shared, R: Wait + Threads + Sync, G: Gate + Sync>(
+pub(crate) fn start_all<'s, E, S: Shared, R: Wait + Sync, G: Gate + Sync>(
     scope: &Scope<'s, E>,
     rt: &'s R,
     alloc: Global,

@@ -41,7 +41,7 @@ pub(crate) struct WorkerLink<'s, S: Shared, G: Gate> {
 }
 
 /// Starts a worker in a thread of its own.
-pub(crate) fn start<'s, E, S: Shared, R: Wait + Threads + Sync, G: Gate + Sync>(
+pub(crate) fn start<'s, E, S: Shared, R: Wait + Sync, G: Gate + Sync>(
     scope: &Scope<'s, E>,
     rt: &'s R,
     alloc: Global,
