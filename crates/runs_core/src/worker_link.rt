@@ -93,10 +93,11 @@ pub(crate) fn start<'s, E, S: Shared, R: Wait + Sync, G: Gate + Sync>(
             awaits: false,
             child,
         }),
-        Err(_refused) => {
-            // Bound, and the others dropped by name, they make the proof shorter.
+        Err(refused) => {
+            // Dropped by name, they make the proof shorter.
             drop(inbox);
             drop(outbox);
+            drop(refused);
             Err(RunFault::Thread)
         }
     }
@@ -269,7 +270,6 @@ fn work<S: Shared, R: Wait, G: Gate>(
             outbox,
         }),
         Err(why) => {
-            // As above.
             drop(outbox);
             drop(inbox);
             Err(why)
