@@ -212,9 +212,9 @@ fn compare_all<R: Wait>(
     ensures fault { AsksNoGate result }
 {
     compare_ends(outbox, posts);
-    take_last(rt, &mut inbox)?;
+    let last = take_last(rt, &mut inbox);
     compare_ends(answers, inbox);
-    Ok(())
+    last
 }
 
 /// Takes the last mail: no answers are left before it.
