@@ -1,6 +1,7 @@
 //! What the program prints.
 
 use book_texts::Audit;
+use run_command::RunTables;
 use run_remarks::{Refusals, UnplacedEvent};
 use std::alloc::Global;
 
@@ -20,9 +21,10 @@ pub(crate) struct Answer {
 impl Answer {
     ghost use Rattle.std.specs.Prelude.{◌≡◌, string_bytes};
     ghost use Rattle.book_texts.specs.Checks.{audited_by};
+    ghost use Rattle.run_command.specs.Tables.{tables_said};
     ghost use Rattle.table_commands.specs.Answers.{printout_of_audit};
     ghost use Rattle.table_commands.specs.Printouts.{plain, status_of_printout};
-    ghost use Rattle.prepaid_command.specs.Printouts.{printout_of};
+    ghost use Rattle.prepaid_command.specs.Printouts.{printout_of, printout_of_files};
 
     /// A text that finds nothing wrong, and of no run that refused anything.
     pub fn plain(alloc: Global, text: String) -> Answer
@@ -45,6 +47,23 @@ impl Answer {
             passes: audit.passes,
             refusals: Refusals::none(),
             unplaced: Vec::new(alloc),
+        }
+    }
+
+    /// What is left to say of a run whose texts are in files.
+    pub fn of_files(alloc: Global, tables: RunTables) -> Answer
+        ensures { printout_of result ≡ printout_of_files (tables_said tables) }
+    {
+        let RunTables {
+            refusals,
+            unplaced,
+            ..
+        } = tables;
+        Answer {
+            text: String::new(alloc),
+            passes: true,
+            refusals,
+            unplaced,
         }
     }
 

@@ -1,13 +1,16 @@
 //! The command `run`.
 
-ghost use Rattle.std.specs.Prelude.{◌≡◌, true, None, IfOk, IfSome, option_map, string_bytes};
+ghost use Rattle.std.specs.Prelude.{◌≡◌, ◌⊎◌, true, None, IfErr, IfOk, IfSome, option_map, string_bytes};
 ghost use Rattle.std.specs.Result.{result_map_both};
+ghost use Rattle.run_command.specs.Tables.{tables_said};
 ghost use Rattle.run_options.specs.Options.{ask_of};
+ghost use Rattle.run_values.specs.declared.run_fault.RunFault.TheVariants as run;
 ghost use Rattle.table_commands.specs.Explanations.{IsSaidOfAnswer};
 ghost use Rattle.table_commands.specs.Faults.{GivesOne};
+ghost use Rattle.table_commands.specs.declared.fault.Fault.TheVariants as fault;
 ghost use Rattle.prepaid_command.specs.Answers.{IsFiledRunOfInput, IsRunOfInput};
 ghost use Rattle.prepaid_command.specs.Explanations.{IsSaidBehind};
-ghost use Rattle.prepaid_command.specs.Printouts.{printout_of};
+ghost use Rattle.prepaid_command.specs.Printouts.{printout_of, printout_of_files};
 
 use crate::answer::Answer;
 use crate::ending::{files_ending, run_ending};
@@ -114,15 +117,6 @@ fn run_script<R: Wait + Threads + Sync, I: Read + Drop, W: Watch + Sync>(
     })
 }
 
-/// A folder that files go into.
-#[derive(Drop)]
-struct Folder<'a> {
-    /// Its path.
-    path: &'a str,
-    /// Why they couldn't be written.
-    failed: &'a mut Option<Error>,
-}
-
 /// The same of a run whose lines and tables go into files of a folder: nothing of it is printed.
 fn run_into_folder<R, I: Read + Drop, W: Watch>(
     rt: &R,
@@ -145,24 +139,40 @@ where
     let bytes = read_input(alloc, input)?;
     let tables = run_tables(rt, alloc, options, bytes.as_slice(), watch);
     *kept = Some(bytes);
-    let tables = match tables {
-        Ok(tables) => tables,
-        Err(error) => return Err(fault_of_run(error)),
-    };
-    if let Err(error) = write_files(rt, alloc, folder.path, &files_of(&tables)) {
-        let fault = fault_of_files(&error);
-        *folder.failed = Some(error);
-        return Err(fault);
+    match tables {
+        Ok(tables) => folder.take(rt, alloc, tables),
+        Err(error) => Err(fault_of_run(error)),
     }
-    let RunTables {
-        refusals,
-        unplaced,
-        ..
-    } = tables;
-    Ok(Answer {
-        text: String::new(alloc),
-        passes: true,
-        refusals,
-        unplaced,
-    })
+}
+
+/// A folder that files go into.
+#[derive(Drop)]
+struct Folder<'a> {
+    /// Its path.
+    path: &'a str,
+    /// Why they couldn't be written.
+    failed: &'a mut Option<Error>,
+}
+
+impl Folder<'_> {
+    /// Takes the lines and tables of a run, each into a file: nothing of them is printed.
+    fn take<R: Files<File = File>>(
+        self,
+        rt: &R,
+        alloc: Global,
+        tables: RunTables,
+    ) -> Result<Answer, Fault>
+        ensures answer { IfOk result (λ done.
+            printout_of done ≡ printout_of_files (tables_said tables)) }
+        ensures fault { IfErr result (λ why. (why ≡ fault.Into) ⊎ (why ≡ fault.Run run.OutOfMemory)) }
+    {
+        match write_files(rt, alloc, self.path, &files_of(&tables)) {
+            Ok(()) => Ok(Answer::of_files(alloc, tables)),
+            Err(error) => {
+                let fault = fault_of_files(&error);
+                *self.failed = Some(error);
+                Err(fault)
+            }
+        }
+    }
 }
