@@ -1,8 +1,8 @@
 -- Parts that were played one by one are all played.
-use Rattle.std.proofs.Common.{◌≡◌, ◌≤◌, ◌<◌, ◌∙◌, ℕ, true, List, [], ◌∷◌, ◌++◌, Ok, length, map, sym, ap, subst, arith, All}
+use Rattle.std.proofs.Common.{◌≡◌, ◌≤◌, ◌<◌, ◌∙◌, ℕ, true, List, [], ◌∷◌, ◌++◌, Ok, length, map, sym, ap, subst, arith, append_assoc, All}
 use Rattle.std.proofs.Math.ListN.{drop, get_or, take}
 use Rattle.std.proofs.Math.Seq.{take-append_seam}
-use Rattle.std.proofs.lemmas.List.{get_or-map, length-map}
+use Rattle.std.proofs.lemmas.List.{get_or-map, length-map, map-append}
 use Rattle.std.specs.Prelude.{IfOk, Result}
 use Rattle.run_command.specs.InParts.{ArePlayed, IsKeptPart}
 use Rattle.run_command.specs.Jobs.{HasPlayedPart, IsInOrder}
@@ -80,3 +80,7 @@ all_in_order inside script_of same jobs scripts are in_range in_order = λ k d w
 pub written : {X : Type 0} (len : ℕ) (old new : List X) → len ≡ length old → length new ≡ length old → take len (new ++ drop (length new) old) ≡ new
 written len old new is as_many =
     ap (λ n. take n (new ++ drop (length new) old)) (is ∙ sym as_many) ∙ take-append_seam new (drop (length new) old)
+
+-- what a list is taken to, where one more is taken behind it
+pub taken_to : {X Y : Type 0} (f : X → Y) (done : List X) (next : X) (rest : List Y) → map f (done ++ next ∷ []) ++ rest ≡ map f done ++ f next ∷ rest
+taken_to f done next rest = ap (λ l. l ++ rest) (map-append f done (next ∷ [])) ∙ append_assoc (map f done) (f next ∷ []) rest

@@ -62,10 +62,10 @@ fn jobs_of(alloc: Global, scripts: Vec<Vec<ScriptRow>>) -> Result<Vec<Job>, Allo
 {
     let mut jobs = Vec::with_capacity(alloc, scripts.len())?;
     for script in scripts {
-        jobs.push(Job {
+        jobs.push_reserved(Job {
             script,
             played: Err(RunError::Run(RunFault::OutOfMemory)),
-        })?;
+        });
     }
     Ok(jobs)
 }
@@ -130,7 +130,7 @@ fn played(alloc: Global, jobs: Vec<Job>) -> Result<Vec<Part>, RunError>
 {
     let mut parts = Vec::with_capacity(alloc, jobs.len())?;
     for job in jobs {
-        parts.push(job.played?)?;
+        parts.push_reserved(job.played?);
     }
     Ok(parts)
 }
