@@ -7,9 +7,8 @@ use Rattle.std.proofs.lemmas.List.Sums.{sum_by-append}
 use Rattle.std.specs.List.{flat_map, sum_by}
 use Rattle.book_texts.specs.RunTexts.{AreLinesOf, LinesSaid}
 use Rattle.book_texts.specs.Typed.{IsTyped}
-use Rattle.call_records.specs.declared.call_record.CallRecord.{CallRecord}
-use Rattle.run_command.specs.InParts.{AreKept, ArePlayed, IsInParts, IsKeptPart, IsPartsText, IsPlayedPart, KeepsPart, KeepsBooks, KeepsCalls, PartSaid, joined_parts, own_books, with_part}
-use Rattle.run_command.specs.Played.{IsPlayedRun, run_of}
+use Rattle.run_command.specs.InParts.{AreKept, ArePlayed, IsInParts, IsKeptPart, IsPartsText, IsPlayedPart, KeepsPart, KeepsBooks, PartSaid, joined_parts, own_books, with_part}
+use Rattle.run_command.specs.Played.{IsPlayedRun, KeepsOwn, run_of}
 use Rattle.run_remarks.specs.Refused.{added_up, refusals_counted, with_refusals}
 use Rattle.run_remarks.specs.Unplaced.{AreByCall, events_in_rows}
 use Rattle.run_command.specs.declared.parts.Part.{Part}
@@ -116,13 +115,12 @@ all_joined parts rest whole none are output said kept =
     are.keeps output said (subst (λ (p : List Part). AreKept output said p) (sym all) kept)
 
 -- what is kept of a part that was played
-pub kept_part : (ask : RunAsk) (setup : Setup) (firsts : List ℕ) (number : ℕ) (rows : List ScriptRow) (played : Played) (calls : List CallRecord) (kept : Part) → are_workers ask.workers ≡ true
-    → IsPlayedRun ask setup rows played → KeepsCalls ask.output (run_of setup played) calls → KeepsBooks ask.output (own_books firsts number played.books.items) kept.lines kept.books.items
-    → kept.calls.items ≡ calls → kept.refusals ≡ played.listener.refusals → kept.unplaced.items ≡ events_in_rows played.listener.player.unplaced → IsKeptPart ask setup firsts number rows kept
-kept_part ask setup firsts number rows played calls kept workers is calls_are books_are same_calls same_refusals same_unplaced = record {
+pub kept_part : (ask : RunAsk) (setup : Setup) (firsts : List ℕ) (number : ℕ) (rows : List ScriptRow) (played : Played) (kept : Part) → are_workers ask.workers ≡ true
+    → IsPlayedRun ask setup rows played → KeepsOwn ask.output setup firsts number played kept → IsKeptPart ask setup firsts number rows kept
+kept_part ask setup firsts number rows played kept workers is own = record {
   said = record {
     books = own_books firsts number played.books.items;
-    calls = calls;
+    calls = kept.calls.items;
     refusals = played.listener.refusals;
     unplaced = events_in_rows played.listener.player.unplaced;
   };
@@ -134,11 +132,11 @@ kept_part ask setup firsts number rows played calls kept workers is calls_are bo
     books = played.books.items;
     run = is.run;
     own = refl;
-    calls = calls_are;
+    calls = own.calls;
     refused = is.counted;
     unplaced = ap events_in_rows (sym is.unplaced);
   };
-  keeps = record { books = books_are; calls = same_calls; refusals = same_refusals; unplaced = same_unplaced };
+  keeps = record { books = own.books; calls = refl; refusals = own.refusals; unplaced = own.unplaced };
 }
 
 -- what is kept where nothing is

@@ -6,11 +6,15 @@ ghost use Rattle.book_texts.specs.RunTexts.{AreLinesOf};
 ghost use Rattle.book_texts.specs.Typed.{IsTyped};
 ghost use Rattle.run_command.specs.Answers.{MayFail};
 ghost use Rattle.run_command.specs.InParts.{AreKept, IsInParts, IsKeptPart, IsMergedText, IsPartsText, KeepsPart, KeepsBooks, KeepsCalls, PartSaid, joined_parts, own_books, with_part};
+ghost use Rattle.run_command.specs.Played.{KeepsOwn};
+ghost use Rattle.run_command.specs.declared.error.RunError.TheVariants as error;
 ghost use Rattle.run_options.specs.declared.options.RunOutput.{RunOutput};
 ghost use Rattle.run_options.specs.Options.{ask_of};
 ghost use Rattle.run_texts.specs.Views.{rows_are_in_order};
+ghost use Rattle.run_values.specs.declared.run_fault.RunFault.TheVariants as run;
 
 use crate::jobs::play_all;
+use crate::listening::Listener;
 use crate::playing::{Played, play};
 use crate::watching::{Watch, Watching};
 use crate::{Ran, RunError};
@@ -99,15 +103,38 @@ pub(crate) fn play_part<R: Wait + Threads + Sync, W: Watch>(
         (ask_of options.now) setup.now firsts.now number script.items) }
     ensures fault { IfErr result (MayFail options.now.workers) }
 {
-    let Played {
-        listener,
-        mut books,
-    } = play(rt, alloc, options, setup, script, watching)?;
+    let Played { listener, books } = play(rt, alloc, options, setup, script, watching)?;
+    kept_part(
+        alloc,
+        options.output,
+        setup,
+        firsts,
+        number,
+        &listener,
+        books,
+    )
+}
+
+/// What is kept of a part that was played: what is printed of its own books or its calls, its
+/// refusals, and its events that had no place.
+fn kept_part(
+    alloc: Global,
+    output: RunOutput,
+    setup: &RunSetup,
+    firsts: &Firsts,
+    number: usize,
+    listener: &Listener,
+    mut books: Vec<Book>,
+) -> Result<Part, RunError>
+    ensures part { IfOk result (KeepsOwn output setup.now firsts.now number
+        (record { listener = listener.now; books = books })) }
+    ensures fault { IfErr result (λ fault. fault ≡ error.Run run.OutOfMemory) }
+{
     let given = listener.player.given();
-    let calls = kept_calls(alloc, options.output, setup, given, books.as_slice())?;
+    let calls = kept_calls(alloc, output, setup, given, books.as_slice())?;
     let unplaced = events_of(alloc, listener.player.unplaced())?;
     keep_own(&mut books, firsts, number);
-    let (lines, books) = kept_books(alloc, options.output, books)?;
+    let (lines, books) = kept_books(alloc, output, books)?;
     Ok(Part {
         lines,
         books,

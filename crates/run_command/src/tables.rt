@@ -6,10 +6,12 @@ ghost use Rattle.book_texts.specs.Typed.{IsTyped};
 ghost use Rattle.run_command.specs.Answers.{MayFail};
 ghost use Rattle.run_command.specs.Played.{AreWhole, run_of};
 ghost use Rattle.run_command.specs.Tables.{AreTextsOf, IsTablesAnswer, clock_of, tables_said};
+ghost use Rattle.run_command.specs.declared.error.RunError.TheVariants as error;
 ghost use Rattle.run_remarks.specs.Unplaced.{AreByCall, events_in_rows};
 ghost use Rattle.run_options.specs.Options.{ask_of};
 ghost use Rattle.run_options.specs.declared.options.RunOutput.TheVariants as output;
 ghost use Rattle.run_texts.specs.Views.{rows_are_in_order};
+ghost use Rattle.run_values.specs.declared.run_fault.RunFault.TheVariants as run;
 
 use crate::playing::{Played, play};
 use crate::running::print;
@@ -22,7 +24,7 @@ use run_options::{RunOptions, RunOutput};
 use run_remarks::{Refusals, UnplacedEvent, events_by_call};
 use run_texts::ScriptRow;
 use run_values::RunSetup;
-use std::alloc::{AllocError, Global};
+use std::alloc::Global;
 use std::sync::Wait;
 use std::thread::Threads;
 
@@ -81,7 +83,7 @@ fn play_tables<R: Wait + Threads + Sync, W: Watch>(
 {
     let clock = clock_of(options.output);
     let played = play(rt, alloc, &traced(options, clock), setup, script, watching)?;
-    Ok(print_all(alloc, clock, setup, &played)?)
+    print_all(alloc, clock, setup, &played)
 }
 
 /// How moments are printed.
@@ -117,14 +119,15 @@ fn print_all(
     clock: Clock,
     setup: &RunSetup,
     played: &Played,
-) -> Result<RunTables, AllocError>
+) -> Result<RunTables, RunError>
     ensures texts { IfOk result (λ tables. AreTextsOf clock (run_of setup.now played.now)
         played.now.listener.heard.items (tables_said tables)) }
     ensures refusals { IfOk result (λ tables.
         tables.refusals ≡ played.now.listener.refusals) }
     ensures unplaced { IfOk result (λ tables. AreByCall
         (events_in_rows played.now.listener.player.unplaced) tables.unplaced.items) }
-    ensures typed { IfOk result (λ tables. All IsTyped played.now.books.items) }
+    ensures typed { IfOk result (λ _. All IsTyped played.now.books.items) }
+    ensures fault { IfErr result (λ fault. fault ≡ error.Run run.OutOfMemory) }
 {
     Ok(RunTables {
         lines: print(alloc, RunOutput::Lines, setup, played)?,
