@@ -14,7 +14,7 @@ use Rattle.dialogue_core.specs.Phases as phase
 use Rattle.dialogue_core.specs.Runs.{Exchange, Input, IsDialogueRun, Message, Answer, Refusal, is_grant_input, is_over, returns_asked, returns_in, settles_in, settles_since_grant, step, was_granted}
 use Rattle.dialogue_core.specs.Rules.{Step, are_units, on_begin, ending, says_first_period, first_reply, going_on, more_reply, on_reply, event_reported, while_running, sequel}
 use Rattle.dialogue_core.specs.declared.fault.DialogueFault.TheVariants.{Unexpected}
-use Rattle.tariff_core.specs.declared.route.Route.{Route}
+use Rattle.price_core.specs.declared.route.Route.{Route}
 
 -- the settles since the last grant, the returns, and whether there was a grant, by the phase
 pub record Counts (settles returns most owed : ℕ) (granted was : Bool) : Type 0 where

@@ -16,7 +16,7 @@ use Rattle.dialogue_core.specs.Phases as phase
 use Rattle.dialogue_core.specs.Runs.{Exchange, Input, IsHonest, IsDialogueRun, Message, Answer, Refusal, last_said, step}
 use Rattle.dialogue_core.specs.Rules.{Step, are_units, on_begin, ending, says_first_period, going_on, on_reply, event_reported, while_running, sequel}
 use Rattle.dialogue_core.specs.declared.fault.DialogueFault.TheVariants.{Unexpected}
-use Rattle.tariff_core.specs.declared.route.Route.{Route}
+use Rattle.price_core.specs.declared.route.Route.{Route}
 
 -- what was asked last is what the phase waits for
 abbrev Awaits : Says → Phase → Type 0

@@ -17,7 +17,7 @@ use Rattle.dialogue_core.specs.ServiceArms.{service_arms}
 use Rattle.dialogue_core.specs.declared.fault.DialogueFault.{DialogueFault}
 use Rattle.dialogue_core.specs.declared.fault.DialogueFault.TheVariants.{Unexpected, NoAskPending, AskPending}
 use Rattle.price_core.specs.RatesOf.{rates_of}
-use Rattle.tariff_core.specs.declared.route.Route.{Route}
+use Rattle.price_core.specs.declared.route.Route.{Route}
 use Rattle.price_core.specs.declared.times.TheConstants.{DAY}
 
 -- what is said, and where the dialogue is then; or why the input is refused

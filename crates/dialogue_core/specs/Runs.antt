@@ -6,7 +6,7 @@ use Rattle.account_core.specs.declared.entry.Reply.TheVariants.{Granted, Denied,
 use Rattle.cap_values.specs.declared.message.SsfMsg.{SsfMsg}
 use Rattle.dialogue_core.specs.Phases.{Phase, Says, Ending, Closed, Asks}
 use Rattle.dialogue_core.specs.Rules.{Step, on_begin, on_reply, on_message, on_refusal}
-use Rattle.tariff_core.specs.declared.route.Route.{Route}
+use Rattle.price_core.specs.declared.route.Route.{Route}
 use Rattle.price_core.specs.declared.times.TheConstants.{DAY}
 
 -- what a dialogue is handed: a message with the number of its mail and its moment, a reply, a refusal

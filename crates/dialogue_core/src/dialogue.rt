@@ -14,8 +14,7 @@ use crate::{DialogueFault, ServiceConfig};
 use account_core::{AccountFault, Op, Reply};
 use arrayvec::ArrayVec;
 use cap_values::{Cause, Event, Mode, ScfOp, SsfMsg};
-use price_core::DAY;
-use tariff_core::Route;
+use price_core::{DAY, Route};
 
 /// The service's dialogue about one call.
 #[derive(Clone, Copy, Debug, PartialEq, Eq)]

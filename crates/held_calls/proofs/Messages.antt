@@ -26,7 +26,7 @@ use Rattle.run_values.specs.declared.post.Body.{Body}
 use Rattle.run_values.specs.declared.post.Body.TheVariants.{Ssf}
 use Rattle.run_values.specs.declared.post.Post.{Post}
 use Rattle.runs_core.proofs.Listed.{all_later}
-use Rattle.tariff_core.specs.declared.route.Route.{Route}
+use Rattle.price_core.specs.declared.route.Route.{Route}
 use Rattle.workers_core.proofs.OwnCalls.{begun_settles}
 use Rattle.workers_core.proofs.AtRest.{nothing_asked}
 use Rattle.workers_core.proofs.Growing.{place_within}

@@ -17,7 +17,7 @@ use Rattle.dialogue_core.specs.Talks.{Got, after_got, or_done}
 use Rattle.dialogue_core.specs.declared.fault.DialogueFault.TheVariants.{Unexpected}
 use Rattle.held_calls.specs.Held.{IsShown}
 use Rattle.price_core.specs.Rates.{Rates}
-use Rattle.tariff_core.specs.declared.route.Route.{Route}
+use Rattle.price_core.specs.declared.route.Route.{Route}
 
 -- what is asked for in a phase
 abbrev pub Awaits : Phase → Asked → Type 0

@@ -10,7 +10,7 @@ use Rattle.ssf_core.specs.Meters.{Later, Meter, Metered, RunsThrough, MetersItem
 use Rattle.ssf_core.specs.declared.item.Item.{Item}
 use Rattle.ssf_core.specs.declared.item.Item.TheVariants as item
 use Rattle.ssf_core.specs.declared.item.Out.{Out}
-use Rattle.tariff_core.specs.declared.route.Route.{Route}
+use Rattle.price_core.specs.declared.route.Route.{Route}
 use Rattle.one_call.specs.Covered.{IsReadyCall}
 use Rattle.one_call.specs.Starts.{IsStarted, IsUnpaid}
 

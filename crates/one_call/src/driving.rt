@@ -12,10 +12,9 @@ use crate::{CallEnd, DriveFault};
 use account_core::Port;
 use cap_values::Number;
 use dialogue_core::ServiceConfig;
-use price_core::{DAY, MAX_MOMENT};
+use price_core::{DAY, MAX_MOMENT, Route};
 use ssf_core::{BcsmEvent, Moment, SsfConfig};
 use std::alloc::Global;
-use tariff_core::Route;
 
 /// Drives one call (its number, the calling and the called party) from its start until no event,
 /// delivery or due moment is left, and says what it came to.

@@ -14,11 +14,10 @@ use crate::{CallEnd, DriveFault};
 use account_core::Port;
 use cap_values::Number;
 use dialogue_core::{Dialogue, ServiceConfig};
-use price_core::{DAY, HORIZON, MAX_MOMENT};
+use price_core::{DAY, HORIZON, MAX_MOMENT, Route};
 use ssf_core::{BcsmEvent, Moment, Ssf, SsfConfig, send};
 use std::alloc::Global;
 use std::collections::VecDeque;
-use tariff_core::Route;
 
 /// Plays a call from its start until no event, delivery or due moment is left. The operations of an
 /// answer are delivered after a delay.

@@ -21,7 +21,7 @@ use Rattle.run_values.specs.Setups.{Setup, place_of}
 use Rattle.run_values.specs.declared.post.Body.{Body}
 use Rattle.run_values.specs.declared.post.Body.TheVariants.{Ssf, Recharge}
 use Rattle.run_values.specs.declared.post.Post.{Post}
-use Rattle.tariff_core.specs.declared.route.Route.{Route}
+use Rattle.price_core.specs.declared.route.Route.{Route}
 use Rattle.workers_core.specs.Chains.{AreAnswered}
 use Rattle.workers_core.specs.Handled.{AnswerView, AreRefusedRightly, Holding, IsDone, IsRightlyHandled, IsTalked, grown}
 use Rattle.workers_core.specs.Talks.{AllAsk, AreRightlyGot, IsRightlyGot, Showing, entries_of, entry_of}

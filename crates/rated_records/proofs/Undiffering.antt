@@ -22,7 +22,7 @@ use Rattle.price_core.specs.Price.{price_at, price_of}
 use Rattle.price_core.specs.Rates.{Rates}
 use Rattle.price_core.specs.RatesOf.{rates_of}
 use Rattle.tariff_core.specs.Routes.{HasNoRoute, IsPrefixFor, IsRoute}
-use Rattle.tariff_core.specs.declared.route.Route.{Route}
+use Rattle.price_core.specs.declared.route.Route.{Route}
 
 -- ---- the price by the tariff is what was paid
 

@@ -5,7 +5,7 @@ use Rattle.tariff_core.specs.Bands.{Band}
 use Rattle.price_core.specs.Price.{price_of}
 use Rattle.price_core.specs.RatesOf.{rates_of}
 use Rattle.tariff_core.specs.Routes.{HasNoRoute, IsQuote}
-use Rattle.tariff_core.specs.declared.route.Route.{Route}
+use Rattle.price_core.specs.declared.route.Route.{Route}
 use Rattle.rating.specs.Calls.{said_in}
 use Rattle.rating.specs.Charges.{before_switch}
 use Rattle.rating.specs.declared.call.Answered.{Answered}

@@ -6,8 +6,7 @@ ghost use Rattle.rating.specs.Charges.{before_switch, price_of_call};
 ghost use Rattle.rating.specs.Rated.{charged, charge_by};
 ghost use Rattle.rating.specs.declared.call.Talk.TheVariants as talks;
 
-use price_core::{DAY, price};
-use tariff_core::Route;
+use price_core::{DAY, Route, price};
 
 /// The times of a call before the tariff switch and after it, in units of 100 ms, and their price.
 #[derive(Clone, Copy, Debug, PartialEq, Eq)]

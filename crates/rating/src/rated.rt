@@ -14,8 +14,8 @@ use crate::charge::charge_call;
 use crate::columns::Columns;
 use crate::{PricedTimes, RateKind};
 use csv::ByteRecord;
-use price_core::{DAY, HORIZON};
-use tariff_core::{Route, Tariff};
+use price_core::{DAY, HORIZON, Route};
+use tariff_core::Tariff;
 
 /// What a row comes to.
 #[derive(Clone, Copy)]

@@ -6,10 +6,9 @@ use crate::service::{SERVICE, SUBSCRIBER, SWITCH};
 use account_core::{Account, AccountPort};
 use cap_values::Number;
 use one_call::{CallEnd, drive_call};
-use price_core::{Plan, TimeInfo};
+use price_core::{Plan, Route, TimeInfo};
 use ssf_core::{BcsmEvent, State};
 use std::alloc::Global;
-use tariff_core::Route;
 
 const ROUTE: Route = Route {
     plan: Plan {

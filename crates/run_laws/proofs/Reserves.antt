@@ -25,7 +25,7 @@ use Rattle.shared_account.specs.Refusals.{Knowing}
 use Rattle.price_core.specs.Rates.{Rates}
 use Rattle.price_core.specs.RatesOf.{rates_of}
 use Rattle.tariff_core.specs.Routes.{IsRoute}
-use Rattle.tariff_core.specs.declared.route.Route.{Route}
+use Rattle.price_core.specs.declared.route.Route.{Route}
 use Rattle.workers_core.specs.Laws.{IsOnTerms}
 use Rattle.workers_core.specs.Verdicts.{home_of}
 

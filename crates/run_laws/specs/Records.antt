@@ -18,7 +18,7 @@ use Rattle.price_core.specs.RatesOf.{rates_of}
 use Rattle.tariff_core.specs.Routes.{IsRoute}
 use Rattle.price_core.specs.Times.{no_times}
 use Rattle.price_core.specs.declared.plan.TheConstants.{MAX_MONEY}
-use Rattle.tariff_core.specs.declared.route.Route.{Route}
+use Rattle.price_core.specs.declared.route.Route.{Route}
 use Rattle.price_core.specs.declared.times.TheConstants.{DAY}
 
 -- a run that a driver was served in, whose calls start with the parties that each of their InitialDPs names

@@ -10,7 +10,7 @@ use Rattle.price_core.specs.RatesOf.{rates_of}
 use Rattle.price_core.specs.Rates.{Rates, has_steps}
 use Rattle.tariff_core.specs.Routes.{HasNoRoute, IsQuote}
 use Rattle.price_core.specs.Times.{no_times}
-use Rattle.tariff_core.specs.declared.route.Route.{Route}
+use Rattle.price_core.specs.declared.route.Route.{Route}
 use Rattle.price_core.specs.declared.times.TheConstants.{DAY}
 use Rattle.command_words.specs.QuoteWishes.{QuoteWish}
 use Rattle.rating.specs.Charges.{price_of_call}

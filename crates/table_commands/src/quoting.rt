@@ -7,11 +7,11 @@ ghost use Rattle.table_commands.specs.Quotes.{IsQuoteText, afford_line, band_lin
 
 use command_words::QuoteAsk;
 use moment_texts::{Clock, MomentField, TimeOfDay};
-use price_core::{DAY, HORIZON, MAX_MOMENT, Plan, Times, afford};
+use price_core::{DAY, HORIZON, MAX_MOMENT, Plan, Route, Times, afford};
 use rating::{PricedTimes, charge_call};
 use std::alloc::{AllocError, Global};
 use table_core::write_digits;
-use tariff_core::{Quote, Route, Tariff};
+use tariff_core::{Quote, Tariff};
 
 /// What a call to a number costs at a moment: the band and the switch, and the price of a call and
 /// the units that a credit affords where they are asked for; `no route` where no prefix fits.

@@ -6,7 +6,7 @@ use Rattle.price_core.specs.declared.times.TheConstants.{DAY}
 use Rattle.tariff_core.specs.Bands.{Band, counts_on}
 use Rattle.tariff_core.specs.Routes.{HasNoRoute, IsPrefixFor, IsRoute}
 use Rattle.tariff_core.specs.TariffTable.{tariff_of}
-use Rattle.tariff_core.specs.declared.route.Route.{Route}
+use Rattle.price_core.specs.declared.route.Route.{Route}
 
 -- two rows with the same prefix and the same start that count on a common day are the same, and each starts within a day
 pub record IsProper (bands : List Band) : Type 0 where

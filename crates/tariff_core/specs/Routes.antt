@@ -1,7 +1,7 @@
 -- The route of a call: which rows of the tariff it is charged by.
 use Rattle.std.specs.Prelude.{◌≡◌, ◌≢◌, ◌+◌, ◌%◌, ◌<◌, ◌≤◌, ℕ, true, List, ◌++◌, length, Option, Some, None, All, Any, Contains}
 use Rattle.tariff_core.specs.Bands.{Band, counts_on, weekday}
-use Rattle.tariff_core.specs.declared.route.Route.{Route}
+use Rattle.price_core.specs.declared.route.Route.{Route}
 use Rattle.price_core.specs.declared.times.TheConstants.{DAY}
 
 -- a called number begins with a prefix

@@ -7,13 +7,13 @@ mod days;
 mod digits;
 mod fields;
 mod laws;
-mod route;
+mod quote;
 mod row;
 mod tariff;
 mod tariff_fault;
 
 pub use fields::time_of_day;
 pub use laws::{read_tariffs_are_proper, routes_are_single};
-pub use route::{Quote, Route};
+pub use quote::Quote;
 pub use tariff::Tariff;
 pub use tariff_fault::{TariffFault, TariffKind};

@@ -14,7 +14,7 @@ use Rattle.cap_values.specs.declared.number.Number.{Number}
 use Rattle.dialogue_core.specs.Phases.{Conditions, Phase, Says, FirstAsk, Running, Asks}
 use Rattle.dialogue_core.specs.Rules.{on_begin, conditions, reserve, on_message}
 use Rattle.tariff_core.specs.Routes.{HasNoRoute}
-use Rattle.tariff_core.specs.declared.route.Route.{Route}
+use Rattle.price_core.specs.declared.route.Route.{Route}
 use Rattle.workers_core.proofs.Chaining.{all_sound, first_sound}
 use Rattle.workers_core.proofs.Growing.{place_within}
 use Rattle.workers_core.proofs.Handling.{Means, home_within, many_keys, means_on, own_of, same_number}

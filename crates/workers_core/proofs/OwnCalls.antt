@@ -16,7 +16,7 @@ use Rattle.dialogue_core.specs.Phases.{Phase, Says, Sequel, FirstAsk, Running, S
 use Rattle.dialogue_core.specs.Phases as phase
 use Rattle.dialogue_core.specs.Rules.{Step, are_units, on_begin, on_reply, sequel, on_message, on_refusal}
 use Rattle.dialogue_core.specs.declared.fault.DialogueFault.TheVariants.{Unexpected}
-use Rattle.tariff_core.specs.declared.route.Route.{Route}
+use Rattle.price_core.specs.declared.route.Route.{Route}
 use Rattle.workers_core.specs.Served.{IsPart, Report, credited_in, credits_of, held_in, held_calls_of, report_in, settled_in, settles_of}
 use Rattle.dialogue_core.specs.Talks.{Got, after_got, or_done, talked}
 use Rattle.workers_core.specs.Talks.{entries_of, entry_of}

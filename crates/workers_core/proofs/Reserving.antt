@@ -20,7 +20,7 @@ use Rattle.dialogue_core.specs.Rules.{Step, are_units, on_begin, on_reply, seque
 use Rattle.dialogue_core.specs.declared.fault.DialogueFault.TheVariants.{Unexpected}
 use Rattle.price_core.specs.Rates.{Rates}
 use Rattle.price_core.specs.RatesOf.{rates_of}
-use Rattle.tariff_core.specs.declared.route.Route.{Route}
+use Rattle.price_core.specs.declared.route.Route.{Route}
 use Rattle.workers_core.proofs.Entering.{none_at_first}
 use Rattle.workers_core.proofs.Handling.{Means, means_on, same_number}
 use Rattle.workers_core.specs.Chains.{AreHandled, at_first}

@@ -15,7 +15,7 @@ use Rattle.dialogue_core.specs.Phases.{Phase, Says, Sequel, FirstAsk, Running, S
 use Rattle.dialogue_core.specs.Phases as phase
 use Rattle.dialogue_core.specs.Rules.{Step, are_units, on_begin, on_message, on_refusal, on_reply, sequel}
 use Rattle.dialogue_core.specs.declared.fault.DialogueFault.TheVariants.{Unexpected}
-use Rattle.tariff_core.specs.declared.route.Route.{Route}
+use Rattle.price_core.specs.declared.route.Route.{Route}
 use Rattle.workers_core.proofs.OwnCalls.{SaysOf, says_of_call}
 use Rattle.workers_core.specs.Served.{returned_in, returns_of}
 use Rattle.dialogue_core.specs.Talks.{Got, after_got, is_ask, or_done, talked}

@@ -8,7 +8,7 @@ use Rattle.dialogue_core.specs.Rules.{on_begin}
 use Rattle.dialogue_core.specs.Talks.{AreGot, Asking, Got, is_ask, orders_sent_by, talked}
 use Rattle.dialogue_core.specs.Views.{phase_of, says_of}
 use Rattle.run_values.specs.Setups.{Setup}
-use Rattle.tariff_core.specs.declared.route.Route.{Route}
+use Rattle.price_core.specs.declared.route.Route.{Route}
 use Rattle.workers_core.specs.Handled.{AnswerView}
 use Rattle.workers_core.specs.Talks.{last_fault}
 use Rattle.workers_core.specs.Verdicts.{Begins, GoesOn, IsRouted, Recharges, Rejects, Strays, Verdict}

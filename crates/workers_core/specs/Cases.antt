@@ -14,7 +14,7 @@ use Rattle.dialogue_core.specs.Rules.{on_begin}
 use Rattle.dialogue_core.specs.Views.{phase_of, says_of}
 use Rattle.shared_account.specs.Refusals.{IsRefusedAt, Knowing, Refusal}
 use Rattle.shared_account.specs.Seats.{Reads}
-use Rattle.tariff_core.specs.declared.route.Route.{Route}
+use Rattle.price_core.specs.declared.route.Route.{Route}
 use Rattle.workers_core.specs.Handled.{Holding, IsRecharged, IsTalked, IsUnasked, AnswerView}
 use Rattle.run_values.specs.Setups.{Setup}
 use Rattle.dialogue_core.specs.Talks.{Asking, Got}

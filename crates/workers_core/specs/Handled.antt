@@ -8,7 +8,7 @@ use Rattle.cap_values.specs.Orders.{Order, Release, orders_of}
 use Rattle.cap_values.specs.declared.number.Number.{Number}
 use Rattle.dialogue_core.specs.Phases.{Phase, Says, Asks}
 use Rattle.dialogue_core.specs.Rules.{on_begin}
-use Rattle.tariff_core.specs.declared.route.Route.{Route}
+use Rattle.price_core.specs.declared.route.Route.{Route}
 use Rattle.run_values.specs.Setups.{Setup}
 use Rattle.dialogue_core.specs.Talks.{Got, is_ask, orders_sent_by, talked}
 use Rattle.workers_core.specs.Talks.{AllAsk, AreRightlyGot, IsRightlyGot, Showing, entries_of, entry_of, last_fault}

@@ -13,7 +13,7 @@ use Rattle.dialogue_core.specs.Phases.{Conditions, Phase, Running, Says}
 use Rattle.price_core.specs.Rates.{Rates}
 use Rattle.price_core.specs.RatesOf.{rates_of}
 use Rattle.tariff_core.specs.Routes.{HasNoRoute, IsRoute}
-use Rattle.tariff_core.specs.declared.route.Route.{Route}
+use Rattle.price_core.specs.declared.route.Route.{Route}
 use Rattle.price_core.specs.declared.times.TimeInfo.{TimeInfo}
 use Rattle.workers_core.specs.Chains.{AreHandled, IsHandledOnce, IsWorked, at_first, seat_numbers}
 use Rattle.workers_core.specs.Handled.{Holding, IsTalked, AnswerView}

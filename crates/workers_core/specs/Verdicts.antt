@@ -7,7 +7,7 @@ use Rattle.dialogue_core.specs.Phases.{Phase, Says}
 use Rattle.dialogue_core.specs.Rules.{Step, on_message}
 use Rattle.tariff_core.specs.Bands.{Band}
 use Rattle.tariff_core.specs.Routes.{HasNoRoute, IsRoute}
-use Rattle.tariff_core.specs.declared.route.Route.{Route}
+use Rattle.price_core.specs.declared.route.Route.{Route}
 use Rattle.run_values.specs.Setups.{Setup, account_of, place_of}
 use Rattle.run_values.specs.declared.post.Body.{Body}
 use Rattle.run_values.specs.declared.post.Body.TheVariants.{Ssf, Recharge}

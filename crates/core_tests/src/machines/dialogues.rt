@@ -9,9 +9,8 @@ use dialogue_core::{
     Dialogue, DialogueFault, ServiceConfig, Turn, honest_replies_are_expected,
     one_return_if_granted, one_settle_a_grant,
 };
-use price_core::TimeInfo;
+use price_core::{Route, TimeInfo};
 use std::process::Abort;
-use tariff_core::Route;
 
 /// What a dialogue is handed.
 enum Input {

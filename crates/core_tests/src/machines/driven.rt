@@ -8,10 +8,9 @@ use crate::looking::gives;
 use account_core::{Account, AccountFault, AccountPort, Op, Port, Reply};
 use dialogue_core::ServiceConfig;
 use one_call::{CallEnd, DriveFault, drive_call};
-use price_core::{MAX_MONEY, Plan, TimeInfo};
+use price_core::{MAX_MONEY, Plan, Route, TimeInfo};
 use ssf_core::{BcsmEvent, DefaultHandling, Moment, SsfConfig, State};
 use std::process::Abort;
-use tariff_core::Route;
 
 /// What a port does in place of asking its account.
 #[derive(Clone, Copy)]

@@ -1,12 +1,12 @@
 //! Tables that are read and refused, and the routes of a table.
 
 use crate::looking::gives;
-use price_core::Plan;
+use price_core::{Plan, Route};
 use std::alloc::Global;
 use std::io::Read;
 use std::process::Abort;
 use std::test::Fail;
-use tariff_core::{Route, Tariff, TariffFault, TariffKind};
+use tariff_core::{Tariff, TariffFault, TariffKind};
 
 /// The fee, the rates and the free units of a route, and the moment of its switch.
 pub(crate) type Rates = (u64, u64, Option<u64>, u32, Option<u64>);
