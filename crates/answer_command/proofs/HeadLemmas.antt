@@ -1,17 +1,16 @@
 -- The head of an input is read section by section.
-use Rattle.std.proofs.Common.{◌≡◌, ℕ, true, false, List, Option, Some, Result, Ok, Err, refl}
+use Rattle.std.proofs.Common.{◌≡◌, ℕ, List, Option, Some, Result, Ok, Err, refl, inl, inr}
 use Rattle.std.specs.Prelude.{IfSome}
 use Rattle.run_texts.specs.FirstSections.{Divides, first_section}
-use Rattle.run_texts.specs.InputFaults.{RefusesInput as RefusesInput}
-use Rattle.run_texts.specs.Inputs.{tariff_in, as_input_fault}
-use Rattle.run_texts.specs.Setups.{TableSetup, table_setup_of}
+use Rattle.run_texts.specs.InputFaults.{RefusesInput}
+use Rattle.run_texts.specs.Inputs.{tariff_in}
+use Rattle.run_texts.specs.Views.{setup_in}
 use Rattle.run_texts.specs.declared.input_fault.InputFault.{InputFault}
 use Rattle.run_texts.specs.declared.input_fault.InputFault.TheVariants as input
 use Rattle.table_core.specs.Judging.{and_then}
-use Rattle.table_core.specs.Rows.{rows_of}
-use Rattle.tariff_core.specs.Bands.{Band}
-use Rattle.answer_command.specs.Heads.{RefusesService, TakesHeader}
-use Rattle.answer_command.specs.Inputs.{live_input_of, as_serve_fault}
+use Rattle.answer_command.specs.Heads.{HasHead, ReadsHead, RefusesService, SaysHead, TakesHeader, setup_said}
+use Rattle.answer_command.specs.Inputs.{as_serve_fault, behind_header, live_input_of}
+use Rattle.answer_command.specs.declared.head.Head.{Head}
 use Rattle.answer_command.specs.declared.error.ServeError.{ServeError}
 use Rattle.answer_command.specs.declared.error.ServeError.TheVariants as error
 
@@ -26,50 +25,30 @@ refused_answered (input.Script row) meaning next is = rw is refl
 refused_answered input.Device meaning next is = tt
 refused_answered input.OutOfMemory meaning next is = tt
 
--- the first section is refused
-pub no_first : (text : List ℕ) (left : Option (List ℕ)) (why : InputFault) → Divides text left (Err why) → RefusesService (error.Input why) (live_input_of text)
-no_first text left why is = refused_answered why (first_section text) _ is
-
--- the second one
-pub no_second : (text first : List ℕ) (mid left : Option (List ℕ)) (why : InputFault) → Divides text mid (Ok first) → IfSome mid (λ rest. Divides rest left (Err why))
-    → RefusesService (error.Input why) (live_input_of text)
-no_second text first mid left why one two =
-    let (rest, mid_is, is) = one in
-    let refused = rw mid_is at two in
-    rw is (refused_answered why (first_section rest) _ refused)
-
--- both sections were read
-pub record HasSections (text first second : List ℕ) (left : Option (List ℕ)) : Type 0 where
-  pub rest : List ℕ
-  pub behind : List ℕ
-  pub known : left ≡ Some behind
-  pub one : first_section text ≡ Ok (record { section = first; rest = rest })
-  pub two : first_section rest ≡ Ok (record { section = second; rest = behind })
-
-pub both_sections : (text first second : List ℕ) (mid left : Option (List ℕ)) → Divides text mid (Ok first) → IfSome mid (λ rest. Divides rest left (Ok second))
-    → HasSections text first second left
-both_sections text first second mid left one two =
+-- what both sections say
+pub said_by : (text first second : List ℕ) (mid left : Option (List ℕ)) (result : Result Head InputFault) → Divides text mid (Ok first) → IfSome mid (λ rest. Divides rest left (Ok second))
+    → SaysHead first second result → ReadsHead text left result
+said_by text first second mid left result one two says =
     let (rest, mid_is, is) = one in
     let (behind, left_is, is_too) = rw mid_is at two in
-    record { rest = rest; behind = behind; known = left_is; one = is; two = is_too }
+    by_result rest behind is left_is is_too result says
+  where
+    by_result : (rest behind : List ℕ) → first_section text ≡ Ok (record { section = first; rest = rest }) → left ≡ Some behind
+        → first_section rest ≡ Ok (record { section = second; rest = behind }) → (result : Result Head InputFault) → SaysHead first second result → ReadsHead text left result
+    by_result rest behind is left_is is_too (Ok head) says = record {
+      one = record { section = first; rest = rest };
+      two = record { section = second; rest = behind };
+      is_one = is;
+      is_two = is_too;
+      left_is = left_is;
+      says = says;
+    }
+    by_result rest behind is left_is is_too (Err why) (inl no_tariff) = rw (is, is_too) (refused_answered why (tariff_in first) _ no_tariff)
+    by_result rest behind is left_is is_too (Err why) (inr (bands, tariff_is, no_setup)) = rw (is, is_too, tariff_is) (refused_answered why (setup_said second) _ no_setup)
 
-pub no_tariff : (text first second : List ℕ) (left : Option (List ℕ)) (why : InputFault) → HasSections text first second left → RefusesInput why (tariff_in first)
-    → RefusesService (error.Input why) (live_input_of text)
-no_tariff text first second left why has is = rw (has.one, has.two) (refused_answered why (tariff_in first) _ is)
-
-pub no_setup : (text first second : List ℕ) (left : Option (List ℕ)) (tariff : List Band) (why : InputFault) → HasSections text first second left → tariff_in first ≡ Ok tariff
-    → RefusesInput why (as_input_fault input.Setup (table_setup_of (rows_of second))) → RefusesService (error.Input why) (live_input_of text)
-no_setup text first second left tariff why has is refused = rw (has.one, has.two, is) (refused_answered why (as_input_fault input.Setup (table_setup_of (rows_of second))) _ refused)
-
-pub no_header : (text first second : List ℕ) (left new : Option (List ℕ)) (tariff : List Band) (setup : TableSetup) → HasSections text first second left → tariff_in first ≡ Ok tariff
-    → as_input_fault input.Setup (table_setup_of (rows_of second)) ≡ Ok setup → IfSome left (λ behind. TakesHeader behind new false) → live_input_of text ≡ Err error.Header
-no_header text first second left new tariff setup has is is_too takes =
-    let refused = rw has.known at takes in
-    rw (has.one, has.two, is, is_too, refused) refl
-
-pub with_header : (text first second : List ℕ) (left new : Option (List ℕ)) (tariff : List Band) (setup : TableSetup) → HasSections text first second left → tariff_in first ≡ Ok tariff
-    → as_input_fault input.Setup (table_setup_of (rows_of second)) ≡ Ok setup → IfSome left (λ behind. TakesHeader behind new true)
-    → (rows : List ℕ) × (new ≡ Some rows) × (live_input_of text ≡ Ok (record { tariff = tariff; setup = setup; rows = rows }))
-with_header text first second left new tariff setup has is is_too takes =
-    let (rows, new_is, behind_is) = rw has.known at takes in
-    (rows, new_is, rw (has.one, has.two, is, is_too, behind_is) refl)
+-- what is in front of the rows
+pub with_header : (text : List ℕ) (left new : Option (List ℕ)) (head : Head) → HasHead text left head → IfSome left (λ behind. TakesHeader behind new (Ok tt))
+    → (rows : List ℕ) × (new ≡ Some rows) × (live_input_of text ≡ Ok (record { tariff = head.tariff; setup = setup_in head.directory; rows = rows }))
+with_header text left new head has takes =
+    let (rows, new_is, behind_is) = rw has.left_is at takes in
+    (rows, new_is, rw (has.is_one, has.is_two, has.says.0, has.says.1, behind_is) refl)

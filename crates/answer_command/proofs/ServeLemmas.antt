@@ -195,7 +195,12 @@ module _ (ask : LiveAsk) (log : Option LogWish) (meaning : Result LiveInput Serv
   refused known (error.Log why) of is = absurd of
   refused known (error.LogRow row kind) of is = absurd of
   refused known (error.Live why) of is = absurd of
-  refused known (error.Run why) of is = absurd of
+  refused known (error.Run run.OutOfMemory) of is = tt
+  refused known (error.Run run.Workers) of is = absurd of
+  refused known (error.Run run.GateClosed) of is = absurd of
+  refused known (error.Run run.Mismatch) of is = absurd of
+  refused known (error.Run run.Channel) of is = absurd of
+  refused known (error.Run run.Thread) of is = absurd of
 
   -- its log can't be used
   pub loses_log : (known : Option (List ℕ)) (said : LiveInput) → meaning ≡ Ok said → IsSome log → LosesLog log meaning known known

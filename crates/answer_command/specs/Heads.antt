@@ -1,13 +1,24 @@
 -- How the head of an input is read, and what a fault says of the output.
-use Rattle.std.specs.Prelude.{◌≡◌, ℕ, Bool, true, false, List, Option, Some, Result, Ok, Err, ⊤}
+use Rattle.std.specs.Prelude.{◌≡◌, ◌⊎◌, ℕ, List, Option, Some, Result, Ok, Err, ⊤}
 use Rattle.std.specs.Io.KnownBytes.{Keeps}
 use Rattle.live_answers.specs.Runs.{MayEndLive}
 use Rattle.live_answers.specs.declared.checking.ReplayFault.{ReplayFault}
 use Rattle.live_answers.specs.declared.checking.ReplayFault.TheVariants as replay
 use Rattle.live_log.specs.declared.fault.LogFault.TheVariants as log
+use Rattle.run_options.specs.declared.live.LiveAsk.{LiveAsk}
+use Rattle.run_texts.specs.FirstSections.{FirstSection, first_section}
+use Rattle.run_texts.specs.InputFaults.{RefusesInput}
+use Rattle.run_texts.specs.Inputs.{tariff_in, as_input_fault}
+use Rattle.run_texts.specs.Setups.{TableSetup, table_setup_of}
 use Rattle.run_texts.specs.Views.{setup_in}
+use Rattle.run_texts.specs.declared.input_fault.InputFault.{InputFault}
 use Rattle.run_texts.specs.declared.input_fault.InputFault.TheVariants as input
-use Rattle.answer_command.specs.Inputs.{behind_header, live_input_of}
+use Rattle.run_values.specs.Setups.{Setup}
+use Rattle.run_values.specs.declared.run_fault.RunFault.TheVariants as run
+use Rattle.table_core.specs.Rows.{rows_of}
+use Rattle.tariff_core.specs.Bands.{Band}
+use Rattle.answer_command.specs.Inputs.{LiveInput, behind_header, live_input_of}
+use Rattle.answer_command.specs.Serves.{IsLiveSetupOf}
 use Rattle.answer_command.specs.declared.error.ServeError.{ServeError}
 use Rattle.answer_command.specs.declared.error.ServeError.TheVariants as error
 use Rattle.answer_command.specs.declared.head.Head.{Head}
@@ -16,26 +27,50 @@ use Rattle.answer_command.specs.declared.head.Head.{Head}
 abbrev pub RefusesService : {X : Type 0} → ServeError → Result X ServeError → Type 0
 RefusesService (error.Input input.Device) meaning = ⊤
 RefusesService (error.Input input.OutOfMemory) meaning = ⊤
+RefusesService (error.Run run.OutOfMemory) meaning = ⊤
 RefusesService why meaning = meaning ≡ Err why
 
--- the head was read of a text, and its rows are left
-abbrev pub ReadsHead : List ℕ → Option (List ℕ) → Result Head ServeError → Type 0
-ReadsHead text left (Ok head) =
-    (rows : List ℕ) × (left ≡ Some rows) × (live_input_of text ≡ Ok (record { tariff = head.tariff; setup = setup_in head.directory; rows = rows }))
-ReadsHead text left (Err why) = RefusesService why (live_input_of text)
+-- what a setup says
+abbrev pub setup_said : List ℕ → Result TableSetup InputFault
+setup_said text = as_input_fault input.Setup (table_setup_of (rows_of text))
+
+-- what sections say of a tariff and of a setup; the fault is that of the tariff, or where it has none that of the setup
+abbrev pub SaysHead : List ℕ → List ℕ → Result Head InputFault → Type 0
+SaysHead tariff setup (Ok head) = (tariff_in tariff ≡ Ok head.tariff) × (setup_said setup ≡ Ok (setup_in head.directory))
+SaysHead tariff setup (Err why) = RefusesInput why (tariff_in tariff) ⊎ ((bands : List Band) × (tariff_in tariff ≡ Ok bands) × RefusesInput why (setup_said setup))
+
+-- a text has a head that says this, and what is behind it is left
+pub record HasHead (text : List ℕ) (left : Option (List ℕ)) (head : Head) : Type 0 where
+  pub one : FirstSection
+  pub two : FirstSection
+  pub is_one : first_section text ≡ Ok one
+  pub is_two : first_section one.rest ≡ Ok two
+  pub left_is : left ≡ Some two.rest
+  pub says : SaysHead one.section two.section (Ok head)
+
+-- the head was read of a text, and what is behind it is left
+abbrev pub ReadsHead : List ℕ → Option (List ℕ) → Result Head InputFault → Type 0
+ReadsHead text left (Ok head) = HasHead text left head
+ReadsHead text left (Err why) = RefusesService (error.Input why) (live_input_of text)
 
 -- the header was taken of a text, and the rows are left; or it isn't there
-abbrev pub TakesHeader : List ℕ → Option (List ℕ) → Bool → Type 0
-TakesHeader text left true = (rows : List ℕ) × (left ≡ Some rows) × (behind_header text ≡ Ok rows)
-TakesHeader text left false = behind_header text ≡ Err error.Header
+abbrev pub TakesHeader : List ℕ → Option (List ℕ) → Result (Unit {0}) ServeError → Type 0
+TakesHeader text left (Ok done) = (rows : List ℕ) × (left ≡ Some rows) × (behind_header text ≡ Ok rows)
+TakesHeader text left (Err why) = RefusesService why (behind_header text)
 
--- a fault of what is in front of the rows
+-- a run is set up with what a text says in front of its rows, and these are left
+abbrev pub ReadsSetup : LiveAsk → List ℕ → Option (List ℕ) → Result Setup ServeError → Type 0
+ReadsSetup ask text left (Ok setup) = (said : LiveInput) × (left ≡ Some said.rows) × (live_input_of text ≡ Ok said) × IsLiveSetupOf ask said setup
+ReadsSetup ask text left (Err why) = RefusesService why (live_input_of text)
+
+-- a fault of what is in front of the rows, or memory ran out behind it
 abbrev pub IsOfHead : ServeError → Type 0
 IsOfHead (error.Input why) = ⊤
 IsOfHead error.Header = ⊤
 IsOfHead (error.Log why) = ⊥
 IsOfHead (error.LogRow row kind) = ⊥
 IsOfHead (error.Live why) = ⊥
+IsOfHead (error.Run run.OutOfMemory) = ⊤
 IsOfHead (error.Run why) = ⊥
 
 -- a fault of the log

@@ -3,17 +3,17 @@
 ghost use Rattle.std.specs.Prelude.{◌≡◌, IfErr, IfOk, IfSome, OnOk, ℕ, List, option_map, string_bytes};
 ghost use Rattle.std.specs.Io.KnownBytes.{Appends};
 ghost use Rattle.answer_command.specs.Ends.{IsCutAt, IsCutEnd, IsEndOf, end_with, is_cut_off};
-ghost use Rattle.answer_command.specs.Heads.{IsOfRun, IsServingSilent};
+ghost use Rattle.answer_command.specs.Heads.{IsOfLog, IsOfRun, IsServingSilent};
 ghost use Rattle.answer_command.specs.Inputs.{live_input_of};
+ghost use Rattle.answer_command.specs.Replays.{HearsLog};
 ghost use Rattle.answer_command.specs.Serves.{EndsServing, ServesBy};
 ghost use Rattle.run_options.specs.Logs.{log_wish_of};
 ghost use Rattle.run_options.specs.Options.{live_ask_of};
 
 use crate::ServeError;
-use crate::head::{Head, read_head};
+use crate::head::read_setup;
 use crate::recording::Recording;
 use crate::replaying::{Rows, replay_of};
-use account_core::MAX_LIMIT;
 use book_texts::{book_table, run_lines};
 use call_records::{call_table, records};
 use live_answers::{Answered, LiveFault, Replay, answer_live};
@@ -58,8 +58,7 @@ pub fn serve_input<R: Wait + Threads + Sync + Files<File = File>, I: BufRead + D
         (IsServingSilent (O.contents output.old) (O.contents output.new)) }
 {
     let mut input = Recording::new(alloc, input);
-    let Head { tariff, directory } = read_head(alloc, &mut input)?;
-    let setup = RunSetup::of(alloc, directory, tariff, options.service, MAX_LIMIT)?;
+    let setup = read_setup(alloc, options, &mut input)?;
     let (input, head) = input.into_parts();
     let Some(log) = log else {
         let rows = Rows {
@@ -69,14 +68,30 @@ pub fn serve_input<R: Wait + Threads + Sync + Files<File = File>, I: BufRead + D
         };
         return serve_rows(rt, alloc, options.output, &setup, rows, output);
     };
-    let OpenLog { file, lines } = open_log_of(rt, alloc, options, log.path, head.as_slice())?;
+    let (OpenLog { file, lines }, replay) = hear_log(rt, alloc, options, log, head)?;
     let lines = lines.as_slice();
     let rows = Rows {
         input: lines.chain(input),
         log: Skipping::new(lines, file),
-        replay: replay_of(alloc, lines, log.again)?,
+        replay,
     };
     serve_rows(rt, alloc, options.output, &setup, rows, output)
+}
+
+/// Opens the log of an input that begins with these bytes, and says how its lines are heard again.
+fn hear_log<R: Files<File = File>>(
+    rt: &R,
+    alloc: Global,
+    options: &LiveOptions,
+    ask: LogAsk<'_>,
+    input: Vec<u8>,
+) -> Result<(OpenLog, Replay), ServeError>
+    ensures hears { IfOk result (λ heard. HearsLog ask.entry.again heard.0.lines.items heard.1) }
+    ensures fault { IfErr result IsOfLog }
+{
+    let log = open_log_of(rt, alloc, options, ask.path, input)?;
+    let replay = replay_of(alloc, log.lines.as_slice(), ask.again)?;
+    Ok((log, replay))
 }
 
 /// Opens the log of an input that begins with these bytes.
@@ -85,9 +100,9 @@ fn open_log_of<R: Files<File = File>>(
     alloc: Global,
     options: &LiveOptions,
     path: &str,
-    input: &[u8],
+    input: Vec<u8>,
 ) -> Result<OpenLog, LogFault> {
-    let Ok(head) = log_head(alloc, options.service, input) else {
+    let Ok(head) = log_head(alloc, options.service, input.as_slice()) else {
         return Err(LogFault::OutOfMemory);
     };
     open_log(rt, alloc, path, head.as_slice())
