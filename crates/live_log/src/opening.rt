@@ -4,7 +4,7 @@ use crate::{Found, LogFault, Synced, find_lines};
 use std::alloc::Global;
 use std::fs;
 use std::fs::File;
-use std::io::{Read, Write};
+use std::io::{self, Read, Write};
 use std::path::Path;
 use std::rt::Files;
 
@@ -29,7 +29,18 @@ pub fn open_log<R: Files<File = File>>(
     path: &str,
     head: &[u8],
 ) -> Result<OpenLog, LogFault> {
-    let mut file = File::options()
+    let mut file = lock_file(rt, path)?;
+    let lines = take_lines(rt, alloc, path, &mut file, head)?;
+    file.sync_all()?;
+    Ok(OpenLog {
+        file: Synced(file),
+        lines,
+    })
+}
+
+/// Opens the file of a log, which has to be a plain one, and locks it.
+fn lock_file<R: Files<File = File>>(rt: &R, path: &str) -> Result<File, LogFault> {
+    let file = File::options()
         .read(true)
         .append(true)
         .create(true)
@@ -38,7 +49,19 @@ pub fn open_log<R: Files<File = File>>(
         return Err(LogFault::Device);
     }
     file.try_lock()?;
-    let mut text = read_log(alloc, &mut file, head)?;
+    Ok(file)
+}
+
+/// The lines that a log holds behind its head, with which its file ends then: a torn end is cut
+/// off, and where the head is, the log is begun anew.
+fn take_lines<R: Files<File = File>>(
+    rt: &R,
+    alloc: Global,
+    path: &str,
+    file: &mut File,
+    head: &[u8],
+) -> Result<Vec<u8>, LogFault> {
+    let mut text = read_log(alloc, file, head)?;
     match find_lines(text.as_slice(), head) {
         Found::Lines(lines) => {
             let end = head.len() + lines.len();
@@ -48,17 +71,23 @@ pub fn open_log<R: Files<File = File>>(
         }
         Found::Begun => {
             text.clear();
-            file.set_len(0)?;
-            file.write_all(head)?;
-            sync_folder(rt, path)?;
+            begin_log(rt, path, file, head)?;
         }
         Found::Other => return Err(LogFault::Other),
     }
-    file.sync_all()?;
-    Ok(OpenLog {
-        file: Synced(file),
-        lines: text,
-    })
+    Ok(text)
+}
+
+/// Begins a log: its file has its head alone then, and a name on the disk.
+fn begin_log<R: Files<File = File>>(
+    rt: &R,
+    path: &str,
+    file: &mut File,
+    head: &[u8],
+) -> io::Result<()> {
+    file.set_len(0)?;
+    file.write_all(head)?;
+    sync_folder(rt, path)
 }
 
 /// What a log holds; no more than the length of its head where it begins otherwise.
@@ -74,11 +103,10 @@ fn read_log(alloc: Global, file: &mut File, head: &[u8]) -> Result<Vec<u8>, LogF
 }
 
 /// Puts the name of a new file on the disk.
-fn sync_folder<R: Files<File = File>>(rt: &R, path: &str) -> Result<(), LogFault> {
+fn sync_folder<R: Files<File = File>>(rt: &R, path: &str) -> io::Result<()> {
     let folder = match Path::new(path).parent() {
         Some(folder) if !folder.as_str().is_empty() => folder,
         _ => Path::new("."),
     };
-    fs::open(rt, folder)?.sync_all()?;
-    Ok(())
+    fs::open(rt, folder)?.sync_all()
 }
