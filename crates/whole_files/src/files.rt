@@ -25,9 +25,26 @@ pub fn write_files<R: Files<File = File>>(
         return Err(io::Error::from(ErrorKind::NotADirectory));
     }
     let mut files = Vec::new(alloc);
+    write_new(rt, alloc, folder, texts, &mut files)?;
+    rename_all(files.as_slice())
+}
+
+/// Writes texts into files of a folder, each under another name.
+fn write_new<'a, R: Files<File = File>>(
+    rt: &'a R,
+    alloc: Global,
+    folder: &str,
+    texts: &[(&str, &str)],
+    files: &mut Vec<NewFile<'a, R>>,
+) -> io::Result<()> {
     for (name, text) in texts {
         files.push(NewFile::write(rt, alloc, folder, name, text)?)?;
     }
+    Ok(())
+}
+
+/// Gives files their names, up to the first that can't have it.
+fn rename_all<R: Files<File = File>>(files: &[NewFile<'_, R>]) -> io::Result<()> {
     for file in files {
         file.rename()?;
     }
@@ -51,11 +68,7 @@ impl<'a, R: Files<File = File>> NewFile<'a, R> {
         name: &str,
         text: &str,
     ) -> io::Result<NewFile<'a, R>> {
-        let mut other = String::new(alloc);
-        write!(other, ".{name}.new")?;
-        let folder = Path::new(folder);
-        let name = folder.join(alloc, name)?;
-        let written = folder.join(alloc, other.as_str())?;
+        let (written, name) = paths_of(alloc, folder, name)?;
         let mut file = File::create(rt, written.as_path())?;
         let new = NewFile { rt, written, name };
         write_whole(&mut file, text)?;
@@ -63,7 +76,7 @@ impl<'a, R: Files<File = File>> NewFile<'a, R> {
     }
 
     /// Gives the file its name.
-    fn rename(self) -> io::Result<()> {
+    fn rename(&self) -> io::Result<()> {
         fs::rename(self.rt, self.written.as_path(), self.name.as_path())
     }
 }
@@ -77,6 +90,16 @@ impl<R: Files<File = File>> Drop for NewFile<'_, R> {
         } = self;
         let _ = fs::remove_file(rt, written.as_path());
     }
+}
+
+/// The paths of a file in a folder: that under which it is written, and that of its name.
+fn paths_of(alloc: Global, folder: &str, name: &str) -> io::Result<(PathBuf, PathBuf)> {
+    let mut other = String::new(alloc);
+    write!(other, ".{name}.new")?;
+    let folder = Path::new(folder);
+    let name = folder.join(alloc, name)?;
+    let written = folder.join(alloc, other.as_str())?;
+    Ok((written, name))
 }
 
 /// Writes a text into a file, whose bytes are on the disk then.
