@@ -10,3 +10,4 @@ pub mod Runs
 pub mod Said
 pub mod Stages
 pub mod Standing
+pub mod Takings

@@ -1,21 +1,23 @@
 //! The rounds of a live run.
 
-ghost use Rattle.std.specs.Prelude.{◌≡◌, ◌++◌, ℕ, List, IfErr, IfOk, OnOk};
+ghost use Rattle.std.specs.Prelude.{◌≡◌, ◌≤◌, ◌++◌, ℕ, List, All, IfErr, IfOk, OnOk};
+ghost use Rattle.live_answers.specs.Cuts.{WhereFailed};
+ghost use Rattle.live_answers.specs.Takings.{CutsGroup, TakesGroup};
+ghost use Rattle.price_core.specs.declared.times.TheConstants.{HORIZON};
 ghost use Rattle.run_values.specs.declared.post.Body.{Body};
 
 use crate::LiveFault;
 use crate::driver::LiveDriver;
 use crate::fault::Stop;
 use crate::group::{Group, take_group};
-use crate::judging::last_moment;
+use crate::judging::{Said, last_moment};
 use crate::saying::{give, put_down, say};
 use crate::stage::{Left, Stage};
 use run_values::{Answer, Body, Driver};
-use std::alloc::AllocError;
+use std::alloc::{AllocError, Global};
 use std::io::{BufRead, Write};
 
 impl<I: BufRead, O: Write, L: Write> LiveDriver<'_, '_, I, O, L> {
-    ghost use Rattle.live_answers.specs.Cuts.{WhereFailed};
     ghost use Rattle.live_answers.specs.Rounds.{HearsLines, IsStoppedBy, WritesOn};
 
     /// Prints what is due, and takes the next lines; none where no line is left.
@@ -45,15 +47,37 @@ impl<I: BufRead, O: Write, L: Write> LiveDriver<'_, '_, I, O, L> {
             Stage::Open(Left::Unread) => return Err(Stop::Failed(LiveFault::Input)),
             Stage::Open(Left::Nothing) | Stage::Ended | Stage::Failed(_) => return Ok(None),
         }
-        let last = last_moment(self.given.as_slice());
-        let mut group = Group::new(self.alloc, self.given.len(), last);
-        let left = take_group(self.alloc, &mut self.input, &mut group)?;
-        self.given.reserve(group.said.len())?;
-        put_down(self.log, group.logged.as_slice())?;
-        give(&mut self.given, group.said.as_slice())?;
-        self.said = group.said;
+        let (left, said) = take_lines(self.alloc, &mut self.input, self.log, &mut self.given)?;
+        self.said = said;
         Ok(Some(left))
     }
+}
+
+/// Takes the next lines, logs their messages, and then gives these. The result is what is left
+/// behind the lines, and what they say.
+fn take_lines<I: BufRead, L: Write>(
+    alloc: Global,
+    input: &mut I,
+    log: &mut L,
+    given: &mut Vec<(u64, Body)>,
+) -> Result<(Left, Vec<Said>), Stop>
+    requires moments { All (λ item. item.0 ≤ HORIZON) given.old.items }
+    ensures moments { All (λ item. item.0 ≤ HORIZON) given.new.items }
+    ensures takes { IfOk result (λ taken. TakesGroup (I.remaining input.old)
+        (I.remaining input.new) (L.contents log.old) (L.contents log.new) given.old.items
+        given.new.items taken.1.items taken.0) }
+    ensures stopped { IfErr result (WhereFailed (CutsGroup (I.remaining input.old)
+        (L.contents log.old) (L.contents log.new) given.old.items given.new.items)) }
+    ensures grows { OnOk result ((added : List (ℕ × Body))
+        × (given.new.items ≡ given.old.items ++ added)) }
+{
+    let last = last_moment(given.as_slice());
+    let mut group = Group::new(alloc, given.len(), last);
+    let left = take_group(alloc, input, &mut group)?;
+    given.reserve(group.said.len())?;
+    put_down(log, group.logged.as_slice())?;
+    give(given, group.said.as_slice())?;
+    Ok((left, group.said))
 }
 
 impl<I: BufRead, O: Write, L: Write> Driver for LiveDriver<'_, '_, I, O, L> {
