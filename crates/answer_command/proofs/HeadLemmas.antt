@@ -9,7 +9,7 @@ use Rattle.run_texts.specs.declared.input_fault.InputFault.{InputFault}
 use Rattle.run_texts.specs.declared.input_fault.InputFault.TheVariants as input
 use Rattle.table_core.specs.Judging.{and_then}
 use Rattle.answer_command.specs.Heads.{HasHead, ReadsHead, RefusesService, SaysHead, TakesHeader, setup_said}
-use Rattle.answer_command.specs.Inputs.{as_serve_fault, behind_header, live_input_of}
+use Rattle.answer_command.specs.Inputs.{as_serve_fault, live_input_of}
 use Rattle.answer_command.specs.declared.head.Head.{Head}
 use Rattle.answer_command.specs.declared.error.ServeError.{ServeError}
 use Rattle.answer_command.specs.declared.error.ServeError.TheVariants as error
