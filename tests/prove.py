@@ -107,9 +107,7 @@ def prove_alone(library, jobs, niceness):
 
 
 def build(library, jobs, niceness):
-    """Proves a library, unless it is proved, and prints what the toolchain says, all or its last line. Whether it is proved."""
-    if is_proved(library):
-        return True
+    """Proves a library, and prints what the toolchain says, all or its last line. Whether it is proved."""
     library = copy.copy(library)
     with tempfile.TemporaryFile("w+", errors="replace") as library.out:
         status = prove_alone(library, jobs, niceness)
@@ -120,9 +118,20 @@ def build(library, jobs, niceness):
     return not status
 
 
+def proved_of(libraries):
+    """Those of the libraries that are proved, over others that are."""
+    proved = set()
+    # Each library is behind those that it uses.
+    for it in libraries:
+        if proved.issuperset(it.below()) and is_proved(it):
+            proved.add(it)
+    return proved
+
+
 def prove(libraries, processors):
     """Proves the libraries, each once those that it uses are proved. Whether all are."""
-    behind, left, running, proved = work_behind(libraries), list(libraries), {}, set()
+    proved = proved_of(libraries)
+    behind, left, running = work_behind(libraries), [it for it in libraries if it not in proved], {}
     most = min(MOST_JOBS, processors)
     with ThreadPoolExecutor(len(libraries) or 1) as pool:
         while left or running:
