@@ -12,7 +12,7 @@ HELD := serve devices dist docs explain words report pipe into divide program
 .PHONY: test-edits test-tries test-prove test-growths test-random $(HELD:%=test-%)
 
 # Proves what is below the program, several crates at once, and builds bin/prepaid; out/proved/prepaid says by which
-# toolchain. A process takes 0.7 to 3.5 GB; with four processors it took 6.4 GB in all.
+# toolchain. A process takes 0.7 to 3.5 GB; with four processors it took 7 GB in all.
 all: bin/prepaid
 
 bin/prepaid: $(SOURCES)
