@@ -52,8 +52,8 @@ fn lock_file<R: Files<File = File>>(rt: &R, path: &str) -> Result<File, LogFault
     Ok(file)
 }
 
-/// The lines that a log holds behind its head, with which its file ends then: a torn end is cut
-/// off, and where the head is, the log is begun anew.
+/// The lines that a log holds behind its head, with which its file ends then: a torn last line is
+/// cut off, and a log whose head is torn is begun anew.
 fn take_lines<R: Files<File = File>>(
     rt: &R,
     alloc: Global,
