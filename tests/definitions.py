@@ -90,8 +90,8 @@ def named():
 
 def subject(crate):
     """What a crate is about: the first paragraph of its documentation."""
-    words = []
-    for line in lines_of(f"crates/{crate}/src/lib.rt"):
+    words, (root,) = [], glob.glob(f"crates/{crate}/src/lib.rt") or glob.glob(f"crates/{crate}/src/main.rt")
+    for line in lines_of(root):
         if not line.startswith("//! "):
             break
         words.append(line[4:])

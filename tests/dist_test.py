@@ -74,8 +74,8 @@ class Repository:
         for path in glob.glob(f"{ROOT}/tests/*.*"):
             write(f"{self.top}/tests/{os.path.basename(path)}", TEST, 0o755)
         write(f"{folder}/stand-ins/rt", TOOLCHAIN, 0o755)
-        write(f"{self.top}/crates.txt", "prepaid_command:\nprepaid: prepaid_command\n")
-        for path in ("prepaid_command/src/lib.rt", "prepaid/src/main.rt"):
+        write(f"{self.top}/crates.txt", "table_commands:\nprepaid: table_commands\n")
+        for path in ("table_commands/src/lib.rt", "prepaid/src/main.rt"):
             write(f"{self.top}/crates/{path}", "")
         self.run("git", "init", "--quiet")
         self.run("git", "add", "--all")

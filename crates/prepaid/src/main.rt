@@ -1,14 +1,24 @@
-//! `prepaid`: prepaid call control on the command line. All of the work is in the library
-//! `prepaid_command`; here it gets the words, standard input and the two outputs, and whether
-//! somebody sits at a terminal.
+//! `prepaid`: prepaid call control on the command line. All of the work is done by `command`, over
+//! any reader and writers: words and a text in, a text or a fault out. Here it gets the words,
+//! standard input and the two outputs, and whether somebody sits at a terminal.
 #![tactic(auto)]
 
-use prepaid_command::{Terminal, command};
+mod answer;
+mod ending;
+mod faults;
+mod files;
+mod program;
+mod running;
+mod serving;
+mod terminal;
+
+use program::command;
 use std::alloc::AllocError;
 use std::io::{BufReader, IsTerminal};
 use std::process::ExitCode;
 use std::{env, io};
 use table_commands::{Fault, Noting};
+use terminal::Terminal;
 
 /// How many bytes of the input are read ahead: all that a pipe holds.
 const READ_AHEAD: usize = 65_536;

@@ -11,10 +11,10 @@ use Rattle.table_commands.specs.Input.{sized}
 use Rattle.table_commands.specs.Printouts.{Printout}
 use Rattle.table_commands.specs.declared.fault.Fault.{Fault}
 use Rattle.table_commands.specs.declared.fault.Fault.TheVariants as fault
-use Rattle.prepaid_command.specs.Answers.{IsFiledRunOfInput}
-use Rattle.prepaid_command.specs.Explanations.{IsSaidBehind}
-use Rattle.prepaid_command.specs.Faults.{of_run}
-use Rattle.prepaid_command.specs.Printouts.{printout_of_files}
+use Rattle.prepaid.specs.Answers.{IsFiledRunOfInput}
+use Rattle.prepaid.specs.Explanations.{IsSaidBehind}
+use Rattle.prepaid.specs.Faults.{of_run}
+use Rattle.prepaid.specs.Printouts.{printout_of_files}
 
 -- what is said behind a run over an input that was kept is said over the input
 pub behind_kept : {V W X : Type 0} (items : V → List ℕ) (text_of : W → List ℕ) (view : X → Printout) (known : Option (List ℕ)) (kept : Option V) (more : Option W) (answer : Result X Fault)

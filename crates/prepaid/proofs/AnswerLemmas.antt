@@ -39,10 +39,10 @@ use Rattle.table_commands.specs.Writers.{Written}
 use Rattle.table_commands.specs.declared.fault.Fault.{Fault}
 use Rattle.table_commands.specs.declared.fault.Fault.TheVariants as fault
 use Rattle.table_commands.specs.declared.fault.TableName.TheVariants as table_name
-use Rattle.prepaid_command.specs.Answers.{Answers, IsAnswer, IsAnswerTo, IsFiledRun, IsRunPrinted, IsSaidOrReported}
-use Rattle.prepaid_command.specs.Explanations.{IsAdded, IsSaidBehind, IsSaidBy, has_sections}
-use Rattle.prepaid_command.specs.Faults.{of_run}
-use Rattle.prepaid_command.specs.Printouts.{printout_of_files, printout_of_run}
+use Rattle.prepaid.specs.Answers.{Answers, IsAnswer, IsAnswerTo, IsFiledRun, IsRunPrinted, IsSaidOrReported}
+use Rattle.prepaid.specs.Explanations.{IsAdded, IsSaidBehind, IsSaidBy, has_sections}
+use Rattle.prepaid.specs.Faults.{of_run}
+use Rattle.prepaid.specs.Printouts.{printout_of_files, printout_of_run}
 
 -- ---- no input has a fault of the words
 

@@ -1,9 +1,9 @@
 use Rattle.std.proofs.Common.{ℕ, List, Err, subst}
 use Rattle.run_command.specs.Tables.{IsTablesAnswer, tables_said}
 use Rattle.run_options.specs.Options.{ask_of}
-use Rattle.prepaid_command.specs.Printouts.{printout_of}
-use Rattle.prepaid_command.proofs.RunLemmas.{failed, taken}
-use Rattle.prepaid_command.proofs.running.run_into_folder.Goals as goal
+use Rattle.prepaid.specs.Printouts.{printout_of}
+use Rattle.prepaid.proofs.RunLemmas.{failed, taken}
+use Rattle.prepaid.proofs.running.run_into_folder.Goals as goal
 
 pub returns-in-Ok-clause-answer : goal.returns-in-Ok-clause-answer
 returns-in-Ok-clause-answer g c =

@@ -5,7 +5,7 @@ use Rattle.run_command.specs.Tables.{TablesSaid}
 use Rattle.table_commands.specs.Printouts.{Printout}
 use Rattle.run_remarks.specs.Lists.{unplaced_line}
 use Rattle.run_remarks.specs.RefusedLines.{refused_line}
-use Rattle.prepaid_command.specs.declared.answer.Answer.{Answer}
+use Rattle.prepaid.specs.declared.answer.Answer.{Answer}
 
 -- what a run says
 abbrev pub printout_of_run : RunSaid → Printout

@@ -1,9 +1,9 @@
 use Rattle.std.proofs.Common.{Global, true, ℕ, string_bytes}
 use Rattle.std.specs.Prelude.{Vec}
 use Rattle.table_commands.proofs.SaidLemmas.{said_of_kept}
-use Rattle.prepaid_command.proofs.RunLemmas.{behind_kept}
-use Rattle.prepaid_command.specs.Printouts.{printout_of}
-use Rattle.prepaid_command.proofs.running.run_input.Goals as goal
+use Rattle.prepaid.proofs.RunLemmas.{behind_kept}
+use Rattle.prepaid.specs.Printouts.{printout_of}
+use Rattle.prepaid.proofs.running.run_input.Goals as goal
 
 pub returns-clause-more : goal.returns-clause-more
 returns-clause-more g c =

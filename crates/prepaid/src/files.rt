@@ -1,7 +1,7 @@
 //! The files of what a run prints.
 
 ghost use Rattle.std.specs.Prelude.{◌≡◌, map};
-ghost use Rattle.prepaid_command.specs.Files.{files_of};
+ghost use Rattle.prepaid.specs.Files.{files_of};
 ghost use Rattle.run_command.specs.Tables.{tables_said};
 
 use run_command::RunTables;

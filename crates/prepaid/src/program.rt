@@ -4,8 +4,8 @@ ghost use Rattle.std.specs.Prelude.{◌≡◌, ◌⊎◌, ◌++◌, map, option_
 ghost use Rattle.std.specs.Io.KnownBytes.{Keeps};
 ghost use Rattle.std.specs.Result.{result_map_both};
 ghost use Rattle.rating.specs.Fronts.{AppendsFront};
-ghost use Rattle.prepaid_command.specs.Answers.{Answers, IsCutOff, IsPrinted, IsSaidOrReported, RatesAsAsked, ServesAsAsked};
-ghost use Rattle.prepaid_command.specs.Printouts.{printout_of};
+ghost use Rattle.prepaid.specs.Answers.{Answers, IsCutOff, IsPrinted, IsSaidOrReported, RatesAsAsked, ServesAsAsked};
+ghost use Rattle.prepaid.specs.Printouts.{printout_of};
 ghost use Rattle.run_remarks.specs.RefusedLines.{refused_line};
 
 use crate::answer::Answer;

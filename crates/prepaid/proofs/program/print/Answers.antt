@@ -2,8 +2,8 @@ use Rattle.std.proofs.Common.{true, inr, refl}
 use Rattle.table_commands.proofs.WriteLemmas.{wholly}
 use Rattle.rating.proofs.FrontLemmas.{some_written, still_written}
 use Rattle.rating.specs.Fronts.{AppendsFront}
-use Rattle.prepaid_command.proofs.program.print.Goals as goal
-use Rattle.prepaid_command.proofs.program.print.Goals.{else-write_text-via-then-write_text+else-is_ok, else-write_text-via-else-write_text}
+use Rattle.prepaid.proofs.program.print.Goals as goal
+use Rattle.prepaid.proofs.program.print.Goals.{else-write_text-via-then-write_text+else-is_ok, else-write_text-via-else-write_text}
 
 pub returns-else-write_text : goal.returns-else-write_text
 returns-else-write_text g c =

@@ -2,7 +2,7 @@
 
 ghost use Rattle.std.specs.Prelude.{◌≡◌};
 ghost use Rattle.std.specs.IoError.{error_kind};
-ghost use Rattle.prepaid_command.specs.Faults.{of_files, of_log, of_run, of_serve};
+ghost use Rattle.prepaid.specs.Faults.{of_files, of_log, of_run, of_serve};
 
 use answer_command::ServeError;
 use live_answers::LiveFault;

@@ -6,9 +6,9 @@ ghost use Rattle.book_texts.specs.Checks.{audited_by};
 ghost use Rattle.table_commands.specs.Answers.{printout_of_audit};
 ghost use Rattle.table_commands.specs.Explanations.{IsSaidOfFault, slip_of};
 ghost use Rattle.table_commands.specs.Printouts.{plain};
-ghost use Rattle.prepaid_command.specs.Explanations.{IsSaidBehind};
+ghost use Rattle.prepaid.specs.Explanations.{IsSaidBehind};
 ghost use Rattle.run_remarks.specs.Lists.{unplaced_line};
-ghost use Rattle.prepaid_command.specs.Printouts.{printout_of};
+ghost use Rattle.prepaid.specs.Printouts.{printout_of};
 
 use crate::answer::Answer;
 use book_texts::Audit;

@@ -26,9 +26,9 @@ use Rattle.table_commands.specs.Ratings.{IsRatedByWish}
 use Rattle.table_commands.specs.Writers.{IsReported, IsSaid, Written}
 use Rattle.table_commands.specs.declared.fault.Fault.{Fault}
 use Rattle.table_commands.specs.declared.fault.Fault.TheVariants as fault
-use Rattle.prepaid_command.specs.Explanations.{IsAdded, IsSaidBy}
-use Rattle.prepaid_command.specs.Faults.{of_run, of_serve}
-use Rattle.prepaid_command.specs.Printouts.{printout_of_files, printout_of_run}
+use Rattle.prepaid.specs.Explanations.{IsAdded, IsSaidBy}
+use Rattle.prepaid.specs.Faults.{of_run, of_serve}
+use Rattle.prepaid.specs.Printouts.{printout_of_files, printout_of_run}
 
 -- an answer of a run, its fault as the program's
 pub record IsRunPrinted (ask : RunAsk) (text : List ℕ) (answer : Result Printout Fault) : Type 0 where

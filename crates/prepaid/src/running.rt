@@ -8,9 +8,9 @@ ghost use Rattle.run_values.specs.declared.run_fault.RunFault.TheVariants as run
 ghost use Rattle.table_commands.specs.Explanations.{IsSaidOfAnswer};
 ghost use Rattle.table_commands.specs.Faults.{GivesOne};
 ghost use Rattle.table_commands.specs.declared.fault.Fault.TheVariants as fault;
-ghost use Rattle.prepaid_command.specs.Answers.{IsFiledRunOfInput, IsRunOfInput};
-ghost use Rattle.prepaid_command.specs.Explanations.{IsSaidBehind};
-ghost use Rattle.prepaid_command.specs.Printouts.{printout_of, printout_of_files};
+ghost use Rattle.prepaid.specs.Answers.{IsFiledRunOfInput, IsRunOfInput};
+ghost use Rattle.prepaid.specs.Explanations.{IsSaidBehind};
+ghost use Rattle.prepaid.specs.Printouts.{printout_of, printout_of_files};
 
 use crate::answer::Answer;
 use crate::ending::{files_ending, run_ending};

@@ -10,10 +10,10 @@ use Rattle.run_options.specs.Logs.{log_wish_of}
 use Rattle.run_options.specs.Options.{ask_of, live_ask_of}
 use Rattle.table_commands.specs.Answers.{price_of_input, printout_of_audit, replay_of_input}
 use Rattle.table_commands.specs.Printouts.{plain}
-use Rattle.prepaid_command.specs.Printouts.{printout_of}
-use Rattle.prepaid_command.proofs.AnswerLemmas.{audit_of, filed_of, gives_known, helped_plainly, none_added, price_wished, quote_of, refused_words_printed, replay_wished, run_added, run_of, wished}
-use Rattle.prepaid_command.proofs.program.command.Goals.{in-Ok-Help, in-Ok-Version, in-Ok-Price, in-Ok-Replay, in-Ok-Audit, in-Ok-Quote, in-Ok-Run, in-Ok-RunInto, in-Err}
-use Rattle.prepaid_command.proofs.program.command.Goals as goal
+use Rattle.prepaid.specs.Printouts.{printout_of}
+use Rattle.prepaid.proofs.AnswerLemmas.{audit_of, filed_of, gives_known, helped_plainly, none_added, price_wished, quote_of, refused_words_printed, replay_wished, run_added, run_of, wished}
+use Rattle.prepaid.proofs.program.command.Goals.{in-Ok-Help, in-Ok-Version, in-Ok-Price, in-Ok-Replay, in-Ok-Audit, in-Ok-Quote, in-Ok-Run, in-Ok-RunInto, in-Err}
+use Rattle.prepaid.proofs.program.command.Goals as goal
 
 pub returns-clause-answers : goal.returns-clause-answers
 returns-clause-answers g c =

@@ -24,7 +24,7 @@ impl Answer {
     ghost use Rattle.run_command.specs.Tables.{tables_said};
     ghost use Rattle.table_commands.specs.Answers.{printout_of_audit};
     ghost use Rattle.table_commands.specs.Printouts.{plain, status_of_printout};
-    ghost use Rattle.prepaid_command.specs.Printouts.{printout_of, printout_of_files};
+    ghost use Rattle.prepaid.specs.Printouts.{printout_of, printout_of_files};
 
     /// A text that finds nothing wrong, and of no run that refused anything.
     pub fn plain(alloc: Global, text: String) -> Answer
