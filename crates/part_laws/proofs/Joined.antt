@@ -15,7 +15,7 @@ use Rattle.part_laws.proofs.Records.{chosen_account}
 use Rattle.part_laws.specs.Chosen.{AreByAccount, HasBooksOf, IsByAccount, chosen_book}
 use Rattle.part_laws.specs.Numbers.{unnumbered_book}
 use Rattle.part_laws.specs.Parts.{ArePaidBy, IsPaidBy, IsPlayedAlone, PartsAreAsOneRun, choice_of}
-use Rattle.run_command.specs.InParts.{own_books}
+use Rattle.run_outputs.specs.Kept.{own_books}
 use Rattle.run_parts.specs.Parts.{part_by, part_of_account}
 use Rattle.run_values.proofs.Placing.{never_fall}
 use Rattle.run_values.specs.Setups.{Setup}

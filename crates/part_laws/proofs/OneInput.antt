@@ -26,8 +26,10 @@ use Rattle.part_laws.specs.Printed.{run_given}
 use Rattle.part_laws.specs.Rows.{SomeRowsGiveTheirItems, chosen_rows}
 use Rattle.run_command.proofs.Starts.{played_starts}
 use Rattle.part_laws.specs.ScriptParts.{IsPlayedByItsRows, PlaysItsRows, RecordsItsRows, payer_in_rows}
-use Rattle.run_command.specs.Answers.{IsRunOf, IsTextOf, RunSaid}
-use Rattle.run_command.specs.InParts.{IsMergedText, IsPartOf, IsPartsText, KeepsCalls, PartSaid}
+use Rattle.run_command.specs.Answers.{IsRunOf}
+use Rattle.run_outputs.specs.Texts.{IsTextOf, RunSaid}
+use Rattle.run_command.specs.InParts.{IsPartOf}
+use Rattle.run_outputs.specs.Kept.{IsMergedText, IsPartsText, KeepsCalls, PartSaid}
 use Rattle.run_command.specs.Plays.{IsPlayOf}
 use Rattle.run_remarks.specs.Refused.{none_refused}
 use Rattle.run_remarks.specs.Unplaced.{events_in_rows}

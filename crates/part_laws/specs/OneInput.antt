@@ -1,8 +1,10 @@
 -- One input, played in parts and by one run.
 use Rattle.std.specs.Prelude.{◌≡◌, ◌<◌, ℕ, List, length, ⊤}
 use Rattle.part_laws.specs.ScriptParts.{payer_in_rows}
-use Rattle.run_command.specs.Answers.{IsRunOf, RunSaid}
-use Rattle.run_command.specs.InParts.{IsPartOf, IsRunInParts, PartSaid}
+use Rattle.run_command.specs.Answers.{IsRunOf}
+use Rattle.run_outputs.specs.Texts.{RunSaid}
+use Rattle.run_command.specs.InParts.{IsPartOf, IsRunInParts}
+use Rattle.run_outputs.specs.Kept.{PartSaid}
 use Rattle.run_remarks.specs.Refused.{none_refused}
 use Rattle.run_remarks.specs.declared.refusals.Refusals.{Refusals}
 use Rattle.run_remarks.specs.declared.unplaced.UnplacedEvent.{UnplacedEvent}

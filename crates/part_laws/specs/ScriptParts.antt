@@ -11,7 +11,7 @@ use Rattle.live_recovery.specs.Laws.{NoneIsRefused}
 use Rattle.moment_texts.specs.declared.clock.Clock.{Clock}
 use Rattle.part_laws.specs.Parts.{AreAsOfOneRun}
 use Rattle.part_laws.specs.Printed.{run_given}
-use Rattle.run_command.specs.InParts.{IsMergedText, own_books}
+use Rattle.run_outputs.specs.Kept.{IsMergedText, own_books}
 use Rattle.run_command.specs.Plays.{IsPlayOf}
 use Rattle.run_parts.specs.Parts.{part_rows, payer_of}
 use Rattle.run_texts.specs.Views.{rows_are_in_order, row_data, with_digits}

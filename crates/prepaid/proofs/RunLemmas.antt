@@ -2,7 +2,8 @@
 use Rattle.std.proofs.Common.{◌≡◌, ℕ, List, Option, Some, None, Result, Ok, Err, ap, inl, inr, refl, subst}
 use Rattle.std.specs.Prelude.{◌⊎◌, IfErr, IfNone, IfOk, IfSome}
 use Rattle.std.specs.Result.{result_map_both}
-use Rattle.run_command.specs.Tables.{IsTablesAnswer, TablesSaid}
+use Rattle.run_command.specs.Tables.{IsTablesAnswer}
+use Rattle.run_outputs.specs.Texts.{TablesSaid}
 use Rattle.run_command.specs.declared.error.RunError.{RunError}
 use Rattle.run_options.specs.declared.options.RunAsk.{RunAsk}
 use Rattle.run_values.specs.declared.run_fault.RunFault.TheVariants as run

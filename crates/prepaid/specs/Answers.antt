@@ -10,8 +10,9 @@ use Rattle.command_words.specs.Wishes.{Wish, Audits, Prices, Quotes, RatesRecord
 use Rattle.command_words.specs.declared.fault.WordsFault.TheVariants as words_fault
 use Rattle.rating.specs.Asks.{RateWish}
 use Rattle.rating.specs.Fronts.{AppendsFront}
-use Rattle.run_command.specs.Answers.{IsRunAnswer, RunSaid}
-use Rattle.run_command.specs.Tables.{IsTablesAnswer, TablesSaid}
+use Rattle.run_command.specs.Answers.{IsRunAnswer}
+use Rattle.run_outputs.specs.Texts.{RunSaid, TablesSaid}
+use Rattle.run_command.specs.Tables.{IsTablesAnswer}
 use Rattle.run_command.specs.declared.error.RunError.{RunError}
 use Rattle.run_options.specs.Logs.{LogWish}
 use Rattle.run_options.specs.declared.live.LiveAsk.{LiveAsk}

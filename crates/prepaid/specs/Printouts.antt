@@ -1,7 +1,6 @@
 -- What a run prints, and an answer of the code.
 use Rattle.std.specs.Prelude.{true, [], string_bytes}
-use Rattle.run_command.specs.Answers.{RunSaid}
-use Rattle.run_command.specs.Tables.{TablesSaid}
+use Rattle.run_outputs.specs.Texts.{RunSaid, TablesSaid}
 use Rattle.table_commands.specs.Printouts.{Printout}
 use Rattle.run_remarks.specs.Lists.{unplaced_line}
 use Rattle.run_remarks.specs.RefusedLines.{refused_line}

@@ -1,7 +1,7 @@
 //! What the program prints.
 
 use book_texts::Audit;
-use run_command::RunTables;
+use run_outputs::RunTables;
 use run_remarks::{Refusals, UnplacedEvent};
 use std::alloc::Global;
 
@@ -21,7 +21,7 @@ pub(crate) struct Answer {
 impl Answer {
     ghost use Rattle.std.specs.Prelude.{◌≡◌, string_bytes};
     ghost use Rattle.book_texts.specs.Checks.{audited_by};
-    ghost use Rattle.run_command.specs.Tables.{tables_said};
+    ghost use Rattle.run_outputs.specs.Texts.{tables_said};
     ghost use Rattle.table_commands.specs.Answers.{printout_of_audit};
     ghost use Rattle.table_commands.specs.Printouts.{plain, status_of_printout};
     ghost use Rattle.prepaid.specs.Printouts.{printout_of, printout_of_files};

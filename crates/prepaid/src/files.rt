@@ -2,9 +2,9 @@
 
 ghost use Rattle.std.specs.Prelude.{◌≡◌, map};
 ghost use Rattle.prepaid.specs.Files.{files_of};
-ghost use Rattle.run_command.specs.Tables.{tables_said};
+ghost use Rattle.run_outputs.specs.Texts.{tables_said};
 
-use run_command::RunTables;
+use run_outputs::RunTables;
 
 /// The files of what a run prints, each a name and a text.
 pub(crate) fn files_of(tables: &RunTables) -> [(&'static str, &str); 4]

@@ -2,7 +2,7 @@
 
 ghost use Rattle.std.specs.Prelude.{◌≡◌, ◌⊎◌, true, None, IfErr, IfOk, IfSome, option_map, string_bytes};
 ghost use Rattle.std.specs.Result.{result_map_both};
-ghost use Rattle.run_command.specs.Tables.{tables_said};
+ghost use Rattle.run_outputs.specs.Texts.{tables_said};
 ghost use Rattle.run_options.specs.Options.{ask_of};
 ghost use Rattle.run_values.specs.declared.run_fault.RunFault.TheVariants as run;
 ghost use Rattle.table_commands.specs.Explanations.{IsSaidOfAnswer};
@@ -16,8 +16,9 @@ use crate::answer::Answer;
 use crate::ending::{files_ending, run_ending};
 use crate::faults::{fault_of_files, fault_of_run};
 use crate::files::files_of;
-use run_command::{Ran, RunTables, Watch, run, run_tables};
+use run_command::{Watch, run, run_tables};
 use run_options::RunOptions;
+use run_outputs::{Ran, RunTables};
 use std::alloc::Global;
 use std::fs::File;
 use std::io::{Error, Read};

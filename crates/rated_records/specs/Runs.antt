@@ -6,7 +6,8 @@ use Rattle.moment_texts.specs.declared.clock.Clock.{Clock}
 use Rattle.rated_records.specs.Tables.{IsInputOf, IsPrintable, IsRatedTable, names_by_start}
 use Rattle.rating.specs.Texts.{IsRatedText, rate_input_of}
 use Rattle.rating.specs.declared.score.Score.{Score}
-use Rattle.run_command.specs.Answers.{IsRunOf, RunSaid}
+use Rattle.run_command.specs.Answers.{IsRunOf}
+use Rattle.run_outputs.specs.Texts.{RunSaid}
 use Rattle.run_options.specs.declared.options.RunAsk.{RunAsk}
 
 -- what an answer of `run` has come to

@@ -8,13 +8,13 @@ use Rattle.run_command.specs.InParts.{IsInParts}
 use Rattle.run_command.specs.Joined.{JoinedBooksHaveAllAccounts, JoinedBooksPass}
 use Rattle.run_command.specs.Laws.{PlayedBooksPass, PlayedCallsHavePaid}
 use Rattle.run_command.specs.Played.{AreWhole, IsWhole}
-use Rattle.run_command.specs.RanOf.{run_said_of}
+use Rattle.run_outputs.specs.Texts.{run_said_of, tables_said}
 use Rattle.run_command.specs.Starts.{IsStartOf}
-use Rattle.run_command.specs.Tables.{IsTablesAnswer, tables_said}
+use Rattle.run_command.specs.Tables.{IsTablesAnswer}
 use Rattle.run_command.specs.declared.error.RunError.{RunError}
 use Rattle.run_command.specs.declared.error.RunError.TheVariants as error
-use Rattle.run_command.specs.declared.running.Ran.{Ran}
-use Rattle.run_command.specs.declared.tables.RunTables.{RunTables}
+use Rattle.run_outputs.specs.declared.played.Ran.{Ran}
+use Rattle.run_outputs.specs.declared.tables.RunTables.{RunTables}
 use Rattle.run_options.specs.Options.{played_parts}
 use Rattle.run_options.specs.declared.options.PartsAsk.{PartsAsk}
 use Rattle.run_options.specs.declared.options.RunAsk.{RunAsk}

@@ -3,7 +3,7 @@ use Rattle.std.proofs.Common.{◌≡◌, ℕ, true, false, List, [], ◌∷◌, 
 use Rattle.std.proofs.lemmas.List.{append-nil}
 use Rattle.call_records.specs.Records.{Run}
 use Rattle.run_command.proofs.PlayLemmas.{Rounds}
-use Rattle.run_command.specs.Answers.{IsTextOf}
+use Rattle.run_outputs.specs.Texts.{IsTextOf}
 use Rattle.run_command.specs.Listening.{Listens}
 use Rattle.run_remarks.specs.Refused.{refusals_counted_in}
 use Rattle.run_command.specs.declared.listening.Listener.{Listener}

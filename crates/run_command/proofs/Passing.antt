@@ -14,7 +14,8 @@ use Rattle.run_laws.specs.Runs.{HasAccounts, IsTimelyRun}
 use Rattle.run_command.proofs.Joining.{all_accounts, all_parts, own_accounts}
 use Rattle.run_command.proofs.Timing.{given_timely, rows_in_time}
 use Rattle.run_command.specs.Books.{AreBooksOf}
-use Rattle.run_command.specs.InParts.{IsPartOf, PartSaid}
+use Rattle.run_command.specs.InParts.{IsPartOf}
+use Rattle.run_outputs.specs.Kept.{PartSaid}
 use Rattle.run_command.specs.Joined.{JoinedBooksHaveAllAccounts, JoinedBooksPass, joined_books}
 use Rattle.run_command.specs.Laws.{InputIsInRange, PassTheirAudits, PlayedBooksPass}
 use Rattle.run_command.specs.Plays.{IsGivenBy}

@@ -12,7 +12,15 @@ use Rattle.script_player.specs.Runs.{Hears, LivesByItsDeeds, fresh_play}
 use Rattle.ssf_core.specs.declared.config.SsfConfig.{SsfConfig}
 use Rattle.run_values.specs.declared.post.Answer.{Answer}
 use Rattle.run_values.specs.declared.post.Body.{Body}
-use Rattle.runs_core.specs.Hearing.{HearsRounds}
+use Rattle.runs_core.specs.Hearing.{HearsRounds, all_heard}
+use Rattle.runs_core.specs.Runs.{IsRun}
+use Rattle.run_command.specs.Played.{IsPlayedRun}
+use Rattle.run_options.specs.Options.{is_trace}
+use Rattle.run_outputs.specs.declared.played.Played.{Played}
+use Rattle.run_remarks.specs.Refused.{refusals_counted_in}
+use Rattle.run_values.specs.Setups.{Setup}
+use Rattle.shared_account.specs.Closed.{Closed}
+use Rattle.turn_account.specs.Seen.{StoodIn}
 
 -- from round to round
 abbrev pub Rounds : (Play → List Answer → Play → Type 0) → List Answer → Play → List (List Answer) → Play → Type 0
@@ -77,3 +85,16 @@ rounds_of config other delay now rows old heard new is same_config same_delay ro
     let running : old.ended ≡ false = ap (λ (p : Play). p.ended) is in
     let all : HearsItsRounds config delay rows heard new = subst From is (each_hears [] old heard new running rounds) in
     subst (λ c. Its c now) (sym same_config) (subst (λ d. Its config d) (sym same_delay) all)
+
+-- what is left of a player that has ended, with the books of its run
+pub played_as : (ask : RunAsk) (setup : Setup) (rows : List ScriptRow) (played : Played) (heard : List (List Answer)) (given : List (ℕ × Body)) (without : List ScriptRow) (books : List Closed)
+    → played.given.items ≡ given → played.unplaced.items ≡ without → played.books.items ≡ books → IsGivenWithout ask (map row_data rows) heard given without
+    → IsRun StoodIn setup ask.workers given (all_heard heard) books → (is_trace ask.output ≡ true → played.heard.items ≡ all_heard heard) → played.refusals ≡ refusals_counted_in (all_heard heard)
+    → IsPlayedRun ask setup rows played
+played_as ask setup rows played heard given without books gives refused comes is run kept counted =
+    let Given : List (ℕ × Body) → Type 0 = λ g. IsGivenWithout ask (map row_data rows) heard g played.unplaced.items in
+    let Without : List ScriptRow → Type 0 = λ w. IsGivenWithout ask (map row_data rows) heard given w in
+    let Served : List (ℕ × Body) → Type 0 = λ g. IsRun StoodIn setup ask.workers g (all_heard heard) played.books.items in
+    let With : List Closed → Type 0 = λ b. IsRun StoodIn setup ask.workers given (all_heard heard) b in
+    let moved = subst Given (sym gives) (subst Without (sym refused) is) in
+    record { heard = heard; given_by = moved.given_by; unplaced = moved.unplaced; run = subst Served (sym gives) (subst With (sym comes) run); kept = kept; counted = counted }

@@ -4,16 +4,18 @@ use Rattle.std.specs.List.{flat_map}
 use Rattle.std.specs.Prelude.{slice_index_or}
 use Rattle.run_laws.specs.Runs.{HasAccounts}
 use Rattle.run_command.proofs.Resaid.{part_said_alike}
-use Rattle.run_command.specs.Answers.{IsRunOf, RunSaid}
+use Rattle.run_command.specs.Answers.{IsRunOf}
+use Rattle.run_outputs.specs.Texts.{RunSaid, TablesSaid}
 use Rattle.run_command.specs.Books.{AreBooksOf, IsSetupOf}
-use Rattle.run_command.specs.InParts.{IsInParts, IsPartOf, IsPartsText, IsPlayedPart, IsRunInParts, PartSaid}
+use Rattle.run_command.specs.InParts.{IsInParts, IsPartOf, IsPlayedPart, IsRunInParts}
+use Rattle.run_outputs.specs.Kept.{IsPartsText, PartSaid}
 use Rattle.run_command.specs.Joined.{AreAllParts, JoinedBooksHaveAllAccounts, JoinedBooksPass}
 use Rattle.run_command.specs.Laws.{PlayedBooksPass, PlayedCallsHavePaid}
 use Rattle.run_command.specs.Played.{AreWhole, IsWhole}
 use Rattle.run_command.specs.Plays.{IsGivenBy, IsGivenWithout}
 use Rattle.run_remarks.specs.Refused.{none_refused}
 use Rattle.run_command.specs.Starts.{IsStartOf}
-use Rattle.run_command.specs.Tables.{AreTablesOf, TablesSaid}
+use Rattle.run_command.specs.Tables.{AreTablesOf}
 use Rattle.run_remarks.specs.Unplaced.{AreByCall, events_in_rows}
 use Rattle.run_remarks.specs.declared.refusals.Refusals.{Refusals}
 use Rattle.run_remarks.specs.declared.unplaced.UnplacedEvent.{UnplacedEvent}

@@ -1,15 +1,12 @@
 -- All texts of a play whose answers were kept.
-use Rattle.std.proofs.Common.{◌≡◌, ◌∙◌, true, List, Result, Ok, Err, None, refl, sym, subst}
+use Rattle.std.proofs.Common.{◌≡◌, ◌∙◌, true, List, None, refl, sym, subst}
 use Rattle.std.specs.List.{All}
-use Rattle.std.specs.Prelude.{IfOk}
 use Rattle.book_texts.specs.Typed.{IsTyped}
 use Rattle.moment_texts.specs.declared.clock.Clock.{Clock}
-use Rattle.run_command.specs.Played.{AreWhole, IsPlayedRun, run_of}
-use Rattle.run_command.specs.Tables.{AreTextsOf, TablesSaid, clock_of, tables_said}
+use Rattle.run_command.specs.Played.{AreWhole, IsPlayedRun}
+use Rattle.run_outputs.specs.Texts.{AreTextsOf, TablesSaid, clock_of, run_of}
 use Rattle.run_remarks.specs.Unplaced.{AreByCall, events_in_rows}
-use Rattle.run_command.specs.declared.error.RunError.{RunError}
-use Rattle.run_command.specs.declared.playing.Played.{Played}
-use Rattle.run_command.specs.declared.tables.RunTables.{RunTables}
+use Rattle.run_outputs.specs.declared.played.Played.{Played}
 use Rattle.run_options.specs.declared.options.RunAsk.{RunAsk}
 use Rattle.run_options.specs.declared.options.RunOutput.TheVariants as output
 use Rattle.run_texts.specs.declared.script.ScriptRow.{ScriptRow}
@@ -23,8 +20,8 @@ abbrev pub traced : RunAsk → Clock → RunAsk
 traced ask clock = record ask { output = output.Trace clock; parts = None }
 
 whole_of : (ask : RunAsk) (clock : Clock) (setup : Setup) (rows : List ScriptRow) (played : Played) (tables : TablesSaid) → clock ≡ clock_of ask.output → are_workers ask.workers ≡ true
-    → IsPlayedRun (traced ask clock) setup rows played → AreTextsOf clock (run_of setup played) played.listener.heard.items tables → tables.refusals ≡ played.listener.refusals
-    → AreByCall (events_in_rows played.listener.player.unplaced) tables.unplaced → All IsTyped played.books.items → AreWhole ask setup rows tables
+    → IsPlayedRun (traced ask clock) setup rows played → AreTextsOf clock (run_of setup played) played.heard.items tables → tables.refusals ≡ played.refusals
+    → AreByCall (events_in_rows played.unplaced.items) tables.unplaced → All IsTyped played.books.items → AreWhole ask setup rows tables
 whole_of ask clock setup rows played tables clock_is workers is texts refusals events typed =
     let heard : AreTextsOf clock (run_of setup played) (all_heard is.heard) tables = subst (λ (h : List Answer). AreTextsOf clock (run_of setup played) h tables) (is.kept refl) texts in
     record {
@@ -46,12 +43,9 @@ whole_of ask clock setup rows played tables clock_is workers is texts refusals e
       typed = typed;
     }
 
-pub tables_of_play : (ask asked : RunAsk) (clock : Clock) (setup : Setup) (rows : List ScriptRow) (played : Played) (made : Result RunTables RunError) → asked ≡ traced ask clock
-    → clock ≡ clock_of ask.output → are_workers asked.workers ≡ true → IsPlayedRun asked setup rows played
-    → IfOk made (λ tables. AreTextsOf clock (run_of setup played) played.listener.heard.items (tables_said tables)) → IfOk made (λ tables. tables.refusals ≡ played.listener.refusals)
-    → IfOk made (λ tables. AreByCall (events_in_rows played.listener.player.unplaced) tables.unplaced.items) → IfOk made (λ tables. All IsTyped played.books.items)
-    → IfOk made (λ tables. AreWhole ask setup rows (tables_said tables))
-tables_of_play ask asked clock setup rows played (Ok tables) same clock_is workers is texts refusals events typed =
-    whole_of ask clock setup rows played (tables_said tables) clock_is (subst (λ (a : RunAsk). are_workers a.workers ≡ true) same workers)
-    (subst (λ (a : RunAsk). IsPlayedRun a setup rows played) same is) texts refusals events typed
-tables_of_play ask asked clock setup rows played (Err why) same clock_is workers is texts refusals events typed = tt
+pub tables_of_play : (ask asked : RunAsk) (clock : Clock) (setup : Setup) (rows : List ScriptRow) (played : Played) (tables : TablesSaid) → asked ≡ traced ask clock → clock ≡ clock_of ask.output
+    → are_workers asked.workers ≡ true → IsPlayedRun asked setup rows played → AreTextsOf clock (run_of setup played) played.heard.items tables → tables.refusals ≡ played.refusals
+    → AreByCall (events_in_rows played.unplaced.items) tables.unplaced → All IsTyped played.books.items → AreWhole ask setup rows tables
+tables_of_play ask asked clock setup rows played tables same clock_is workers is texts refusals events typed =
+    whole_of ask clock setup rows played tables clock_is (subst (λ (a : RunAsk). are_workers a.workers ≡ true) same workers) (subst (λ (a : RunAsk). IsPlayedRun a setup rows played) same is) texts
+    refusals events typed

@@ -1,9 +1,5 @@
 -- What `run` answers to an input.
 use Rattle.std.specs.Prelude.{◌≡◌, ℕ, true, false, Option, Some, None, List, Result, Ok, Err, ⊤}
-use Rattle.book_texts.specs.BookTexts.{book_text, version_of}
-use Rattle.book_texts.specs.RunTexts.{IsRunText}
-use Rattle.call_records.specs.Records.{Run}
-use Rattle.call_records.specs.Tables.{IsCallText}
 use Rattle.run_command.specs.Books.{AreBooksOf}
 use Rattle.run_command.specs.InParts.{IsRunInParts}
 use Rattle.run_command.specs.Laws.{CallsHavePaid, PassTheirAudits}
@@ -13,37 +9,19 @@ use Rattle.run_remarks.specs.Unplaced.{AreByCall, events_in_rows}
 use Rattle.run_options.specs.Options.{played_parts}
 use Rattle.run_options.specs.declared.options.PartsAsk.{PartsAsk}
 use Rattle.run_options.specs.declared.options.RunAsk.{RunAsk}
-use Rattle.run_options.specs.declared.options.RunOutput.{RunOutput}
 use Rattle.run_options.specs.declared.options.RunOutput.TheVariants as output
 use Rattle.run_texts.specs.InputFaults.{RefusesInput}
 use Rattle.run_texts.specs.Inputs.{RunInput, input_of}
 use Rattle.run_command.specs.declared.error.RunError.{RunError}
-use Rattle.run_remarks.specs.declared.refusals.Refusals.{Refusals}
-use Rattle.run_remarks.specs.declared.unplaced.UnplacedEvent.{UnplacedEvent}
 use Rattle.run_command.specs.declared.error.RunError.TheVariants as error
-use Rattle.run_trace.specs.Tables.{trace_text}
 use Rattle.runs_core.specs.Hearing.{all_heard}
 use Rattle.runs_core.specs.Teams.{are_workers}
 use Rattle.run_values.specs.declared.run_fault.RunFault.{RunFault}
 use Rattle.run_values.specs.declared.run_fault.RunFault.TheVariants as run
 use Rattle.shared_account.specs.Closed.{Closed}
-use Rattle.tariff_core.specs.Bands.{have_steps}
 use Rattle.run_values.specs.declared.post.Answer.{Answer}
 use Rattle.run_values.specs.declared.post.Body.{Body}
-
--- the text of what a run has come to, where these answers were heard: the lines of its accounts and calls, the table of its books, of version 4 where its tariff has billing steps, that of its calls,
--- or the trace of what was given to its workers and of their answers
-abbrev pub IsTextOf : RunOutput → Run → List Answer → List ℕ → Type 0
-IsTextOf output.Lines run heard text = IsRunText run.books text
-IsTextOf output.Book run heard text = text ≡ book_text (version_of (have_steps run.setup.tariff) run.books) run.books
-IsTextOf (output.Calls clock) run heard text = IsCallText clock run text
-IsTextOf (output.Trace clock) run heard text = text ≡ trace_text clock run.given heard
-
--- what a run says: its text, how often its accounts refused what they were asked, and the events that had no place
-pub record RunSaid : Type 0 where
-  pub text : List ℕ
-  pub refusals : Refusals
-  pub unplaced : List UnplacedEvent
+use Rattle.run_outputs.specs.Texts.{IsTextOf, RunSaid}
 
 -- the text is that of the books of a run over the input, as it was asked for, to which the script of the input was played, the refusals are those of the answers that were heard, and the events that
 -- had no place are those of the play

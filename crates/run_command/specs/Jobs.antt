@@ -3,7 +3,7 @@ use Rattle.std.specs.Prelude.{◌≡◌, ◌≤◌, ◌++◌, ◌∷◌, ℕ, tr
 use Rattle.run_command.specs.Answers.{MayFail}
 use Rattle.run_command.specs.InParts.{IsKeptPart}
 use Rattle.run_command.specs.declared.error.RunError.{RunError}
-use Rattle.run_command.specs.declared.parts.Part.{Part}
+use Rattle.run_outputs.specs.declared.part.Part.{Part}
 use Rattle.run_command.specs.declared.jobs.Job.{Job}
 use Rattle.run_options.specs.declared.options.RunAsk.{RunAsk}
 use Rattle.run_texts.specs.Views.{rows_are_in_order}

@@ -3,7 +3,8 @@ use Rattle.std.specs.Prelude.{◌≡◌, ◌<◌, ◌+◌, ℕ, true, List, All,
 use Rattle.std.specs.List.{flat_map}
 use Rattle.std.specs.Map.{keys_of}
 use Rattle.book_texts.specs.Typed.{IsTyped}
-use Rattle.run_command.specs.InParts.{IsPartOf, PartSaid}
+use Rattle.run_command.specs.InParts.{IsPartOf}
+use Rattle.run_outputs.specs.Kept.{PartSaid}
 use Rattle.run_command.specs.Laws.{InputIsInRange, PassTheirAudits}
 use Rattle.run_options.specs.declared.options.RunAsk.{RunAsk}
 use Rattle.run_texts.specs.Inputs.{RunInput}

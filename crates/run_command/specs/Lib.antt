@@ -8,7 +8,6 @@ pub mod Listening
 pub mod Played
 pub mod Plays
 pub mod Progresses
-pub mod RanOf
 pub mod Starts
 pub mod Strangers
 pub mod Tables

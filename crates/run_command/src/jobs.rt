@@ -11,10 +11,11 @@ ghost use Rattle.run_texts.specs.Views.{rows_are_in_order};
 ghost use Rattle.run_values.specs.declared.run_fault.RunFault.TheVariants as run;
 
 use crate::RunError;
-use crate::parts::{Part, play_part};
+use crate::parts::play_part;
 use crate::watching::{Watch, Watching};
 use price_core::MAX_MOMENT;
 use run_options::RunOptions;
+use run_outputs::Part;
 use run_parts::Firsts;
 use run_texts::ScriptRow;
 use run_values::{RunFault, RunSetup};

@@ -16,7 +16,7 @@ mod watched;
 mod watching;
 
 pub use error::RunError;
-pub use running::{Ran, run};
+pub use running::run;
 pub use strangers::stranger_calls;
-pub use tables::{RunTables, run_tables};
+pub use tables::run_tables;
 pub use watching::{Progress, Unwatched, Watch};

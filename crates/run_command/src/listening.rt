@@ -6,9 +6,11 @@ ghost use Rattle.run_options.specs.Options.{is_trace};
 
 use arrayvec::ArrayVec;
 use run_options::RunOutput;
+use run_outputs::Played;
 use run_remarks::Refusals;
 use run_values::{Answer, Body, Driver};
 use script_player::ScriptPlayer;
+use shared_account::Book;
 use std::alloc::{AllocError, Global};
 
 /// Plays a script, counts the refusals that the answers speak of, and keeps the answers where a
@@ -38,6 +40,24 @@ impl Listener {
             keeps: matches!(output, RunOutput::Trace(_)),
             heard: Vec::new(alloc),
             refusals: Refusals::none(),
+        }
+    }
+
+    /// What was played by it, with these books.
+    pub(crate) fn played(self, books: Vec<Book>) -> Played
+        ensures given { result.given.items ≡ self.player.network.given }
+        ensures heard { result.heard ≡ self.heard }
+        ensures refusals { result.refusals ≡ self.refusals }
+        ensures unplaced { result.unplaced.items ≡ self.player.unplaced }
+        ensures books { result.books ≡ books }
+    {
+        let (given, unplaced) = self.player.into_parts();
+        Played {
+            given,
+            heard: self.heard,
+            refusals: self.refusals,
+            unplaced,
+            books,
         }
     }
 }

@@ -13,23 +13,15 @@ use crate::watching::{Watch, Watcher, Watching};
 use crate::{RunError, laws};
 use price_core::MAX_MOMENT;
 use run_options::RunOptions;
+use run_outputs::Played;
 use run_texts::ScriptRow;
 use run_values::RunSetup;
 use runs_core::serve;
 use script_player::ScriptPlayer;
-use shared_account::{Book, OpenGate};
+use shared_account::OpenGate;
 use std::alloc::Global;
 use std::sync::Wait;
 use std::thread::Threads;
-
-/// A script that was played.
-#[derive(Drop)]
-pub(crate) struct Played {
-    /// The player of the script, which has all that it gave, and the answers that it kept.
-    pub listener: Listener,
-    /// The books of the accounts.
-    pub books: Vec<Book>,
-}
 
 /// Plays a script over the accounts of a setup, which is all that is played or a part. It is shown
 /// how far it is, and at its end nothing any more.
@@ -56,5 +48,5 @@ pub(crate) fn play<R: Wait + Threads + Sync, W: Watch>(
     watcher.clear();
     let books = served?;
     laws::is_played(&listener.player);
-    Ok(Played { listener, books })
+    Ok(listener.played(books))
 }

@@ -2,48 +2,27 @@
 
 ghost use Rattle.std.specs.Prelude.{◌≡◌, ◌≤◌, All, IfErr, IfOk, None, true};
 ghost use Rattle.std.specs.Result.{result_map_both};
-ghost use Rattle.book_texts.specs.Typed.{IsTyped};
 ghost use Rattle.run_command.specs.Answers.{MayFail};
-ghost use Rattle.run_command.specs.Played.{AreWhole, run_of};
-ghost use Rattle.run_command.specs.Tables.{AreTextsOf, IsTablesAnswer, clock_of, tables_said};
-ghost use Rattle.run_command.specs.declared.error.RunError.TheVariants as error;
-ghost use Rattle.run_remarks.specs.Unplaced.{AreByCall, events_in_rows};
+ghost use Rattle.run_command.specs.Played.{AreWhole};
+ghost use Rattle.run_command.specs.Tables.{IsTablesAnswer};
 ghost use Rattle.run_options.specs.Options.{ask_of};
 ghost use Rattle.run_options.specs.declared.options.RunOutput.TheVariants as output;
+ghost use Rattle.run_outputs.specs.Texts.{tables_said};
 ghost use Rattle.run_texts.specs.Views.{rows_are_in_order};
-ghost use Rattle.run_values.specs.declared.run_fault.RunFault.TheVariants as run;
 
-use crate::playing::{Played, play};
-use crate::running::print;
+use crate::playing::play;
 use crate::setting_up::{Start, set_up};
 use crate::watching::{Watch, Watching};
 use crate::{RunError, laws};
 use moment_texts::Clock;
 use price_core::MAX_MOMENT;
 use run_options::{RunOptions, RunOutput};
-use run_remarks::{Refusals, UnplacedEvent, events_by_call};
+use run_outputs::{RunTables, clock_of};
 use run_texts::ScriptRow;
 use run_values::RunSetup;
 use std::alloc::Global;
 use std::sync::Wait;
 use std::thread::Threads;
-
-/// All that one and the same run prints.
-#[derive(Drop)]
-pub struct RunTables {
-    /// A line for each account and for each of its calls.
-    pub lines: String,
-    /// The table of books.
-    pub book: String,
-    /// The table of calls.
-    pub calls: String,
-    /// The trace.
-    pub trace: String,
-    /// How often its accounts refused what they were asked.
-    pub refusals: Refusals,
-    /// The events of the script that had no place, by rising call, those of one call in order.
-    pub unplaced: Vec<UnplacedEvent>,
-}
 
 /// The texts of one run of the input's script, which isn't in parts: those that `run` gives for
 /// each output. The moments of the calls and of the trace are printed as those of the output that
@@ -83,17 +62,7 @@ fn play_tables<R: Wait + Threads + Sync, W: Watch>(
 {
     let clock = clock_of(options.output);
     let played = play(rt, alloc, &traced(options, clock), setup, script, watching)?;
-    print_all(alloc, clock, setup, &played)
-}
-
-/// How moments are printed.
-fn clock_of(output: RunOutput) -> Clock
-    ensures { result ≡ clock_of output }
-{
-    match output {
-        RunOutput::Lines | RunOutput::Book => Clock::Digits,
-        RunOutput::Calls(clock) | RunOutput::Trace(clock) => clock,
-    }
+    Ok(played.print_all(alloc, clock, setup)?)
 }
 
 /// The options of the same run, where its answers are kept as for a trace.
@@ -111,30 +80,4 @@ fn traced(options: &RunOptions, clock: Clock) -> RunOptions
         output: RunOutput::Trace(clock),
         parts: None,
     }
-}
-
-/// All texts of a script that was played, whose answers were kept.
-fn print_all(
-    alloc: Global,
-    clock: Clock,
-    setup: &RunSetup,
-    played: &Played,
-) -> Result<RunTables, RunError>
-    ensures texts { IfOk result (λ tables. AreTextsOf clock (run_of setup.now played.now)
-        played.now.listener.heard.items (tables_said tables)) }
-    ensures refusals { IfOk result (λ tables.
-        tables.refusals ≡ played.now.listener.refusals) }
-    ensures unplaced { IfOk result (λ tables. AreByCall
-        (events_in_rows played.now.listener.player.unplaced) tables.unplaced.items) }
-    ensures typed { IfOk result (λ _. All IsTyped played.now.books.items) }
-    ensures fault { IfErr result (λ fault. fault ≡ error.Run run.OutOfMemory) }
-{
-    Ok(RunTables {
-        lines: print(alloc, RunOutput::Lines, setup, played)?,
-        book: print(alloc, RunOutput::Book, setup, played)?,
-        calls: print(alloc, RunOutput::Calls(clock), setup, played)?,
-        trace: print(alloc, RunOutput::Trace(clock), setup, played)?,
-        refusals: played.listener.refusals,
-        unplaced: events_by_call(alloc, played.listener.player.unplaced())?,
-    })
 }

@@ -100,6 +100,13 @@ impl Network {
         self.given.as_slice()
     }
 
+    /// All items, each with its moment, and no gsmSSF any more.
+    pub fn into_given(self) -> Vec<(u64, Body)>
+        ensures { result.items ≡ self.given }
+    {
+        self.given
+    }
+
     /// The first moment at which a timer is due.
     pub fn first_due(&self) -> Option<Moment>
         ensures { self.now.whole ≡ true → IsFirstDue self.now.ssfs result }

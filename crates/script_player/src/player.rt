@@ -118,6 +118,14 @@ impl ScriptPlayer {
     {
         self.unplaced.as_slice()
     }
+
+    /// What is left of it: all that it has given, and the rows that had no place.
+    pub fn into_parts(self) -> (Vec<(u64, Body)>, Vec<ScriptRow>)
+        ensures given { result.0.items ≡ self.network.given }
+        ensures unplaced { result.1.items ≡ self.unplaced }
+    {
+        (self.network.into_given(), self.unplaced)
+    }
 }
 
 impl Driver for ScriptPlayer {

@@ -1,5 +1,6 @@
 use Rattle.std.proofs.Common.{ℕ, List, Err, subst}
-use Rattle.run_command.specs.Tables.{IsTablesAnswer, tables_said}
+use Rattle.run_command.specs.Tables.{IsTablesAnswer}
+use Rattle.run_outputs.specs.Texts.{tables_said}
 use Rattle.run_options.specs.Options.{ask_of}
 use Rattle.prepaid.specs.Printouts.{printout_of}
 use Rattle.prepaid.proofs.RunLemmas.{failed, taken}

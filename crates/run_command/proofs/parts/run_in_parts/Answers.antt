@@ -4,6 +4,5 @@ use Rattle.run_command.proofs.parts.run_in_parts.Goals as goal
 
 pub returns-clause-ran : goal.returns-clause-ran
 returns-clause-ran g c =
-    in_parts c.args.asked.count (ask_of c.args.options.now) c.args.setup.now c.args.script.items _ _ c.in_ok-parts.parts.items c.in_ok-whole.whole _ c.in_ok-unplaced.unplaced.items
-    c.in_ok-firsts.ensures.count c.in_ok-firsts.ensures.parts c.in_ok-parts.ensures.parts c.in_ok-whole.ensures c.in_ok-print_joined.ensures.text c.in_ok-print_joined.ensures.typed
-    (rw c.as_slice.ensures.value at c.in_ok-unplaced.ensures)
+    in_parts c.args.asked.count (ask_of c.args.options.now) c.args.setup.now c.args.script.items _ _ c.in_ok-parts.parts.items _ c.in_ok-firsts.ensures.count c.in_ok-firsts.ensures.parts
+    c.in_ok-parts.ensures.parts c.in_ok-print_parts.ensures

@@ -1,6 +1,6 @@
 use Rattle.std.proofs.Common.{◌∙◌, ◌++◌, List, [], ap, refl}
 use Rattle.run_command.proofs.ListenLemmas.{counts_heard, keeps_heard, listener_hears, player_hears}
-use Rattle.run_command.proofs.PlayLemmas.{given_by, rounds_of}
+use Rattle.run_command.proofs.PlayLemmas.{given_by, played_as, rounds_of}
 use Rattle.run_options.specs.Options.{ask_of}
 use Rattle.run_values.specs.declared.post.Answer.{Answer}
 use Rattle.runs_core.specs.Hearing.{all_heard}
@@ -29,11 +29,11 @@ returns-clause-played g c =
     (c.is_played.ensures c.args.script.items ran.heard rows
     (rounds_of c.args.options.now.ssf after.network.config c.args.options.now.delay after.delay c.args.script.items before ran.heard after is_fresh config delay
     (player_hears [] listener ran.heard end rounds))) in
-    record {
-      heard = ran.heard;
-      given_by = given.given_by;
-      unplaced = given.unplaced;
-      run = ran.run;
-      kept = λ asked. keeps_heard [] listener ran.heard end (c.new-listener.ensures.keeps ∙ asked) rounds ∙ ap (λ (l : List Answer). l ++ all_heard ran.heard) c.new-listener.ensures.heard;
-      counted = counts_heard [] listener ran.heard end [] c.new-listener.ensures.refusals rounds;
-    }
+    let played = c.played.ensures in
+    played_as (ask_of c.args.options.now) c.args.setup.now c.args.script.items c.played.result ran.heard after.network.given after.unplaced c.in_ok-books.books.items played.given played.unplaced
+    (ap (λ (books : _). books.items) played.books)
+    given
+    ran.run
+    (λ asked. ap (λ (heard : _). heard.items) played.heard ∙ keeps_heard [] listener ran.heard end (c.new-listener.ensures.keeps ∙ asked) rounds
+    ∙ ap (λ (l : List Answer). l ++ all_heard ran.heard) c.new-listener.ensures.heard)
+    (played.refusals ∙ counts_heard [] listener ran.heard end [] c.new-listener.ensures.refusals rounds)

@@ -1,7 +1,0 @@
-use Rattle.std.specs.Vec.Iter.{into_iter_items}
-use Rattle.run_command.proofs.Parting.{AreJoined}
-use Rattle.run_command.proofs.parts.join.Given as goal
-
--- the parts so far are joined
-abbrev pub invariant-loop-part : goal.invariant-loop-part
-invariant-loop-part l = AreJoined l.fn.parts.items (into_iter_items l.part-iterator) l.whole
