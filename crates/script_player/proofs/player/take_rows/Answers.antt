@@ -1,6 +1,6 @@
-use Rattle.std.proofs.Common.{◌+◌, ◌≤◌, arith, drop, length, take}
-use Rattle.script_player.proofs.DueRows.{later_moment, later_next, none_next, played_more, plays_due, same_moment}
-use Rattle.script_player.proofs.RowLemmas.{adds_on, adds_row, follows_grown, follows_more}
+use Rattle.std.proofs.Common.{◌+◌, ◌≤◌, [], append-nil, arith, drop, length, refl, sym, take}
+use Rattle.script_player.proofs.DueRows.{later_moment, later_next, none_next, played_more, played_none, plays_due, same_moment}
+use Rattle.script_player.proofs.RowLemmas.{adds_grown, adds_on, adds_row, follows_grown, follows_more}
 use Rattle.script_player.proofs.player.take_rows.Goals as goal
 
 pub loop-taken-preserved : goal.loop-taken-preserved
@@ -38,3 +38,22 @@ returns-else-rows-taken-clause-plays c =
 pub returns-after-loop-taken-clause-plays : goal.returns-after-loop-taken-clause-plays
 returns-after-loop-taken-clause-plays c =
     plays_due _ _ _ _ _ _ _ c.loop-taken.invariant.3 (none_next c.args.rows.now c.loop-taken.taken c.args.now (omega (arith, c.loop-taken-test.false)))
+
+pub loop-taken-init : goal.loop-taken-init
+loop-taken-init c = (
+  c.requires.within,
+  c.requires.follows,
+  record { same_config = refl; added = []; grown = sym (append-nil c.args.network.now.given) },
+  played_none c.args.now c.args.network.now (drop c.args.taken.now c.args.rows.now) c.args.unplaced.now.items,
+)
+
+pub returns-in_err-fault-clause-added : goal.returns-in_err-fault-clause-added
+returns-in_err-fault-clause-added c =
+    adds_on c.args.network.now c.loop-taken.network c.take_row.new.network c.loop-taken.invariant.2
+    (adds_grown c.loop-taken.network c.take_row.new.network c.in_err-fault.ensures.failed)
+
+pub returns-in_err-put_down_refused-clause-added : goal.returns-in_err-put_down_refused-clause-added
+returns-in_err-put_down_refused-clause-added c =
+    let row = c.index-rows-taken-in-loop-taken.result in
+    adds_on c.args.network.now c.loop-taken.network c.take_row.new.network c.loop-taken.invariant.2
+    (adds_row c.loop-taken.network c.take_row.new.network row.at row.what c.in_ok-fault.ensures.taken)
