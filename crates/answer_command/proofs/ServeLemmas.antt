@@ -18,7 +18,7 @@ use Rattle.run_options.specs.Logs.{LogWish}
 use Rattle.run_options.specs.declared.live.LiveAsk.{LiveAsk}
 use Rattle.run_options.specs.declared.live.LiveOutput.{LiveOutput}
 use Rattle.run_texts.specs.declared.input_fault.InputFault.TheVariants as input
-use Rattle.run_trace.specs.Tables.{trace_header}
+use Rattle.message_rows.specs.Tables.{trace_header}
 use Rattle.run_values.specs.Setups.{Setup}
 use Rattle.run_values.specs.declared.post.Body.{Body}
 use Rattle.run_values.specs.declared.run_fault.RunFault.TheVariants as run

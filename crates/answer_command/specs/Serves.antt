@@ -13,7 +13,7 @@ use Rattle.run_options.specs.declared.live.LiveAsk.{LiveAsk}
 use Rattle.run_options.specs.declared.live.LiveOutput.{LiveOutput}
 use Rattle.run_texts.specs.Views.{with_digits}
 use Rattle.run_texts.specs.declared.input_fault.InputFault.TheVariants as input
-use Rattle.run_trace.specs.Tables.{trace_header}
+use Rattle.message_rows.specs.Tables.{trace_header}
 use Rattle.run_values.specs.Setups.{Setup}
 use Rattle.run_values.specs.declared.post.Answer.{Answer}
 use Rattle.run_values.specs.declared.post.Body.{Body}

@@ -7,7 +7,7 @@ use Rattle.message_rows.specs.declared.kind.LineKind.{LineKind}
 use Rattle.live_answers.specs.declared.replay.Replay.{Replay}
 use Rattle.message_rows.specs.Messages.{MessageView}
 use Rattle.moment_texts.specs.declared.clock.Clock.TheVariants as clock
-use Rattle.run_trace.specs.Tables.{answer_rows, head_text, trace_row}
+use Rattle.message_rows.specs.Tables.{answer_rows, head_text, trace_row}
 use Rattle.run_values.specs.declared.post.Answer.{Answer}
 
 -- the row of the message of a number, and those of its answer, as in a trace

@@ -38,7 +38,7 @@ pub struct Answered {
 /// The run waits for the next line, and takes with it the whole lines that the reader has at hand
 /// behind it, but no more than `MAX_GROUP` lines. The accepted ones are written to the log, each
 /// with its LF, by one write, and flushed; then they are handled; then the rows of all of them,
-/// with those of the answers as `run_trace::trace_table` has them, are written to the output in
+/// with those of the answers as `message_rows::trace_table` has them, are written to the output in
 /// order, by one write, and flushed. Only then the run waits for a further line. So lines that come
 /// together share a flush of the log and one of the output, and a line alone waits for no other.
 ///

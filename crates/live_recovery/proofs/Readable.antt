@@ -18,7 +18,7 @@ use Rattle.message_rows.specs.Messages.{MessageView, Speech, message_call_in, ch
 use Rattle.moment_texts.specs.Fields.{moment_in}
 use Rattle.moment_texts.specs.Reading.{at_most, date_and_time_of, moment_of}
 use Rattle.run_texts.specs.Setups.{account_in, amount_in, party_in, until_in}
-use Rattle.run_trace.specs.Said.{Said, report_said}
+use Rattle.message_rows.specs.Said.{Said, report_said}
 use Rattle.table_core.specs.Decimals.{decimal_of}
 use Rattle.table_core.specs.Fields.{field_in, has_word, number_in, optional_in, present}
 use Rattle.table_core.specs.Judging.{and_then}

@@ -1,3 +1,4 @@
 mod PlainLines
 mod PostColumns
 mod PostLines
+pub mod RowLemmas

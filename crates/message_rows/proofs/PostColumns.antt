@@ -21,8 +21,8 @@ use Rattle.moment_texts.specs.Printing.{moment_or_empty, moment_text}
 use Rattle.moment_texts.specs.Reading.{date_and_time_of, moment_of}
 use Rattle.moment_texts.specs.declared.clock.Clock.{Clock}
 use Rattle.run_texts.specs.Setups.{until_in}
-use Rattle.run_trace.specs.Said.{Said, event_word, leg_number, mode_word, post_said, state_word}
-use Rattle.run_trace.specs.Tables.{call_of_post, sender_of}
+use Rattle.message_rows.specs.Said.{Said, event_word, leg_number, mode_word, post_said, state_word}
+use Rattle.message_rows.specs.Tables.{call_of_post, sender_of}
 use Rattle.run_values.specs.declared.post.Body.{Body}
 use Rattle.run_values.specs.declared.post.Body.TheVariants as body
 use Rattle.table_core.specs.Decimals.{decimal_of}

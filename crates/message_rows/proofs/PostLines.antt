@@ -26,8 +26,8 @@ use Rattle.message_rows.proofs.PostColumns.{post_fields, post_read, row_fields}
 use Rattle.moment_texts.specs.Laws.{MomentsArePlain, MomentsAreRead}
 use Rattle.moment_texts.specs.Printing.{moment_or_empty, moment_text}
 use Rattle.moment_texts.specs.declared.clock.Clock.{Clock}
-use Rattle.run_trace.specs.Said.{Said, event_word, leg_number, mode_word, post_said, state_word}
-use Rattle.run_trace.specs.Tables.{call_of_post, head_of, trace_row, sender_of}
+use Rattle.message_rows.specs.Said.{Said, event_word, leg_number, mode_word, post_said, state_word}
+use Rattle.message_rows.specs.Tables.{call_of_post, head_of, trace_row, sender_of}
 use Rattle.run_values.specs.declared.post.Body.{Body}
 use Rattle.run_values.specs.declared.post.Body.TheVariants as body
 use Rattle.table_core.specs.Printed.{DecimalsArePlain, DecimalsAreRead, IsPlain, IsPlainRow, TablesAreRead, line_of, lines_of}

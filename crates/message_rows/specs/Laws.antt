@@ -6,8 +6,8 @@ use Rattle.entry_rows.specs.Fits.{FitsReport, IsMoment, IsMoney, IsWide}
 use Rattle.moment_texts.specs.declared.clock.Clock.{Clock}
 use Rattle.message_rows.specs.Lines.{line_message}
 use Rattle.message_rows.specs.Messages.{MessageView, speech_of}
-use Rattle.run_trace.specs.Said.{post_said}
-use Rattle.run_trace.specs.Tables.{head_of, trace_row, sender_of}
+use Rattle.message_rows.specs.Said.{post_said}
+use Rattle.message_rows.specs.Tables.{head_of, trace_row, sender_of}
 use Rattle.run_values.specs.declared.post.Body.{Body}
 use Rattle.run_values.specs.declared.post.Body.TheVariants as body
 use Rattle.price_core.specs.declared.times.TheConstants.{MAX_MOMENT}

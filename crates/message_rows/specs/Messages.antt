@@ -12,8 +12,8 @@ use Rattle.message_rows.specs.declared.words.Word.TheVariants as word
 use Rattle.moment_texts.specs.Fields.{moment_in}
 use Rattle.moment_texts.specs.declared.clock.Clock.TheVariants as clock
 use Rattle.run_texts.specs.Setups.{account_in, amount_in, party_in, until_in}
-use Rattle.run_trace.specs.Said.{Said, alone, event_word, mode_word, post_said, report_said, state_word}
-use Rattle.run_trace.specs.Tables.{call_of_post, sender_of}
+use Rattle.message_rows.specs.Said.{Said, alone, event_word, mode_word, post_said, report_said, state_word}
+use Rattle.message_rows.specs.Tables.{call_of_post, sender_of}
 use Rattle.run_values.specs.declared.post.Body.{Body}
 use Rattle.table_core.specs.Fields.{has_word, is_blank, number_in, optional_in}
 use Rattle.table_core.specs.Judging.{and_then}

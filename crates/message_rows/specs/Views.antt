@@ -3,7 +3,7 @@ use Rattle.std.specs.Prelude.{ℕ, Option}
 use Rattle.cap_values.specs.declared.leg.Leg.{Leg}
 use Rattle.message_rows.specs.Messages.{MessageView, speech_of}
 use Rattle.message_rows.specs.declared.message.Message.{Message}
-use Rattle.run_trace.specs.Said.{leg_number}
+use Rattle.message_rows.specs.Said.{leg_number}
 
 -- the number of a leg, where there is one
 abbrev pub leg_number_of : Option Leg → Option ℕ

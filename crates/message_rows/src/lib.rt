@@ -1,14 +1,17 @@
 //! Message rows: what a switch or an operator says to the service, each message in a row of its
-//! own, in the columns and the words of a trace.
+//! own. They are read, and the trace of a run writes them, with the operations that answer them.
 #![tactic(auto)]
 
 mod kind;
 mod laws;
 mod line;
 mod message;
+mod trace;
+mod trace_rows;
 mod words;
 
 pub use kind::LineKind;
 pub use laws::printed_posts_are_read;
 pub use line::read_line;
 pub use message::{Message, read_message};
+pub use trace::{trace_table, write_rows};

@@ -16,7 +16,7 @@ use Rattle.part_laws.specs.Chosen.{AreByAccount, HasBooksOf, IsByAccount, chosen
 use Rattle.part_laws.specs.Numbers.{unnumbered_book}
 use Rattle.part_laws.specs.Parts.{ArePaidBy, IsPaidBy, IsPlayedAlone, PartsAreAsOneRun, choice_of}
 use Rattle.run_outputs.specs.Kept.{own_books}
-use Rattle.run_parts.specs.Parts.{part_by, part_of_account}
+use Rattle.run_outputs.specs.Parts.{part_by, part_of_account}
 use Rattle.run_values.proofs.Placing.{never_fall}
 use Rattle.run_values.specs.Setups.{Setup}
 use Rattle.run_values.specs.declared.directory.OpeningCredit.{OpeningCredit}

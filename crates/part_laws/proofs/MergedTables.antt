@@ -12,7 +12,7 @@ use Rattle.moment_texts.specs.declared.clock.Clock.{Clock}
 use Rattle.part_laws.proofs.InOrder.{ComesInOrder, rise}
 use Rattle.part_laws.proofs.Merged.{at_number}
 use Rattle.part_laws.proofs.Joined.{part_within}
-use Rattle.run_parts.specs.Parts.{part_by}
+use Rattle.run_outputs.specs.Parts.{part_by}
 use native.Mathlib.Nat.{mod-lt}
 
 -- ---- what is printed of calls

@@ -8,8 +8,8 @@ use Rattle.std.proofs.lemmas.List.Sums.{get_or-le-sum_by}
 use Rattle.account_core.specs.declared.fault.AccountFault.{AccountFault}
 use Rattle.account_core.specs.declared.fault.AccountFault.TheVariants as fault
 use Rattle.live_recovery.specs.Laws.{NoneIsRefused}
-use Rattle.run_remarks.specs.Refused.{added_up, how_many, is_by, none_refused, rank_of, refusals_counted, refusals_counted_in}
-use Rattle.run_remarks.specs.declared.refusals.Refusals.{Refusals}
+use Rattle.run_outputs.specs.Refused.{added_up, how_many, is_by, none_refused, rank_of, refusals_counted, refusals_counted_in}
+use Rattle.run_outputs.specs.declared.refusals.Refusals.{Refusals}
 use Rattle.run_values.specs.declared.post.Answer.{Answer}
 
 abbrev count_of : AccountFault → Refusals → ℕ

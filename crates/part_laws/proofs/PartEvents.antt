@@ -5,8 +5,8 @@ use Rattle.std.specs.Prelude.{if◌then◌else◌}
 use Rattle.std.proofs.lemmas.List.Elements.{filter-append}
 use Rattle.part_laws.specs.Chosen.{Choice}
 use Rattle.part_laws.specs.Rows.{chosen_rows, is_chosen_happening}
-use Rattle.run_remarks.specs.Unplaced.{event_in_row, events_in_rows}
-use Rattle.run_remarks.specs.declared.unplaced.UnplacedEvent.{UnplacedEvent}
+use Rattle.run_outputs.specs.Unplaced.{event_in_row, events_in_rows}
+use Rattle.run_outputs.specs.declared.unplaced.UnplacedEvent.{UnplacedEvent}
 use Rattle.run_texts.specs.declared.script.Happening.{Happening}
 use Rattle.run_texts.specs.declared.script.Happening.TheVariants.{Start, Meets, Recharge}
 use Rattle.run_texts.specs.declared.script.ScriptRow.{ScriptRow}

@@ -10,8 +10,8 @@ use Rattle.cap_values.specs.declared.number.Number.{Number}
 use Rattle.part_laws.specs.ScriptParts.{payer_in_rows}
 use Rattle.part_laws.specs.Parts.{ArePaidBy, IsPaidBy}
 use Rattle.run_laws.specs.Starts.{HasItsStart, HaveTheirStarts, begins_with}
-use Rattle.run_parts.proofs.Accounts.{by_its_digits}
-use Rattle.run_parts.specs.Parts.{account_of_digits, payer_by}
+use Rattle.run_outputs.proofs.Accounts.{by_its_digits}
+use Rattle.run_outputs.specs.Parts.{account_of_digits, payer_by}
 use Rattle.run_texts.specs.Views.{happens_of, with_digits}
 use Rattle.run_texts.specs.declared.script.Happening.{Happening}
 use Rattle.run_texts.specs.declared.script.Happening.TheVariants.{Start, Meets, Recharge}

@@ -20,7 +20,7 @@ use Rattle.part_laws.specs.Printed.{run_given}
 use Rattle.part_laws.specs.Rows.{SomeRowsGiveTheirItems, chosen_rows, is_chosen_happening}
 use Rattle.run_command.proofs.Starts.{played_starts}
 use Rattle.run_command.specs.Plays.{IsPlayOf}
-use Rattle.run_parts.specs.Parts.{part_by, part_of, part_rows}
+use Rattle.run_outputs.specs.Parts.{part_by, part_of, part_rows}
 use Rattle.run_texts.specs.Views.{happens_of}
 use Rattle.run_texts.specs.declared.script.Happening.{Happening}
 use Rattle.run_texts.specs.declared.script.Happening.TheVariants.{Start, Meets, Recharge}

@@ -5,13 +5,13 @@ use Rattle.run_command.specs.Answers.{IsRunOf}
 use Rattle.run_outputs.specs.Texts.{RunSaid}
 use Rattle.run_command.specs.InParts.{IsPartOf, IsRunInParts}
 use Rattle.run_outputs.specs.Kept.{PartSaid}
-use Rattle.run_remarks.specs.Refused.{none_refused}
-use Rattle.run_remarks.specs.declared.refusals.Refusals.{Refusals}
-use Rattle.run_remarks.specs.declared.unplaced.UnplacedEvent.{UnplacedEvent}
+use Rattle.run_outputs.specs.Refused.{none_refused}
+use Rattle.run_outputs.specs.declared.refusals.Refusals.{Refusals}
+use Rattle.run_outputs.specs.declared.unplaced.UnplacedEvent.{UnplacedEvent}
 use Rattle.run_options.specs.declared.options.RunAsk.{RunAsk}
 use Rattle.run_options.specs.declared.options.RunOutput.{RunOutput}
 use Rattle.run_options.specs.declared.options.RunOutput.TheVariants as output
-use Rattle.run_parts.specs.Parts.{part_rows}
+use Rattle.run_outputs.specs.Parts.{part_rows}
 use Rattle.run_texts.specs.Inputs.{RunInput}
 
 -- a part was played with the values that one run of the input has: its setup, its configuration of gsmSSFs, and of its rows those of the part

@@ -12,7 +12,7 @@ use Rattle.live_recovery.specs.Laws.{NoneIsRefused}
 use Rattle.part_laws.specs.Chosen.{Choice, chosen}
 use Rattle.part_laws.specs.Numbers.{unnumbered_book}
 use Rattle.run_outputs.specs.Kept.{own_books}
-use Rattle.run_parts.specs.Parts.{part_by, part_of_account}
+use Rattle.run_outputs.specs.Parts.{part_by, part_of_account}
 use Rattle.run_values.specs.Setups.{Setup, account_of}
 use Rattle.run_values.specs.declared.post.Answer.{Answer}
 use Rattle.run_values.specs.declared.post.Body.{Body}

@@ -13,7 +13,7 @@ use Rattle.part_laws.specs.Parts.{AreAsOfOneRun}
 use Rattle.part_laws.specs.Printed.{run_given}
 use Rattle.run_outputs.specs.Kept.{IsMergedText, own_books}
 use Rattle.run_command.specs.Plays.{IsPlayOf}
-use Rattle.run_parts.specs.Parts.{part_rows, payer_of}
+use Rattle.run_outputs.specs.Parts.{part_rows, payer_of}
 use Rattle.run_texts.specs.Views.{rows_are_in_order, row_data, with_digits}
 use Rattle.run_texts.specs.declared.script.ScriptRow.{ScriptRow}
 use Rattle.run_values.specs.Setups.{Setup}

@@ -60,9 +60,10 @@ pub fn records_are_those_of_all()
 {}
 
 /// The books of all parts, one part's after another's, are the books of one run, but for the
-/// numbers of settles, and have its lines, byte for byte. The parts are those of `run_parts`: each
-/// has its accounts, and of the calls those that subscribers of these begin. Each part was given
-/// just its own items of the one run, in their order, and no account refused an ask in any run.
+/// numbers of settles, and have its lines, byte for byte. The parts are those of `run_outputs`:
+/// each has its accounts, and of the calls those that subscribers of these begin. Each part was
+/// given just its own items of the one run, in their order, and no account refused an ask in any
+/// run.
 pub fn parts_are_as_one_run()
     ensures { PartsAreAsOneRun }
 {
@@ -91,8 +92,8 @@ pub fn some_rows_give_their_items()
 }
 
 /// A script that is played in parts comes to what one run of it comes to. The parts are those of
-/// `run_parts`, each is played by its own rows and by one worker, over the same setup, with gsmSSFs
-/// of the same configuration and the same delay, and no account refuses an ask in any run:
+/// `run_outputs`, each is played by its own rows and by one worker, over the same setup, with
+/// gsmSSFs of the same configuration and the same delay, and no account refuses an ask in any run:
 ///
 /// * the books of the parts' own accounts, one part's after another's, are the books of one worker
 ///   that plays all rows, but for the numbers of settles, and have its lines, byte for byte;

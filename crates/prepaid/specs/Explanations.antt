@@ -6,7 +6,7 @@ use Rattle.run_command.specs.Strangers.{AreStrangersOf}
 use Rattle.table_commands.specs.Explanations.{IsOfWords, IsSaidOfFault}
 use Rattle.table_commands.specs.Printouts.{Printout}
 use Rattle.table_commands.specs.declared.fault.Fault.{Fault}
-use Rattle.run_remarks.specs.Lists.{strangers_line}
+use Rattle.run_outputs.specs.Lists.{strangers_line}
 
 -- a text is said of a run over an input, behind its answer: which calls no subscriber makes, and then the line about the events that had no place
 pub record IsSaidBehind (input events_line text : List ℕ) : Type 0 where

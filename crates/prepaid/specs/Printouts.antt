@@ -2,8 +2,8 @@
 use Rattle.std.specs.Prelude.{true, [], string_bytes}
 use Rattle.run_outputs.specs.Texts.{RunSaid, TablesSaid}
 use Rattle.table_commands.specs.Printouts.{Printout}
-use Rattle.run_remarks.specs.Lists.{unplaced_line}
-use Rattle.run_remarks.specs.RefusedLines.{refused_line}
+use Rattle.run_outputs.specs.Lists.{unplaced_line}
+use Rattle.run_outputs.specs.RefusedLines.{refused_line}
 use Rattle.prepaid.specs.declared.answer.Answer.{Answer}
 
 -- what a run says

@@ -1,8 +1,7 @@
 //! What the program prints.
 
 use book_texts::Audit;
-use run_outputs::RunTables;
-use run_remarks::{Refusals, UnplacedEvent};
+use run_outputs::{Refusals, RunTables, UnplacedEvent};
 use std::alloc::Global;
 
 /// A text that answers what was asked, and the exit status that goes with it.

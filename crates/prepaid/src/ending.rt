@@ -7,14 +7,14 @@ ghost use Rattle.table_commands.specs.Answers.{printout_of_audit};
 ghost use Rattle.table_commands.specs.Explanations.{IsSaidOfFault, slip_of};
 ghost use Rattle.table_commands.specs.Printouts.{plain};
 ghost use Rattle.prepaid.specs.Explanations.{IsSaidBehind};
-ghost use Rattle.run_remarks.specs.Lists.{unplaced_line};
+ghost use Rattle.run_outputs.specs.Lists.{unplaced_line};
 ghost use Rattle.prepaid.specs.Printouts.{printout_of};
 
 use crate::answer::Answer;
 use book_texts::Audit;
 use run_command::stranger_calls;
 use run_options::RunOptions;
-use run_remarks::{UnplacedEvent, strangers_line, unplaced_line};
+use run_outputs::{UnplacedEvent, strangers_line, unplaced_line};
 use std::alloc::{AllocError, Global};
 use std::io::Error;
 use table_commands::{Ending, Fault};

@@ -6,7 +6,7 @@ ghost use Rattle.std.specs.Result.{result_map_both};
 ghost use Rattle.rating.specs.Fronts.{AppendsFront};
 ghost use Rattle.prepaid.specs.Answers.{Answers, IsCutOff, IsPrinted, IsSaidOrReported, RatesAsAsked, ServesAsAsked};
 ghost use Rattle.prepaid.specs.Printouts.{printout_of};
-ghost use Rattle.run_remarks.specs.RefusedLines.{refused_line};
+ghost use Rattle.run_outputs.specs.RefusedLines.{refused_line};
 
 use crate::answer::Answer;
 use crate::ending::{audit_ending, text_ending};
@@ -15,7 +15,7 @@ use crate::serving::serve_messages;
 use command_words::{Request, explains, read_words};
 use rating::write_text;
 use run_command::Watch;
-use run_remarks::{Refusals, refused_line};
+use run_outputs::{Refusals, refused_line};
 use std::convert::AsStr;
 use std::fs::File;
 use std::io::{BufRead, Write};

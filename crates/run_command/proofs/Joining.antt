@@ -10,7 +10,7 @@ use Rattle.std.proofs.lemmas.Bool.Decides.{nat_tests}
 use Rattle.std.proofs.lemmas.List.{map-append}
 use Rattle.std.proofs.lemmas.List.Elements.{All-append, All-nil}
 use Rattle.run_outputs.specs.Kept.{PartSaid, own_books}
-use Rattle.run_parts.specs.Parts.{part_of_account}
+use Rattle.run_outputs.specs.Parts.{part_of_account}
 use Rattle.shared_account.specs.Closed.{Closed}
 
 -- ---- tests of numbers

@@ -5,11 +5,11 @@ use Rattle.run_command.specs.InParts.{ArePlayed, IsInParts, IsKeptPart, IsPlayed
 use Rattle.run_outputs.specs.Kept.{AreKept, KeepsOwn, PartSaid, PrintsParts, joined_parts, own_books}
 use Rattle.run_command.specs.Played.{IsPlayedRun}
 use Rattle.run_outputs.specs.Texts.{RunSaid, run_of}
-use Rattle.run_remarks.specs.Unplaced.{events_in_rows}
+use Rattle.run_outputs.specs.Unplaced.{events_in_rows}
 use Rattle.run_outputs.specs.declared.part.Part.{Part}
 use Rattle.run_outputs.specs.declared.played.Played.{Played}
 use Rattle.run_options.specs.declared.options.RunAsk.{RunAsk}
-use Rattle.run_parts.specs.Parts.{AreParts, part_count, part_rows, payer_of}
+use Rattle.run_outputs.specs.Parts.{AreParts, part_count, part_rows, payer_of}
 use Rattle.run_texts.specs.Views.{row_data, with_digits}
 use Rattle.run_texts.specs.declared.script.ScriptRow.{ScriptRow}
 use Rattle.run_values.specs.Setups.{Setup}

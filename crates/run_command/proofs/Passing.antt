@@ -20,7 +20,7 @@ use Rattle.run_command.specs.Joined.{JoinedBooksHaveAllAccounts, JoinedBooksPass
 use Rattle.run_command.specs.Laws.{InputIsInRange, PassTheirAudits, PlayedBooksPass}
 use Rattle.run_command.specs.Plays.{IsGivenBy}
 use Rattle.run_options.specs.declared.options.RunAsk.{RunAsk}
-use Rattle.run_parts.specs.Parts.{part_of, part_of_account, part_script, payer_of}
+use Rattle.run_outputs.specs.Parts.{part_of, part_of_account, part_script, payer_of}
 use Rattle.run_texts.specs.Happenings.{RowData, is_in_time}
 use Rattle.run_texts.specs.Inputs.{RunInput}
 use Rattle.run_values.specs.declared.directory.OpeningCredit.{OpeningCredit}

@@ -17,7 +17,7 @@ use Rattle.runs_core.specs.Runs.{IsRun}
 use Rattle.run_command.specs.Played.{IsPlayedRun}
 use Rattle.run_options.specs.Options.{is_trace}
 use Rattle.run_outputs.specs.declared.played.Played.{Played}
-use Rattle.run_remarks.specs.Refused.{refusals_counted_in}
+use Rattle.run_outputs.specs.Refused.{refusals_counted_in}
 use Rattle.run_values.specs.Setups.{Setup}
 use Rattle.shared_account.specs.Closed.{Closed}
 use Rattle.turn_account.specs.Seen.{StoodIn}

@@ -1,7 +1,7 @@
 -- What the rows of a script say is divided as the rows are.
 use Rattle.std.proofs.Common.{◌≡◌, ◌==◌, ℕ, Bool, true, false, cond, Option, List, [], ◌∷◌, map, refl, ap}
 use Rattle.std.specs.List.{filter}
-use Rattle.run_parts.specs.Parts.{part_of, part_rows, part_script}
+use Rattle.run_outputs.specs.Parts.{part_of, part_rows, part_script}
 use Rattle.run_texts.specs.Happenings.{RowData}
 use Rattle.run_texts.specs.Views.{row_data}
 use Rattle.run_texts.specs.declared.script.ScriptRow.{ScriptRow}

@@ -13,14 +13,14 @@ use Rattle.run_command.specs.Joined.{AreAllParts, JoinedBooksHaveAllAccounts, Jo
 use Rattle.run_command.specs.Laws.{PlayedBooksPass, PlayedCallsHavePaid}
 use Rattle.run_command.specs.Played.{AreWhole, IsWhole}
 use Rattle.run_command.specs.Plays.{IsGivenBy, IsGivenWithout}
-use Rattle.run_remarks.specs.Refused.{none_refused}
+use Rattle.run_outputs.specs.Refused.{none_refused}
 use Rattle.run_command.specs.Starts.{IsStartOf}
 use Rattle.run_command.specs.Tables.{AreTablesOf}
-use Rattle.run_remarks.specs.Unplaced.{AreByCall, events_in_rows}
-use Rattle.run_remarks.specs.declared.refusals.Refusals.{Refusals}
-use Rattle.run_remarks.specs.declared.unplaced.UnplacedEvent.{UnplacedEvent}
+use Rattle.run_outputs.specs.Unplaced.{AreByCall, events_in_rows}
+use Rattle.run_outputs.specs.declared.refusals.Refusals.{Refusals}
+use Rattle.run_outputs.specs.declared.unplaced.UnplacedEvent.{UnplacedEvent}
 use Rattle.run_options.specs.declared.options.RunAsk.{RunAsk}
-use Rattle.run_parts.specs.Parts.{part_count, part_rows, part_script, payer_of}
+use Rattle.run_outputs.specs.Parts.{part_count, part_rows, part_script, payer_of}
 use Rattle.run_texts.specs.Happenings.{RowData}
 use Rattle.run_texts.specs.Inputs.{RunInput}
 use Rattle.run_texts.specs.Views.{row_data, with_digits}

@@ -5,7 +5,7 @@ use Rattle.book_texts.specs.Typed.{IsTyped}
 use Rattle.moment_texts.specs.declared.clock.Clock.{Clock}
 use Rattle.run_command.specs.Played.{AreWhole, IsPlayedRun}
 use Rattle.run_outputs.specs.Texts.{AreTextsOf, TablesSaid, clock_of, run_of}
-use Rattle.run_remarks.specs.Unplaced.{AreByCall, events_in_rows}
+use Rattle.run_outputs.specs.Unplaced.{AreByCall, events_in_rows}
 use Rattle.run_outputs.specs.declared.played.Played.{Played}
 use Rattle.run_options.specs.declared.options.RunAsk.{RunAsk}
 use Rattle.run_options.specs.declared.options.RunOutput.TheVariants as output

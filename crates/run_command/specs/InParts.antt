@@ -6,14 +6,14 @@ use Rattle.book_texts.specs.Typed.{IsTyped}
 use Rattle.run_command.specs.Books.{AreBooksOf}
 use Rattle.run_command.specs.Laws.{CallsHavePaid, PassTheirAudits}
 use Rattle.run_command.specs.Plays.{IsGivenBy}
-use Rattle.run_remarks.specs.Refused.{added_up, refusals_counted_in}
-use Rattle.run_remarks.specs.Unplaced.{AreByCall, events_in_rows}
+use Rattle.run_outputs.specs.Refused.{added_up, refusals_counted_in}
+use Rattle.run_outputs.specs.Unplaced.{AreByCall, events_in_rows}
 use Rattle.run_outputs.specs.declared.part.Part.{Part}
-use Rattle.run_remarks.specs.declared.refusals.Refusals.{Refusals}
-use Rattle.run_remarks.specs.declared.unplaced.UnplacedEvent.{UnplacedEvent}
+use Rattle.run_outputs.specs.declared.refusals.Refusals.{Refusals}
+use Rattle.run_outputs.specs.declared.unplaced.UnplacedEvent.{UnplacedEvent}
 use Rattle.run_options.specs.declared.options.RunAsk.{RunAsk}
 use Rattle.run_options.specs.declared.options.RunOutput.TheVariants as output
-use Rattle.run_parts.specs.Parts.{part_count, part_rows, part_script, payer_of}
+use Rattle.run_outputs.specs.Parts.{part_count, part_rows, part_script, payer_of}
 use Rattle.run_texts.specs.Inputs.{RunInput, input_of}
 use Rattle.run_texts.specs.Views.{row_data, with_digits}
 use Rattle.run_texts.specs.declared.script.ScriptRow.{ScriptRow}

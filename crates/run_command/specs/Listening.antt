@@ -1,6 +1,6 @@
 -- A player that counts the refusals in the answers that it hears, and may keep the answers.
 use Rattle.std.specs.Prelude.{◌≡◌, ◌++◌, true, false, List}
-use Rattle.run_remarks.specs.Refused.{refusals_counted_in}
+use Rattle.run_outputs.specs.Refused.{refusals_counted_in}
 use Rattle.run_command.specs.declared.listening.Listener.{Listener}
 use Rattle.run_values.specs.declared.post.Answer.{Answer}
 use Rattle.script_player.specs.Runs.{Hears}

@@ -3,8 +3,8 @@ use Rattle.std.specs.Prelude.{◌≡◌, ℕ, List, map, true}
 use Rattle.book_texts.specs.Typed.{IsTyped}
 use Rattle.run_outputs.specs.Texts.{AreTextsOf, IsTextOf, RunSaid, TablesSaid, clock_of, run_of}
 use Rattle.run_command.specs.Plays.{IsGivenBy}
-use Rattle.run_remarks.specs.Refused.{refusals_counted_in}
-use Rattle.run_remarks.specs.Unplaced.{AreByCall, events_in_rows}
+use Rattle.run_outputs.specs.Refused.{refusals_counted_in}
+use Rattle.run_outputs.specs.Unplaced.{AreByCall, events_in_rows}
 use Rattle.run_outputs.specs.declared.played.Played.{Played}
 use Rattle.run_options.specs.Options.{is_trace}
 use Rattle.run_options.specs.declared.options.RunAsk.{RunAsk}

@@ -1,7 +1,7 @@
 -- The calls of numbers that no subscriber has.
 use Rattle.std.specs.Prelude.{◌≡◌, ℕ, List, [], ◌∷◌, Ok, if◌then◌else◌, is_some}
 use Rattle.std.specs.List.{flat_map}
-use Rattle.run_parts.specs.Parts.{account_of_digits}
+use Rattle.run_outputs.specs.Parts.{account_of_digits}
 use Rattle.run_texts.specs.Happenings.{Happens, Meets, Recharges, RowData, Starts}
 use Rattle.run_texts.specs.Inputs.{RunInput, input_of}
 

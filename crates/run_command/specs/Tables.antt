@@ -4,8 +4,8 @@ use Rattle.run_command.specs.Answers.{IsRunAnswer}
 use Rattle.run_command.specs.Books.{AreBooksOf}
 use Rattle.run_command.specs.Laws.{CallsHavePaid, PassTheirAudits}
 use Rattle.run_command.specs.Plays.{IsGivenBy}
-use Rattle.run_remarks.specs.Refused.{refusals_counted_in}
-use Rattle.run_remarks.specs.Unplaced.{AreByCall, events_in_rows}
+use Rattle.run_outputs.specs.Refused.{refusals_counted_in}
+use Rattle.run_outputs.specs.Unplaced.{AreByCall, events_in_rows}
 use Rattle.run_command.specs.declared.error.RunError.{RunError}
 use Rattle.run_options.specs.declared.options.RunAsk.{RunAsk}
 use Rattle.run_texts.specs.Inputs.{RunInput, input_of}

@@ -1,13 +1,12 @@
 //! A player that counts the refusals in the answers that it hears, and may keep the answers.
 
 ghost use Rattle.std.specs.Prelude.{◌≡◌, ◌++◌, [], OnOk};
-ghost use Rattle.run_remarks.specs.Refused.{none_refused};
+ghost use Rattle.run_outputs.specs.Refused.{none_refused};
 ghost use Rattle.run_options.specs.Options.{is_trace};
 
 use arrayvec::ArrayVec;
 use run_options::RunOutput;
-use run_outputs::Played;
-use run_remarks::Refusals;
+use run_outputs::{Played, Refusals};
 use run_values::{Answer, Body, Driver};
 use script_player::ScriptPlayer;
 use shared_account::Book;

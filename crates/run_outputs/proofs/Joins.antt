@@ -11,10 +11,10 @@ use Rattle.run_options.specs.declared.options.RunOutput.TheVariants as output
 use Rattle.run_outputs.specs.Kept.{AreKept, IsPartsText, KeepsBooks, KeepsPart, PartSaid, PrintsParts, joined_parts, with_part}
 use Rattle.run_outputs.specs.Texts.{RunSaid}
 use Rattle.run_outputs.specs.declared.part.Part.{Part}
-use Rattle.run_remarks.specs.Refused.{added_up, refusals_counted, with_refusals}
-use Rattle.run_remarks.specs.Unplaced.{AreByCall}
-use Rattle.run_remarks.specs.declared.refusals.Refusals.{Refusals}
-use Rattle.run_remarks.specs.declared.unplaced.UnplacedEvent.{UnplacedEvent}
+use Rattle.run_outputs.specs.Refused.{added_up, refusals_counted, with_refusals}
+use Rattle.run_outputs.specs.Unplaced.{AreByCall}
+use Rattle.run_outputs.specs.declared.refusals.Refusals.{Refusals}
+use Rattle.run_outputs.specs.declared.unplaced.UnplacedEvent.{UnplacedEvent}
 use Rattle.shared_account.specs.Closed.{Closed}
 use Rattle.tariff_core.specs.Bands.{Band}
 

@@ -13,11 +13,11 @@ use Rattle.run_options.specs.declared.options.RunOutput.TheVariants as output
 use Rattle.run_outputs.specs.Texts.{RunSaid, run_of}
 use Rattle.run_outputs.specs.declared.part.Part.{Part}
 use Rattle.run_outputs.specs.declared.played.Played.{Played}
-use Rattle.run_parts.specs.Parts.{part_of_account}
-use Rattle.run_remarks.specs.Refused.{added_up, with_refusals}
-use Rattle.run_remarks.specs.Unplaced.{AreByCall, IsMergedBy, events_in_rows}
-use Rattle.run_remarks.specs.declared.refusals.Refusals.{Refusals}
-use Rattle.run_remarks.specs.declared.unplaced.UnplacedEvent.{UnplacedEvent}
+use Rattle.run_outputs.specs.Parts.{part_of_account}
+use Rattle.run_outputs.specs.Refused.{added_up, with_refusals}
+use Rattle.run_outputs.specs.Unplaced.{AreByCall, IsMergedBy, events_in_rows}
+use Rattle.run_outputs.specs.declared.refusals.Refusals.{Refusals}
+use Rattle.run_outputs.specs.declared.unplaced.UnplacedEvent.{UnplacedEvent}
 use Rattle.run_values.specs.Setups.{Setup}
 use Rattle.shared_account.specs.Closed.{Closed}
 use Rattle.tariff_core.specs.Bands.{Band, have_steps}

@@ -11,9 +11,9 @@ use Rattle.run_options.specs.declared.options.RunOutput.TheVariants as output
 use Rattle.run_outputs.specs.declared.played.Played.{Played}
 use Rattle.run_outputs.specs.declared.played.Ran.{Ran}
 use Rattle.run_outputs.specs.declared.tables.RunTables.{RunTables}
-use Rattle.run_remarks.specs.declared.refusals.Refusals.{Refusals}
-use Rattle.run_remarks.specs.declared.unplaced.UnplacedEvent.{UnplacedEvent}
-use Rattle.run_trace.specs.Tables.{trace_text}
+use Rattle.run_outputs.specs.declared.refusals.Refusals.{Refusals}
+use Rattle.run_outputs.specs.declared.unplaced.UnplacedEvent.{UnplacedEvent}
+use Rattle.message_rows.specs.Tables.{trace_text}
 use Rattle.run_values.specs.Setups.{Setup}
 use Rattle.run_values.specs.declared.post.Answer.{Answer}
 use Rattle.tariff_core.specs.Bands.{have_steps}

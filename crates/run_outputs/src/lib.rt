@@ -1,10 +1,24 @@
-//! What a run comes to, once its script was played: its texts, and what is kept of its parts.
+//! What a run comes to, once its script was played: its texts, what is said besides them, and what
+//! is kept of its parts; and the division of a script into parts.
 #![tactic(auto)]
 
+mod division;
+mod firsts;
+mod list_lines;
 mod part;
+mod payers;
 mod played;
+mod refusals;
+mod refused_lines;
 mod tables;
+mod unplaced;
 
+pub use division::{Division, divide};
+pub use firsts::Firsts;
+pub use list_lines::{strangers_line, unplaced_line};
 pub use part::{Part, print_parts};
 pub use played::{Played, Ran};
+pub use refusals::Refusals;
+pub use refused_lines::refused_line;
 pub use tables::{RunTables, clock_of};
+pub use unplaced::{UnplacedEvent, by_call, events_by_call, events_of};

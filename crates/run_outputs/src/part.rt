@@ -1,20 +1,17 @@
 //! What is kept of a part of a run, and of all of them.
 
-ghost use Rattle.std.specs.Prelude.{◌≡◌, ◌==◌, [], All, IfOk, List, OnOk, string_bytes};
-ghost use Rattle.std.specs.List.{filter};
+ghost use Rattle.std.specs.Prelude.{◌≡◌, [], All, IfOk, List, OnOk, string_bytes};
 ghost use Rattle.book_texts.specs.RunTexts.{AreLinesOf};
 ghost use Rattle.book_texts.specs.Typed.{IsTyped};
 ghost use Rattle.run_options.specs.declared.options.RunOutput.{RunOutput};
 ghost use Rattle.run_outputs.specs.Kept.{AreKept, IsMergedText, IsPartsText, KeepsBooks, KeepsCalls, KeepsOwn, KeepsPart, PartSaid, PrintsParts, joined_parts, own_books, with_part};
 ghost use Rattle.run_outputs.specs.Texts.{run_said_of};
 
-use crate::{Played, Ran};
+use crate::{Firsts, Played, Ran, Refusals, UnplacedEvent, by_call, events_of};
 use book_texts::{RunLines, book_table};
 use call_records::{CallRecord, call_table, records};
 use moment_texts::Clock;
 use run_options::RunOutput;
-use run_parts::Firsts;
-use run_remarks::{Refusals, UnplacedEvent, by_call, events_of};
 use run_values::{Body, RunSetup};
 use shared_account::Book;
 use std::alloc::{AllocError, Global};

@@ -3,14 +3,14 @@
 ghost use Rattle.std.specs.Prelude.{◌≡◌, IfOk, OnOk, All, string_bytes};
 ghost use Rattle.book_texts.specs.Typed.{IsTyped};
 ghost use Rattle.run_outputs.specs.Texts.{IsTextOf, run_of};
-ghost use Rattle.run_remarks.specs.Unplaced.{AreByCall, events_in_rows};
+ghost use Rattle.run_outputs.specs.Unplaced.{AreByCall, events_in_rows};
 
+use crate::{Refusals, UnplacedEvent, events_by_call};
 use book_texts::{book_table, run_lines};
 use call_records::{call_table, records};
+use message_rows::trace_table;
 use run_options::RunOutput;
-use run_remarks::{Refusals, UnplacedEvent, events_by_call};
 use run_texts::ScriptRow;
-use run_trace::trace_table;
 use run_values::{Answer, Body, RunSetup};
 use shared_account::Book;
 use std::alloc::{AllocError, Global};

@@ -3,12 +3,11 @@
 ghost use Rattle.std.specs.Prelude.{◌≡◌, All, IfOk};
 ghost use Rattle.book_texts.specs.Typed.{IsTyped};
 ghost use Rattle.run_outputs.specs.Texts.{AreTextsOf, clock_of, run_of, tables_said};
-ghost use Rattle.run_remarks.specs.Unplaced.{AreByCall, events_in_rows};
+ghost use Rattle.run_outputs.specs.Unplaced.{AreByCall, events_in_rows};
 
-use crate::Played;
+use crate::{Played, Refusals, UnplacedEvent, events_by_call};
 use moment_texts::Clock;
 use run_options::RunOutput;
-use run_remarks::{Refusals, UnplacedEvent, events_by_call};
 use run_values::RunSetup;
 use std::alloc::{AllocError, Global};
 

@@ -1,7 +1,7 @@
 use Rattle.std.proofs.Common.{◌≡◌, rules, length, refl, arith}
 use Rattle.std.proofs.lemmas.List.Sorted.{IsNonDecreasingBy-from_sort_by_key, answers_always}
 use Rattle.call_records.specs.declared.call_record.CallRecord.{CallRecord}
-use Rattle.run_remarks.proofs.Merging.{stays_in_order}
+use Rattle.run_outputs.proofs.Merging.{stays_in_order}
 use Rattle.run_outputs.proofs.part.print_calls.Goals as goal
 
 pub returns : goal.returns

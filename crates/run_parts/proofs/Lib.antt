@@ -1,4 +1,0 @@
-pub mod Accounts
-pub mod Beginnings
-pub mod Orders
-pub mod Piles

@@ -1,3 +1,0 @@
-pub mod KindLemmas
-pub mod Merging
-pub mod RefusalLemmas

@@ -1,4 +1,0 @@
-pub mod Lists
-pub mod Refused
-pub mod RefusedLines
-pub mod Unplaced
