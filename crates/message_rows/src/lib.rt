@@ -13,5 +13,5 @@ mod words;
 pub use kind::LineKind;
 pub use laws::printed_posts_are_read;
 pub use line::read_line;
-pub use message::{Message, read_message};
+pub use message::Message;
 pub use trace::{trace_table, write_rows};

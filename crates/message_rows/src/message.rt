@@ -9,9 +9,8 @@ ghost use Rattle.message_rows.specs.Views.{leg_number_of, view_of};
 use crate::words::{Word, read_word};
 use cap_values::{Event, Leg, Mode, SsfMsg};
 use csv::ByteRecord;
-use moment_texts::moment_field;
 use price_core::{DAY, HORIZON, TimeInfo};
-use run_texts::{account, amount, party, until};
+use run_texts::{account, amount, moment_field, party, until};
 use run_values::Body;
 use table_core::{RowKind, is_blank, number, optional};
 
@@ -32,7 +31,7 @@ pub struct Message {
 /// `HORIZON`; a number may be left out. Judged in this order: `What` where a word is another one;
 /// `Number` where a field isn't a decimal, a moment, or the digits of a party, within its range;
 /// `Empty` where a field that must be empty isn't.
-pub fn read_message(row: &ByteRecord) -> Result<Message, RowKind>
+pub(crate) fn read_message(row: &ByteRecord) -> Result<Message, RowKind>
     requires { 8 < length (fields_of row.now) }
     ensures says { result_map_both view_of (λ kind. kind) result ≡ message_in (fields_of row.now) }
     ensures in_range { IfOk result (λ message. message.at ≤ HORIZON) }

@@ -6,11 +6,9 @@
 
 mod calendar;
 mod clock;
-mod fields;
 mod laws;
 mod reading;
 
 pub use clock::{Clock, MomentField, TimeOfDay};
-pub use fields::moment_field;
 pub use laws::printed_moments_are_read;
 pub use reading::moment;

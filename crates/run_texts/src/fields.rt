@@ -1,16 +1,17 @@
-//! Accounts, amounts and parties in the fields of a row.
+//! Accounts, amounts, moments and parties in the fields of a row.
 
 ghost use Rattle.std.specs.Prelude.{◌≡◌, ◌<◌, ◌≤◌, length, true, IfOk};
 ghost use Rattle.std.specs.Result.{result_map_both};
 ghost use Rattle.cap_values.specs.NumberDigits.{digits_of_number};
 ghost use Rattle.csv.specs.Records.{fields_of};
+ghost use Rattle.moment_texts.specs.Fields.{moment_in};
 ghost use Rattle.run_texts.specs.Setups.{account_in, amount_in, party_in, until_in};
 ghost use Rattle.table_core.specs.Fields.{is_blank};
 ghost use Rattle.run_values.specs.Openings.{expires_in_time};
 
 use cap_values::Number;
 use csv::ByteRecord;
-use moment_texts::moment_field;
+use moment_texts::moment;
 use price_core::{MAX_MOMENT, MAX_MONEY};
 use ssf_core::Moment;
 use std::str;
@@ -31,6 +32,15 @@ pub fn amount(row: &ByteRecord, place: usize) -> Result<u64, RowKind>
     ensures within { IfOk result (λ amount. amount ≤ MAX_MONEY) }
 {
     number(row, place, MAX_MONEY)
+}
+
+/// The moment in the field at `place`, from 0 to `most`; else the row's kind `Number`.
+pub fn moment_field(row: &ByteRecord, place: usize, most: u64) -> Result<u64, RowKind>
+    requires { place < length (fields_of row.now) }
+    ensures value { result ≡ moment_in (fields_of row.now) place most }
+    ensures within { IfOk result (λ at. at ≤ most) }
+{
+    moment(field(row, place), most).ok_or(RowKind::Number)
 }
 
 /// The last moment in the field at `place`: 0 to `MAX_MOMENT`, as units or as a date and a time, or

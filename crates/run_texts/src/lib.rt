@@ -9,7 +9,7 @@ mod script;
 mod section;
 mod setup;
 
-pub use fields::{account, amount, party, until};
+pub use fields::{account, amount, moment_field, party, until};
 pub use input::{RunTexts, Sections, divide, read_directory, read_tariff, read_texts};
 pub use input_fault::InputFault;
 pub use script::{Happening, ScriptRow, read_script};

@@ -10,10 +10,9 @@ ghost use Rattle.csv.specs.Records.{fields_of};
 ghost use Rattle.table_core.specs.Faults.{GivesTable};
 ghost use Rattle.table_core.specs.Rows.{rows_of};
 
-use crate::fields::{account, amount, is_left_out, party, until};
+use crate::fields::{account, amount, is_left_out, moment_field, party, until};
 use cap_values::{Leg, Number};
 use csv::ByteRecord;
-use moment_texts::moment_field;
 use price_core::MAX_MOMENT;
 use run_values::Directory;
 use ssf_core::{BcsmEvent, Moment};

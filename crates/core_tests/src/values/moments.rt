@@ -1,10 +1,9 @@
 //! Moments as people write them.
 
 use crate::looking::gives;
-use moment_texts::{Clock, MomentField, TimeOfDay, moment, moment_field, printed_moments_are_read};
+use moment_texts::{Clock, MomentField, TimeOfDay, moment, printed_moments_are_read};
 use price_core::{HORIZON, MAX_MOMENT};
 use std::test::Fail;
-use table_core::{RowKind, Table};
 
 /// Texts, and the moment that each writes.
 const MOMENTS: [(&str, u64); 18] = [
@@ -113,16 +112,4 @@ fn reads_moments(rt: HostRuntime) {
     }
     let last = moment(b"9999-12-31T23:59:59.9", u64::MAX);
     gives(&rt, &u64::MAX, &last, &Some(2_534_023_007_999));
-}
-
-#[test]
-fn reads_moments_in_fields(rt: HostRuntime) {
-    let text: &[u8] = b"a,b\n1970-01-01 00:01:00,1970-01-01 00:00:60\n";
-    let opened = Table::open(rt.alloc(), text, &[&["a", "b"]], 1);
-    let mut table = opened.expect(&rt, "the header");
-    assert!(rt; table.next_row() == Ok(true));
-    let row = table.row();
-    gives(&rt, &600, &moment_field(row, 0, 600), &Ok(600));
-    gives(&rt, &599, &moment_field(row, 0, 599), &Err(RowKind::Number));
-    gives(&rt, &600, &moment_field(row, 1, 600), &Err(RowKind::Number));
 }
