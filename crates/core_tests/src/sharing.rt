@@ -1,7 +1,8 @@
-//! The tests of `shared_account`, `turn_account` and `locked_account`.
+//! The tests of `shared_account`, `turn_board`, `turn_account` and `locked_account`.
 
 mod books;
 mod forms;
 mod histories;
 mod threads;
+mod tickets;
 mod turns;

@@ -1,70 +1,22 @@
--- Seats that have ended, in an account that goes on and is closed.
-use Rattle.std.proofs.Common.{◌≡◌, ◌≤◌, ◌<◌, ◌+◌, ℕ, Bool, true, false, List, [], ◌∷◌, ◌++◌, length, map, refl, sym, ap, ◌∙◌, arith, subst, zero, suc}
-use Rattle.std.specs.Prelude.{◌==◌, if◌then◌else◌, All, slice_index_or}
-use Rattle.std.proofs.lemmas.Bool.{and_from, eq-eqb, eqb-true}
+-- Seats that have ended, in an account that is closed.
+use Rattle.std.proofs.Common.{◌≡◌, ◌<◌, ◌+◌, ℕ, true, List, [], ◌∷◌, ◌++◌, length, map, refl, sym, ap, ◌∙◌, arith, subst, zero, suc}
+use Rattle.std.specs.Prelude.{◌==◌, All, slice_index_or}
+use Rattle.std.proofs.lemmas.Bool.{and_from, eqb-true}
 use Rattle.std.proofs.lemmas.List.{get_or-map, length-map}
-use native.Mathlib.Decide.{dec_le}
-use mathlib.Core.Logic.{dite}
-use Rattle.account_core.specs.Entries.{EntryData}
 use Rattle.account_core.specs.Ledger.{Ledger}
-use Rattle.turn_account.specs.Ended.{HasEnded, HaveEnded}
+use Rattle.turn_board.specs.Ended.{HasEnded, HaveEnded}
 use Rattle.shared_account.specs.Own.{IsMerged, own}
-use Rattle.shared_account.specs.Prefixes.{IsPrefix}
 use Rattle.shared_account.specs.Seats.{are_numbered}
 use Rattle.turn_account.specs.TurnViews.{TurnSeatView, own_of}
-use Rattle.shared_account.proofs.Beginnings.{begins_further}
 use Rattle.shared_account.proofs.Numbering.{first_by, numbered_at}
 
--- one more seat has ended
-pub one_ended : (account : Ledger) (first : ℕ) (lasts : List Ledger) (last : Ledger) → HaveEnded account first lasts
-    → HasEnded account (first + length lasts) last → HaveEnded account first (lasts ++ last ∷ [])
-one_ended account first [] last have has = (subst (λ (n : ℕ). HasEnded account n last) (omega arith) has, tt)
-one_ended account first (other ∷ lasts) last have has =
-    (have.0, one_ended account (first + 1) lasts last have.1 (subst (λ (n : ℕ). HasEnded account n last) (omega arith) has))
-
--- the account goes on without an entry of theirs
-pub ended_longer : (account : Ledger) (history : List EntryData) (first : ℕ) (lasts : List Ledger) → IsPrefix account.history history
-    → ((number : ℕ) → first ≤ number → number < first + length lasts → own number account.history ≡ own number history) → HaveEnded account first lasts
-    → HaveEnded (record account { history = history }) first lasts
-ended_longer account history first [] longer same have = tt
-ended_longer account history first (last ∷ lasts) longer same have = (
-  record {
-    opening = have.0.opening;
-    until = have.0.until;
-    limit = have.0.limit;
-    seen = begins_further last.history account.history history have.0.seen longer;
-    own = have.0.own ∙ same first (omega arith) (omega arith);
-  },
-  ended_longer account history (first + 1) lasts longer (λ n above below. same n (omega (arith, above)) (omega (arith, below))) have.1,
-)
-
--- the seat at a place among them
+-- the seat at a place among those that have ended
 pub ended_at : (account : Ledger) (first : ℕ) (lasts : List Ledger) (k : ℕ) (d : Ledger) → HaveEnded account first lasts → k < length lasts
     → HasEnded account (first + k) (slice_index_or lasts k d)
 ended_at account first [] k d have within = absurd (omega (arith, within))
 ended_at account first (last ∷ lasts) zero d have within = subst (λ (n : ℕ). HasEnded account n last) (omega arith) have.0
 ended_at account first (last ∷ lasts) (suc k) d have within =
     subst (λ (n : ℕ). HasEnded account n (slice_index_or lasts k d)) (omega arith) (ended_at account (first + 1) lasts k d have.1 (omega (arith, within)))
-
--- ---- numbers without entries
-
-some_own : (here : Bool) (entry : EntryData) (more : List EntryData) → here ≡ true → (if here then entry ∷ more else more) ≡ [] → ⊥
-some_own true entry more is none = cc none
-some_own false entry more is none = cc is
-
-none_later : (here : Bool) (entry : EntryData) (more : List EntryData) → (if here then entry ∷ more else more) ≡ [] → more ≡ []
-none_later true entry more none = absurd (cc none)
-none_later false entry more none = none
-
--- where no number from this on has an entry, each entry is of a lower one
-pub all_below : (history : List EntryData) (seats : ℕ) → ((number : ℕ) → seats ≤ number → own number history ≡ []) → All (λ entry. entry.seat < seats) history
-all_below [] seats none k d within = absurd (omega (arith, within))
-all_below (entry ∷ history) seats none zero d within =
-    dite (dec_le seats entry.seat)
-    (λ (above : seats ≤ entry.seat). absurd (some_own (entry.seat == entry.seat) entry (own entry.seat history) (eq-eqb entry.seat entry.seat refl) (none entry.seat above)))
-    (λ (below : seats ≤ entry.seat → ⊥). omega (arith, below))
-all_below (entry ∷ history) seats none (suc k) d within =
-    all_below history seats (λ n above. none_later (entry.seat == n) entry (own n history) (none n above)) k d (omega (arith, within))
 
 -- ---- the last seat of all
 

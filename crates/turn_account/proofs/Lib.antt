@@ -1,11 +1,5 @@
 pub mod Calls
 pub mod Ending
-pub mod Keeping
-pub mod Longer
-pub mod MeetLemmas
 pub mod Returning
-pub mod Rosters
 pub mod Seated
-pub mod Seating
 pub mod Seeing
-pub mod Turning

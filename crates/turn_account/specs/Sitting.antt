@@ -2,9 +2,9 @@
 use Rattle.std.specs.Prelude.{◌≡◌, ◌≤◌, ℕ, []}
 use Rattle.atomic_table.specs.Seated.{TableId}
 use Rattle.account_core.specs.Answers.{IsLegal}
-use Rattle.turn_account.specs.Plays.{Sitter}
-use Rattle.turn_account.specs.declared.board.Stage.TheVariants.{Idles}
-use Rattle.turn_account.specs.declared.board.Start.{Start}
+use Rattle.turn_board.specs.Plays.{Sitter}
+use Rattle.turn_board.specs.declared.board.Stage.TheVariants.{Idles}
+use Rattle.turn_board.specs.declared.board.Start.{Start}
 
 -- between two calls the chair of a seat with this number rests and has nothing in hand, and has taken in no other. What it has seen is a legal history
 pub record IsSitting (chair : Sitter) (seat : ℕ) : Type 0 where
@@ -13,10 +13,6 @@ pub record IsSitting (chair : Sitter) (seat : ℕ) : Type 0 where
   pub number : chair.0.number ≡ seat
   pub ended : chair.0.ended ≡ []
   pub legal : IsLegal chair.0.seen.opening chair.0.seen.until chair.0.seen.history
-
--- a chair is at a board, which has three words
-abbrev pub IsAt : TableId → TableId → Type 0
-IsAt board chair = (chair ≡ board) × (board.words ≡ 3)
 
 -- a board has three words and a slot, and is for these seats, of which there is one at least
 pub record IsBoard (table : TableId) (start : Start) (count : ℕ) : Type 0 where

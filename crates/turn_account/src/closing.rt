@@ -2,20 +2,18 @@
 
 ghost use Rattle.std.specs.Prelude.{◌≡◌, ◌+◌, ◌↔◌, ◌≤◌, ◌<◌, ◌++◌, ◌∷◌, [], true, false, length, map, All, IfOk, IfErr};
 ghost use Rattle.shared_account.specs.Closed.{IsBookOf};
-ghost use Rattle.turn_account.specs.Ended.{IsClosedAs};
 ghost use Rattle.shared_account.specs.Prefixes.{IsPrefix};
 ghost use Rattle.shared_account.specs.Seats.{are_all, are_numbered};
 ghost use Rattle.turn_account.specs.Seen.{IsOpenedAs};
-ghost use Rattle.turn_account.specs.Sitting.{IsAt, IsBoard};
+ghost use Rattle.turn_account.specs.Sitting.{IsBoard};
+ghost use Rattle.turn_board.specs.Boards.{IsAt};
 ghost use Rattle.turn_account.specs.TurnViews.{own_of};
-ghost use Rattle.turn_account.specs.declared.board.Stage.TheVariants.{Idles};
+ghost use Rattle.turn_board.specs.declared.board.Stage.TheVariants.{Idles};
 ghost use Rattle.shared_account.specs.declared.fault.CloseFault.TheVariants as close;
 
 use crate::TurnSeat;
-use crate::board::{Board, Chair, SLOT};
-use crate::turn::take_in;
-use account_core::Account;
 use shared_account::{Book, CloseFault};
+use turn_board::{Board, Chair, clear_board, take_in};
 
 /// The book of an account whose seats were all handed in, in order. One takes in the others.
 pub(crate) fn close_board(
@@ -44,7 +42,7 @@ pub(crate) fn close_board(
         return Err(CloseFault::Seats);
     }
     let chair = gather(&board, seats);
-    Ok(Book::new(number, clear(board, chair)))
+    Ok(Book::new(number, clear_board(board, chair)))
 }
 
 /// Whether these are all seats of an account, in the order of their numbers.
@@ -102,23 +100,5 @@ fn take_in_all(board: &Board, chair: &mut Chair, seats: Vec<TurnSeat>)
     for seat in seats {
         let TurnSeat { chair: next, .. } = seat;
         take_in(board, chair, next);
-    }
-}
-
-/// The account that a board has in its slot once all seats but the last have ended.
-fn clear(board: Board, chair: Chair) -> Account
-    requires at { IsAt board.shared.table_id chair.table_id }
-    requires slots { board.shared.table_id.slots ≡ 1 }
-    requires idle { chair.me.0.stage ≡ Idles }
-    requires number { chair.me.0.number ≡ length chair.me.0.ended }
-    requires last { length chair.me.0.ended + 1 ≡ board.shared.key.seats }
-    ensures { IsClosedAs board.shared.key (chair.me.0.ended ++ chair.me.0.seen ∷ []) result }
-{
-    let mut closed = board.close_with(chair);
-    let account = closed.take(SLOT);
-    closed.free();
-    match account {
-        Some(account) => account,
-        None => unreachable!(),
     }
 }

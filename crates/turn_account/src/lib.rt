@@ -3,11 +3,10 @@
 #![tactic(auto)]
 
 mod account;
-mod board;
 mod closing;
 mod laws;
-mod turn;
+mod seat;
 
 pub use account::TurnAccount;
-pub use board::TurnSeat;
 pub use laws::calls_of_one_seat_are_alone;
+pub use seat::TurnSeat;

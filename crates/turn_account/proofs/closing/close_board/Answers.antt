@@ -2,12 +2,12 @@ use Rattle.std.proofs.Common.{◌≡◌, List, length, map, sym, ◌∙◌, subs
 use Rattle.std.specs.Prelude.{◌<◌, ◌==◌, All}
 use Rattle.account_core.specs.Ledger.{Ledger}
 use Rattle.shared_account.specs.Closed.{Closed, IsBookOf}
-use Rattle.turn_account.specs.Ended.{HaveEnded}
+use Rattle.turn_board.specs.Ended.{HaveEnded}
 use Rattle.shared_account.specs.Prefixes.{IsPrefix}
 use Rattle.shared_account.specs.Seats.{are_all, are_numbered}
 use Rattle.turn_account.specs.Seen.{IsOpenedAs}
 use Rattle.turn_account.specs.TurnViews.{TurnSeatView, own_of}
-use Rattle.turn_account.specs.Views.{unopened}
+use Rattle.turn_board.specs.Views.{unopened}
 use Rattle.turn_account.proofs.Ending.{each_closed, merged_closed}
 use Rattle.shared_account.proofs.Numbering.{first_by}
 use Rattle.turn_account.proofs.closing.close_board.Goals as goal
@@ -15,37 +15,37 @@ use Rattle.turn_account.proofs.closing.close_board.Goals as goal
 pub returns-clause-book : goal.returns-clause-book
 returns-clause-book c =
     let seats : List TurnSeatView = c.args.seats.items in
-    let account : Ledger = c.clear.result in
+    let account : Ledger = c.clear_board.result in
     let response : c.are_all.result ≡ true = grind rules in
     let whole : c.are_all.result ≡ are_all c.args.count (map (λ (s : TurnSeatView). s.number) seats) =
     subst (λ (xs : List TurnSeatView). c.are_all.result ≡ are_all c.args.count (map (λ (s : TurnSeatView). s.number) xs)) c.as_slice.ensures.value c.are_all.ensures in
     let all : are_all c.args.count (map (λ (s : TurnSeatView). s.number) seats) ≡ true = sym whole ∙ response in
     let numbered = (first_by (length (map (λ (s : TurnSeatView). s.number) seats) == c.args.count) (are_numbered 0 (map (λ (s : TurnSeatView). s.number) seats)) all).1 in
-    let have : HaveEnded account 0 (map (λ (s : TurnSeatView). s.view) seats) = subst (HaveEnded account 0) c.gather-chair.ensures.taken c.clear.ensures.each in
+    let have : HaveEnded account 0 (map (λ (s : TurnSeatView). s.view) seats) = subst (HaveEnded account 0) c.gather-chair.ensures.taken c.clear_board.ensures.each in
     let others : All (λ entry. entry.seat < length (map (λ (s : TurnSeatView). s.view) seats)) account.history =
-    subst (λ (lasts : List Ledger). All (λ entry. entry.seat < length lasts) account.history) c.gather-chair.ensures.taken c.clear.ensures.no_others in
+    subst (λ (lasts : List Ledger). All (λ entry. entry.seat < length lasts) account.history) c.gather-chair.ensures.taken c.clear_board.ensures.no_others in
     subst (IsBookOf _ (map own_of seats)) (sym c.new.ensures) (record {
       account = refl;
-      opening = c.clear.ensures.opening;
-      until = c.clear.ensures.until;
-      limit = c.clear.ensures.limit;
-      legal = c.clear.ensures.legal;
+      opening = c.clear_board.ensures.opening;
+      until = c.clear_board.ensures.until;
+      limit = c.clear_board.ensures.limit;
+      legal = c.clear_board.ensures.legal;
       merged = merged_closed account seats numbered have others (record { table = c.args.board.shared.table_id; number = 0; view = unopened });
     })
 
 pub returns-clause-seen : goal.returns-clause-seen
 returns-clause-seen c =
     let seats : List TurnSeatView = c.args.seats.items in
-    let account : Ledger = c.clear.result in
-    let have : HaveEnded account 0 (map (λ (s : TurnSeatView). s.view) seats) = subst (HaveEnded account 0) c.gather-chair.ensures.taken c.clear.ensures.each in
+    let account : Ledger = c.clear_board.result in
+    let have : HaveEnded account 0 (map (λ (s : TurnSeatView). s.view) seats) = subst (HaveEnded account 0) c.gather-chair.ensures.taken c.clear_board.ensures.each in
     subst (λ (book : Closed). All (λ (s : TurnSeatView). IsPrefix s.view.history book.history) seats) (sym c.new.ensures)
     (each_closed (λ (last : Ledger). IsPrefix last.history account.history) account (λ number last has. has.seen) 0 seats have)
 
 pub returns-clause-opened : goal.returns-clause-opened
 returns-clause-opened c =
     let seats : List TurnSeatView = c.args.seats.items in
-    let account : Ledger = c.clear.result in
-    let have : HaveEnded account 0 (map (λ (s : TurnSeatView). s.view) seats) = subst (HaveEnded account 0) c.gather-chair.ensures.taken c.clear.ensures.each in
+    let account : Ledger = c.clear_board.result in
+    let have : HaveEnded account 0 (map (λ (s : TurnSeatView). s.view) seats) = subst (HaveEnded account 0) c.gather-chair.ensures.taken c.clear_board.ensures.each in
     subst (λ (book : Closed). All (λ (s : TurnSeatView). IsOpenedAs s.view book) seats) (sym c.new.ensures)
     (each_closed (λ (last : Ledger). IsOpenedAs last (record { account = c.args.number; opening = account.opening; until = account.until; limit = account.limit; history = account.history })) account
     (λ number last has. record { opening = sym has.opening; until = sym has.until; limit = sym has.limit }) 0 seats have)

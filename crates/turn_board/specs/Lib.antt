@@ -1,0 +1,5 @@
+pub mod Boards
+pub mod Ended
+pub mod Plays
+pub mod Turns
+pub mod Views
