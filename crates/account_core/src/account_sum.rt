@@ -3,7 +3,7 @@
 use crate::CallSum;
 
 /// What a legal history of an account comes to. Amounts are in units of money.
-#[derive(Debug, Drop)]
+#[derive(Drop)]
 pub struct AccountSum {
     /// The credit that it was opened with.
     pub opening: u64,

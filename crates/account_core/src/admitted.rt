@@ -8,7 +8,7 @@ use crate::call_state::CallState;
 /// An operation that an account doesn't refuse, with what the account knows of its call.
 ///
 /// `Account::admit` makes it and `Account::enter` takes it, so that the operation is judged once.
-#[derive(Clone, Copy, Debug)]
+#[derive(Clone, Copy)]
 pub struct Admitted {
     pub(crate) op: Op,
     pub(crate) call: CallState,

@@ -9,7 +9,7 @@ ghost use Rattle.account_core.specs.Places.{needed_by, owed_to};
 use crate::{Op, Reply};
 
 /// At what stage a call is. By this alone it is owed places of a history.
-#[derive(Clone, Copy, Debug, PartialEq, Eq)]
+#[derive(Clone, Copy)]
 pub enum CallStage {
     /// It was never granted anything, and isn't over.
     Fresh,

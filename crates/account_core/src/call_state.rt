@@ -22,7 +22,7 @@ use price_core::{
 };
 
 /// What an account knows of a call.
-#[derive(Clone, Copy, Debug)]
+#[derive(Clone, Copy)]
 pub(crate) enum CallState {
     /// It was never granted anything.
     Fresh,

@@ -14,7 +14,7 @@ use crate::kept_plan::KeptPlan;
 use price_core::{Plan, TimeInfo, Times, lawful, price, read_times};
 
 /// What an account keeps of a call that was granted something, while it is open and afterwards.
-#[derive(Clone, Copy, Debug)]
+#[derive(Clone, Copy)]
 pub(crate) struct HeldCall {
     /// The plan of its first grant.
     pub plan: KeptPlan,

@@ -8,7 +8,7 @@ use price_core::Plan;
 
 /// A plan as the state of a call keeps it. Its numbers have 32 bits, so that it takes half the
 /// memory of a plan: books may have hundreds of thousands of calls.
-#[derive(Clone, Copy, Debug)]
+#[derive(Clone, Copy)]
 pub(crate) struct KeptPlan {
     fee: u32,
     before: u32,

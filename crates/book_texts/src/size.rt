@@ -7,7 +7,7 @@ pub const MAX_ROWS: u32 = 1_000_000;
 pub const MAX_LONG_ROWS: u32 = 4_294_967_293;
 
 /// How a table of books is audited.
-#[derive(Clone, Copy, Debug, PartialEq, Eq)]
+#[derive(Clone, Copy)]
 pub struct AuditAsk {
     /// How long the table may be.
     pub size: BookSize,
@@ -18,7 +18,7 @@ pub struct AuditAsk {
 }
 
 /// How long a table of books may be that is audited.
-#[derive(Clone, Copy, Debug, PartialEq, Eq)]
+#[derive(Clone, Copy)]
 pub enum BookSize {
     /// At most `MAX_ROWS` rows, 1,000,000.
     Short,

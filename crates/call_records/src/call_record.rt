@@ -5,7 +5,7 @@ use cap_values::Number;
 use price_core::Times;
 
 /// What a call has come to. Moments and times are in units of 100 ms.
-#[derive(Debug, Drop)]
+#[derive(Drop)]
 pub struct CallRecord {
     /// The call.
     pub call: u64,

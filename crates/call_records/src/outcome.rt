@@ -7,7 +7,7 @@ use crate::reports::CallReports;
 use crate::standing::Standing;
 
 /// What became of a call: the first of these that fits.
-#[derive(Clone, Copy, Debug, PartialEq, Eq)]
+#[derive(Clone, Copy)]
 pub enum Outcome {
     /// The calling number is no subscriber.
     Unknown,

@@ -17,7 +17,7 @@ use cap_values::{Cause, Event, Mode, ScfOp, SsfMsg};
 use price_core::{DAY, Route};
 
 /// The service's dialogue about one call.
-#[derive(Clone, Copy, Debug, PartialEq, Eq)]
+#[derive(Clone, Copy, PartialEq, Eq)]
 pub struct Dialogue {
     state: State,
 }

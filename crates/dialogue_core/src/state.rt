@@ -6,7 +6,7 @@ ghost use Rattle.std.specs.Option.{ForSome};
 use price_core::Plan;
 
 /// Where a dialogue is. An ask is pending in FirstAsk, Settling, MoreAsk and Returning.
-#[derive(Clone, Copy, Debug, PartialEq, Eq)]
+#[derive(Clone, Copy, PartialEq, Eq)]
 pub(crate) enum State {
     /// The first time was asked for.
     FirstAsk(Terms),
@@ -32,7 +32,7 @@ pub(crate) enum State {
 }
 
 /// What follows a return.
-#[derive(Clone, Copy, Debug, PartialEq, Eq)]
+#[derive(Clone, Copy, PartialEq, Eq)]
 pub(crate) enum Then {
     /// No operation.
     Nothing,
@@ -47,7 +47,7 @@ pub(crate) enum Then {
 }
 
 /// What a dialogue keeps of a call that has a route, from its beginning on.
-#[derive(Clone, Copy, Debug, PartialEq, Eq)]
+#[derive(Clone, Copy, PartialEq, Eq)]
 pub(crate) struct Terms {
     /// The call.
     pub call: u64,

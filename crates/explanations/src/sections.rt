@@ -8,7 +8,7 @@ use run_texts::{InputFault, read_section};
 use std::alloc::Global;
 
 /// Which section of an input a table is.
-#[derive(Clone, Copy, Debug, PartialEq, Eq)]
+#[derive(Clone, Copy, PartialEq, Eq)]
 pub enum Section {
     /// The whole input.
     Whole,

@@ -8,7 +8,7 @@ use table_core::RowFault;
 use tariff_core::TariffFault;
 
 /// A fault in a table of an input.
-#[derive(Clone, Copy, Debug)]
+#[derive(Clone, Copy)]
 pub enum Slip {
     /// In the reports of `price`.
     Reports(RowFault),

@@ -4,7 +4,7 @@ ghost use Rattle.live_answers.specs.Rows.{line_behind_log};
 
 /// What of an input was heard before: a run that was cut off begins with the lines that it has
 /// logged.
-#[derive(Clone, Copy, Debug, PartialEq, Eq)]
+#[derive(Clone, Copy)]
 pub struct Replay {
     /// How many messages were accepted before: their lines aren't counted.
     pub messages: usize,

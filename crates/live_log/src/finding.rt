@@ -7,7 +7,7 @@ ghost use Rattle.live_log.specs.Logs.{IsFound};
 use memchr::memrchr;
 
 /// What the text of a log is, by the head that it has to have.
-#[derive(Clone, Copy, Debug, PartialEq, Eq)]
+#[derive(Clone, Copy)]
 pub enum Found<'a> {
     /// It has the whole head, and behind it these whole lines. What is behind the last LF is torn.
     Lines(&'a [u8]),

@@ -5,7 +5,7 @@ use price_core::DAY;
 use std::fmt;
 
 /// How moments are printed.
-#[derive(Clone, Copy, Debug, PartialEq, Eq)]
+#[derive(Clone, Copy)]
 pub enum Clock {
     /// As the number of their units, from moment 0 on.
     Digits,

@@ -9,7 +9,7 @@ ghost use Rattle.rating.specs.declared.call.Talk.TheVariants as talks;
 use price_core::{DAY, Route, price};
 
 /// The times of a call before the tariff switch and after it, in units of 100 ms, and their price.
-#[derive(Clone, Copy, Debug, PartialEq, Eq)]
+#[derive(Clone, Copy)]
 pub struct PricedTimes {
     /// Before the switch.
     pub before: u32,

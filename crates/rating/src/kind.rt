@@ -4,7 +4,7 @@ ghost use Rattle.std.specs.Prelude.{◌≡◌};
 ghost use Rattle.rating.specs.Lines.{rate_kind_name};
 
 /// Why a row has no price. No other row is judged by it.
-#[derive(Clone, Copy, Debug, PartialEq, Eq)]
+#[derive(Clone, Copy)]
 pub enum RateKind {
     /// Another number of fields than the header has.
     Csv,

@@ -7,7 +7,7 @@ ghost use Rattle.rating.specs.Scores.{IsBoundedScore, counted, no_rows, passes};
 use crate::rated::Rated;
 
 /// What is counted of the rows that were rated, printed or not.
-#[derive(Clone, Copy, Debug, PartialEq, Eq)]
+#[derive(Clone, Copy)]
 pub struct Score {
     /// The rows, but for the header.
     pub rows: u64,

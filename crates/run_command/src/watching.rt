@@ -18,7 +18,7 @@ const PAUSE: u64 = 200;
 const ROUNDS: u32 = 64;
 
 /// How far a run is.
-#[derive(Clone, Copy, Debug)]
+#[derive(Clone, Copy)]
 pub struct Progress {
     /// The last row of the script that was taken, where the header is row 1.
     pub row: u64,
@@ -61,7 +61,7 @@ pub trait Watch {
 }
 
 /// Nobody watches.
-#[derive(Clone, Copy, Debug)]
+#[derive(Clone, Copy)]
 pub struct Unwatched;
 
 impl Watch for Unwatched {

@@ -45,7 +45,7 @@ pub struct LiveAsk {
 }
 
 /// What the service live prints behind its rows, once its input has ended.
-#[derive(Clone, Copy, Debug, PartialEq, Eq)]
+#[derive(Clone, Copy)]
 pub enum LiveOutput {
     /// Nothing.
     Nothing,

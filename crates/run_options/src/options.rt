@@ -86,7 +86,7 @@ pub struct RunAsk {
 }
 
 /// In how many parts a run is played, and by how many threads.
-#[derive(Clone, Copy, Debug, PartialEq, Eq)]
+#[derive(Clone, Copy)]
 pub struct PartsAsk {
     /// How many parts are asked for. A run has no more of them than accounts, and at least one.
     pub count: u32,
@@ -95,7 +95,7 @@ pub struct PartsAsk {
 }
 
 /// What a run prints.
-#[derive(Clone, Copy, Debug, PartialEq, Eq)]
+#[derive(Clone, Copy)]
 pub enum RunOutput {
     /// A line for each account and for each of its calls.
     Lines,

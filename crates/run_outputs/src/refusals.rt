@@ -9,7 +9,7 @@ use run_values::Answer;
 
 /// How many answers of a run say that an account refused what it was asked, by the account's fault.
 /// A count stops at `u64::MAX`.
-#[derive(Clone, Copy, Debug, PartialEq, Eq)]
+#[derive(Clone, Copy)]
 pub struct Refusals {
     /// The gate was closed.
     pub gate_closed: u64,

@@ -9,7 +9,7 @@ use std::alloc::{AllocError, Global};
 use std::fmt;
 
 /// An event of a script that had no place: the gsmSSF of its call refused it.
-#[derive(Clone, Copy, Debug, PartialEq, Eq)]
+#[derive(Clone, Copy)]
 pub struct UnplacedEvent {
     /// Its moment, 0 to `MAX_MOMENT`.
     pub at: Moment,

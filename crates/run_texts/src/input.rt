@@ -97,7 +97,7 @@ fn read_script(
 }
 
 /// The three texts of a run.
-#[derive(Clone, Copy, Debug, PartialEq, Eq)]
+#[derive(Clone, Copy)]
 pub struct Sections<'a> {
     /// The tariff table.
     pub tariff: &'a [u8],

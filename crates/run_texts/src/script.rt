@@ -132,7 +132,7 @@ fn note(calls: &mut BTreeSet<u64>, what: Happening) -> Result<(), AllocError>
 }
 
 /// What happens, and when.
-#[derive(Clone, Copy, Debug, PartialEq, Eq)]
+#[derive(Clone, Copy)]
 pub struct ScriptRow {
     /// The moment, 0 to `MAX_MOMENT`.
     pub at: Moment,
@@ -141,7 +141,7 @@ pub struct ScriptRow {
 }
 
 /// What happens in a run.
-#[derive(Clone, Copy, Debug, PartialEq, Eq)]
+#[derive(Clone, Copy)]
 pub enum Happening {
     /// A call starts.
     Start {

@@ -41,7 +41,7 @@ pub struct Post {
 }
 
 /// What a worker answers to a post.
-#[derive(Debug, PartialEq, Eq, Drop)]
+#[derive(Drop)]
 pub struct Answer {
     /// The number of the post.
     pub number: u64,

@@ -122,7 +122,7 @@ impl Book {
 }
 
 /// What an account came to. Amounts are in units of money.
-#[derive(Debug, Drop)]
+#[derive(Drop)]
 pub struct Summary {
     /// The account's number.
     pub account: u32,

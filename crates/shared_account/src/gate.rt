@@ -22,7 +22,7 @@ pub trait Gate {
 }
 
 /// A gate that never answers false.
-#[derive(Clone, Copy, Debug)]
+#[derive(Clone, Copy)]
 pub struct OpenGate;
 
 impl Gate for OpenGate {

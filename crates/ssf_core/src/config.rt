@@ -8,7 +8,7 @@ use crate::SsfFault;
 use price_core::DAY;
 
 /// What becomes of a call whose service doesn't answer in time.
-#[derive(Clone, Copy, Debug, PartialEq, Eq)]
+#[derive(Clone, Copy)]
 pub enum DefaultHandling {
     /// The call goes on without the service.
     Proceed,
@@ -17,7 +17,7 @@ pub enum DefaultHandling {
 }
 
 /// The timers that a gsmSSF is set up with, and its default handling.
-#[derive(Clone, Copy, Debug, PartialEq, Eq)]
+#[derive(Clone, Copy)]
 pub struct SsfConfig {
     /// How long instructions are waited for: 1 to `DAY`, in units of 100 ms.
     pub tssf: u32,

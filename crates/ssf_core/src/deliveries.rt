@@ -12,7 +12,7 @@ use std::alloc::AllocError;
 use std::collections::VecDeque;
 
 /// An operation on its way.
-#[derive(Clone, Copy, Debug, PartialEq, Eq)]
+#[derive(Clone, Copy)]
 pub struct Delivery {
     /// When it is delivered.
     pub at: Moment,

@@ -38,7 +38,7 @@ impl Default for Out {
 }
 
 /// What a call of the gsmSSF gives.
-#[derive(Debug, Drop)]
+#[derive(Drop)]
 pub struct Step {
     /// What was sent, in order.
     pub sent: ArrayVec<Out, 8>,
@@ -47,7 +47,7 @@ pub struct Step {
 }
 
 /// An event of the call after it was triggered.
-#[derive(Clone, Copy, Debug, PartialEq, Eq)]
+#[derive(Clone, Copy, Debug)]
 pub enum BcsmEvent {
     /// No route to the called number was found.
     RouteSelectFailure,

@@ -3,7 +3,7 @@
 use price_core::Route;
 
 /// The route of a call to a number, and the row of the tariff that it comes from.
-#[derive(Clone, Copy, Debug)]
+#[derive(Clone, Copy)]
 pub struct Quote<'a> {
     /// The prefix that counts, the first digits of the called number.
     pub prefix: &'a [u8],
