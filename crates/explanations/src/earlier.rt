@@ -2,7 +2,7 @@
 
 use crate::Slip;
 use crate::found_rows::{Sought, field_at, find_above, is_word_at, rows_at, shown_at};
-use crate::reasons::Faulty;
+use crate::reasons::{Faulty, push_fields};
 use crate::row_line::Shown;
 use csv::ByteRecord;
 use std::alloc::{AllocError, Global};
@@ -36,24 +36,21 @@ fn push_moments(
     writeln!(text, "moment {moment} lies below {earlier} in row {number}")
 }
 
-/// Adds which times may not follow those of the row above them.
+/// Adds which times, the fields of a row, may not follow those of the row above it.
 fn push_times(
     text: &mut String,
     row: &ByteRecord,
     above: &ByteRecord,
     number: u32,
 ) -> Result<(), AllocError> {
-    let before = shown_at(row, 0);
-    let after = shown_at(row, 1);
+    text.push_str("times ")?;
+    push_fields(text, row)?;
     if number < 2 {
-        return writeln!(text, "times {before},{after} may not come first");
+        return text.push_str(" may not come first\n");
     }
-    let earlier = shown_at(above, 0);
-    let later = shown_at(above, 1);
-    writeln!(
-        text,
-        "times {before},{after} may not follow {earlier},{later} in row {number}"
-    )
+    text.push_str(" may not follow ")?;
+    push_fields(text, above)?;
+    writeln!(text, " in row {number}")
 }
 
 /// Adds what a row names, and the row above that names it already.

@@ -163,7 +163,7 @@ fn push_csv(text: &mut String, names: &ByteRecord, row: &ByteRecord) -> Result<(
 }
 
 /// Adds the fields of a row, with commas between them.
-fn push_fields(text: &mut String, row: &ByteRecord) -> Result<(), AllocError> {
+pub(crate) fn push_fields(text: &mut String, row: &ByteRecord) -> Result<(), AllocError> {
     let mut comma = "";
     for place in 0..row.len() {
         let field = shown_at(row, place);
