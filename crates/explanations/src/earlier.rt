@@ -65,16 +65,15 @@ pub(crate) fn push_repeated(
         Slip::Setup(_) => (0, 1, field_at(row, 0)),
         _ => (2, 0, "account".as_bytes()),
     };
-    let sought = Sought::Named {
-        word: (word, field_at(row, word)),
-        key: (key, field_at(row, key)),
-    };
-    let Some(number) = find_above(alloc, table.text, table.row, sought)? else {
-        return Ok(());
-    };
-    let name = Shown(name);
-    let key = shown_at(row, key);
-    writeln!(text, "{name} {key} is in row {number} already")
+    let sought = Sought::Named { row, word, key };
+    match find_above(alloc, table.text, table.row, sought)? {
+        Some(number) => {
+            let name = Shown(name);
+            let key = shown_at(row, key);
+            writeln!(text, "{name} {key} is in row {number} already")
+        }
+        None => Ok(()),
+    }
 }
 
 /// Adds what a row names that no earlier row does.

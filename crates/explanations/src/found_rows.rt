@@ -45,12 +45,14 @@ pub(crate) fn shown_at(row: &ByteRecord, place: usize) -> Shown<'_> {
 /// What is looked for in the rows above a row.
 #[derive(Clone, Copy)]
 pub(crate) enum Sought<'a> {
-    /// A row that has a word in a column, and a text or a number in another.
+    /// A row that names what this one does.
     Named {
-        /// A column, and the word that is in it.
-        word: (usize, &'a [u8]),
-        /// A column, and the text or the number that is in it.
-        key: (usize, &'a [u8]),
+        /// The row.
+        row: &'a ByteRecord,
+        /// The column in which both have a word.
+        word: usize,
+        /// The column in which both have a text or a number.
+        key: usize,
     },
     /// A row that has the prefix and the start of this one, and a day in common with it.
     Band(&'a ByteRecord),
@@ -81,8 +83,13 @@ pub(crate) fn find_above(
 /// Whether a row has what is looked for.
 fn has(row: &ByteRecord, sought: Sought<'_>) -> bool {
     match sought {
-        Sought::Named { word, key } => {
-            field_at(row, word.0) == word.1 && are_same(field_at(row, key.0), key.1)
+        Sought::Named {
+            row: named,
+            word,
+            key,
+        } => {
+            field_at(row, word) == field_at(named, word)
+                && are_same(field_at(row, key), field_at(named, key))
         }
         Sought::Band(band) => is_repeated(row, band),
     }
