@@ -1,7 +1,7 @@
 //! Fields that must be empty and aren't.
 
 use crate::Slip;
-use crate::found_rows::{field_at, is_word_at, shown_at};
+use crate::found_rows::{field_at, is_word_at, push_column};
 use crate::row_line::Shown;
 use csv::ByteRecord;
 use std::alloc::AllocError;
@@ -16,10 +16,9 @@ pub(crate) fn push_not_empty(
 ) -> Result<(), AllocError> {
     for place in 0..row.len() {
         if !field_at(row, place).is_empty() && takes_nothing(slip, row, place) {
-            let column = shown_at(names, place);
-            let field = shown_at(row, place);
+            push_column(text, names, row, place)?;
             let word = Shown(word_for(slip, row, place));
-            return writeln!(text, "column {column}: {field}, where {word} takes nothing");
+            return writeln!(text, ", where {word} takes nothing");
         }
     }
     Ok(())

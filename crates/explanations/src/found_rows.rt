@@ -42,6 +42,18 @@ pub(crate) fn shown_at(row: &ByteRecord, place: usize) -> Shown<'_> {
     Shown(field_at(row, place))
 }
 
+/// Adds the name of a column, and the field that a row has in it.
+pub(crate) fn push_column(
+    text: &mut String,
+    names: &ByteRecord,
+    row: &ByteRecord,
+    place: usize,
+) -> Result<(), AllocError> {
+    let column = shown_at(names, place);
+    let field = shown_at(row, place);
+    write!(text, "column {column}: {field}")
+}
+
 /// What is looked for in the rows above a row.
 #[derive(Clone, Copy)]
 pub(crate) enum Sought<'a> {

@@ -78,7 +78,7 @@ fn push_row_reason(
         RowKind::TooManyRows => push_most_rows(text, table.slip),
         RowKind::What => push_unknown_word(text, table.slip, names, row),
         RowKind::Number => match refused_in(table.slip, row) {
-            Some(column) => push_column_reason(text, names, row, column),
+            Some(column) => push_refusal(text, names, row, column),
             None => Ok(()),
         },
         RowKind::Empty => push_not_empty(text, table.slip, names, row),
@@ -105,7 +105,7 @@ fn push_tariff_reason(
         TariffKind::NoMidnightBand => push_no_midnight(text, alloc, table, row),
         TariffKind::OutOfMemory | TariffKind::Device => Ok(()),
         kind => match refused_in_tariff(kind, row) {
-            Some(column) => push_column_reason(text, names, row, column),
+            Some(column) => push_refusal(text, names, row, column),
             None => Ok(()),
         },
     }
@@ -135,21 +135,6 @@ fn refused_in_tariff(kind: TariffKind, row: &ByteRecord) -> Option<Column> {
         _ => return first_refused(row, 0, row.len(), &[(2, RATE), (3, RATE)]),
     };
     Some(column)
-}
-
-/// Adds what is wrong with the field of a column.
-fn push_column_reason(
-    text: &mut String,
-    names: &ByteRecord,
-    row: &ByteRecord,
-    column: Column,
-) -> Result<(), AllocError> {
-    push_refusal(
-        text,
-        field_at(names, column.place),
-        field_at(row, column.place),
-        column.wants,
-    )
 }
 
 /// Adds how many fields a row has, and how many its header.

@@ -2,7 +2,7 @@
 
 use crate::Slip;
 use crate::forms::SCRIPT_WORDS;
-use crate::found_rows::{field_at, is_word_at, shown_at};
+use crate::found_rows::{field_at, is_word_at, push_column};
 use csv::ByteRecord;
 use std::alloc::AllocError;
 use table_core::is_word;
@@ -82,9 +82,7 @@ fn push_word(
     place: usize,
     words: &[&str],
 ) -> Result<(), AllocError> {
-    let column = shown_at(names, place);
-    let field = shown_at(row, place);
-    write!(text, "column {column}: {field}; one of ")?;
+    push_column(text, names, row, place)?;
     push_words(text, words)?;
     match nearest(field_at(row, place), words) {
         Some(word) => writeln!(text, "\nthe nearest is {word}"),
@@ -92,12 +90,12 @@ fn push_word(
     }
 }
 
-/// Adds words, with commas between them.
+/// Adds the words that may be there: `; one of` in front of the first, commas between them.
 fn push_words(text: &mut String, words: &[&str]) -> Result<(), AllocError> {
-    let mut comma = "";
+    let mut start = "; one of ";
     for word in words {
-        write!(text, "{comma}{word}")?;
-        comma = ", ";
+        write!(text, "{start}{word}")?;
+        start = ", ";
     }
     Ok(())
 }

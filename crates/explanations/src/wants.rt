@@ -1,7 +1,6 @@
 //! What a column of a row takes.
 
-use crate::found_rows::field_at;
-use crate::row_line::Shown;
+use crate::found_rows::{field_at, push_column};
 use csv::ByteRecord;
 use moment_texts::moment;
 use std::alloc::AllocError;
@@ -76,21 +75,22 @@ fn is_within(field: &[u8], least: u64, most: u64) -> bool {
     }
 }
 
-/// Adds what is wrong with a field that isn't what its column takes.
+/// Adds what is wrong with a field of a row that isn't what its column takes.
 pub(crate) fn push_refusal(
     text: &mut String,
-    name: &[u8],
-    field: &[u8],
-    wants: Wants,
+    names: &ByteRecord,
+    row: &ByteRecord,
+    column: Column,
 ) -> Result<(), AllocError> {
-    let column = Shown(name);
-    let found = Shown(field);
-    if field.is_empty() {
-        write!(text, "column {column}: it is empty, and ")?;
+    let field = field_at(row, column.place);
+    let is = if field.is_empty() {
+        "it is empty, and "
     } else {
-        write!(text, "column {column}: {found} is ")?;
-    }
-    push_wanted(text, field, wants)?;
+        " is "
+    };
+    push_column(text, names, row, column.place)?;
+    text.push_str(is)?;
+    push_wanted(text, field, column.wants)?;
     text.push('\n')
 }
 
