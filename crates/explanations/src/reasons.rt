@@ -165,10 +165,10 @@ fn push_header(
     found: Option<&ByteRecord>,
 ) -> Result<(), AllocError> {
     let wanted = headers_of(slip);
-    let Some(row) = found else {
-        return writeln!(text, "wanted: {wanted}\nfound: no row");
-    };
     write!(text, "wanted: {wanted}\nfound: ")?;
+    let Some(row) = found else {
+        return text.push_str("no row\n");
+    };
     push_fields(text, row)?;
     if row.len() == 1 && is_separated(field_at(row, 0)) {
         text.push_str("\nthe separator is a comma\n")

@@ -102,7 +102,7 @@ fn push_wanted(text: &mut String, field: &[u8], wants: Wants) -> Result<(), Allo
         }
         Wants::Moment(most) | Wants::OptionalMoment(most) => {
             if is_decimal(field) {
-                write!(text, "above {most}")
+                push_range(text, field, 0, most)
             } else {
                 text.push_str("no moment: a decimal, or a date and a time like 1970-01-01T18:00:08")
             }
