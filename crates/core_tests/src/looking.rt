@@ -14,6 +14,18 @@ pub(crate) fn gives<I: Debug, T: Debug + PartialEq>(
     assert_eq!(rt; *found, *want, "at {input:?}");
 }
 
+/// Looks at the text that is printed for a value.
+pub(crate) fn prints<I: Debug, T: Display>(
+    rt: &impl Abort,
+    alloc: Global,
+    input: &I,
+    printed: &T,
+    want: &str,
+) {
+    let text = printed.to_string(alloc).expect(rt, "memory");
+    gives(rt, input, &text.as_str(), &want);
+}
+
 /// Looks at the number of a fault, and at the text that is printed for it.
 pub(crate) fn reads<I: Debug, T: Display>(
     rt: &impl Abort,

@@ -341,6 +341,25 @@ fn is_wanted(
     }
 }
 
+/// Hands a dialogue an input at a moment.
+fn handed(
+    rt: &impl Abort,
+    dialogue: &mut Dialogue,
+    at: u64,
+    input: &Input,
+) -> Result<Turn, DialogueFault> {
+    match *input {
+        Input::Initial => dialogue.take(7, at, initial(rt)),
+        Input::Report(active) => dialogue.take(7, at, report(active)),
+        Input::Event(event, leg, mode) => {
+            dialogue.take(7, at, SsfMsg::EventReport { event, leg, mode })
+        }
+        Input::Ended => dialogue.take(7, at, SsfMsg::Ended),
+        Input::Answer(reply) => dialogue.answer(reply),
+        Input::Refusal => dialogue.refused(AccountFault::OutOfMemory),
+    }
+}
+
 /// Hands a dialogue one input after the other, each at a later moment, and looks at each turn.
 fn plays(rt: &impl Abort, name: &str, rows: &[(Input, Want)]) {
     let (mut dialogue, first) = Dialogue::begin(1, 0, Some(ROUTE), &CONFIG);
@@ -349,19 +368,10 @@ fn plays(rt: &impl Abort, name: &str, rows: &[(Input, Want)]) {
     for (row, (input, want)) in rows.iter().enumerate() {
         let before = dialogue;
         let at = (row as u64).saturating_add(1);
-        let turn = match *input {
-            Input::Initial => dialogue.take(7, at, initial(rt)),
-            Input::Report(active) => {
-                reported = at;
-                dialogue.take(7, at, report(active))
-            }
-            Input::Event(event, leg, mode) => {
-                dialogue.take(7, at, SsfMsg::EventReport { event, leg, mode })
-            }
-            Input::Ended => dialogue.take(7, at, SsfMsg::Ended),
-            Input::Answer(reply) => dialogue.answer(reply),
-            Input::Refusal => dialogue.refused(AccountFault::OutOfMemory),
-        };
+        if let Input::Report(_) = input {
+            reported = at;
+        }
+        let turn = handed(rt, &mut dialogue, at, input);
         let wanted = is_wanted(rt, &turn, want, reported);
         let kept = turn.is_ok() || dialogue == before;
         gives(rt, &(name, row, &turn), &(wanted, kept), &(true, true));

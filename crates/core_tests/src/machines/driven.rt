@@ -234,13 +234,23 @@ fn calls_are_paid_or_not_driven(rt: HostRuntime) {
     }
 }
 
+/// Drives a call over a port with a habit, and looks at how it ends and what is left.
+fn drives_by_habit<R: Abort + AllocGlobal>(
+    rt: &R,
+    habit: Habit,
+    script: Script,
+    want: &(Result<CallEnd, DriveFault>, Left),
+) {
+    let port = AccountPort::new(Account::new(rt.alloc(), 1500, None, 1000), 0);
+    let mut till = Till { port, habit };
+    let met = driven(rt, &mut till, 2, script);
+    let found = (met, left(&till.port.account));
+    gives(rt, &script, &found, want);
+}
+
 #[test]
 fn a_port_refuses_or_forfeits(rt: HostRuntime) {
     for &(habit, script, end, account) in &HABITS {
-        let port = AccountPort::new(Account::new(rt.alloc(), 1500, None, 1000), 0);
-        let mut till = Till { port, habit };
-        let met = driven(&rt, &mut till, 2, script);
-        let found = (met, left(&till.port.account));
-        gives(&rt, &script, &found, &(end_of(end), account));
+        drives_by_habit(&rt, habit, script, &(end_of(end), account));
     }
 }

@@ -43,13 +43,21 @@ const DRIVE_FAULTS: [(DriveFault, u8, &str); 3] = [
 ];
 
 #[test]
-fn faults_have_texts_and_numbers(rt: HostRuntime) {
+fn account_faults_have_texts_and_numbers(rt: HostRuntime) {
     for &(fault, number, want) in &ACCOUNT_FAULTS {
         reads(&rt, rt.alloc(), &fault, &fault, fault as u8, (number, want));
     }
+}
+
+#[test]
+fn ssf_faults_have_texts_and_numbers(rt: HostRuntime) {
     for &(fault, number, want) in &SSF_FAULTS {
         reads(&rt, rt.alloc(), &fault, &fault, fault as u8, (number, want));
     }
+}
+
+#[test]
+fn dialogue_faults_have_texts_and_numbers(rt: HostRuntime) {
     for &(fault, number, want) in &DIALOGUE_FAULTS {
         reads(
             &rt,
@@ -60,6 +68,10 @@ fn faults_have_texts_and_numbers(rt: HostRuntime) {
             (number, want),
         );
     }
+}
+
+#[test]
+fn drive_faults_have_texts_and_numbers(rt: HostRuntime) {
     for &(fault, number, want) in &DRIVE_FAULTS {
         reads(&rt, rt.alloc(), &fault, &fault, fault as u8, (number, want));
     }

@@ -159,23 +159,28 @@ fn checks_entries_in_their_places(rt: HostRuntime) {
     checks(&rt, alloc, &EXPIRED_LATER, &[(Some(1000), false)]);
 }
 
+/// Asks an account for a whole call that talks for 600 units, and for the money that it costs.
+fn pays_for_a_call(rt: &impl Abort, account: &mut Account, call: u64) {
+    let ops = [
+        credit(1050, None),
+        reserve(call, CHEAPER, 600),
+        Op::Settle {
+            call,
+            number: 7,
+            info: TimeInfo::NoSwitch { t: 600 },
+        },
+        Op::Return { call },
+    ];
+    for &op in &ops {
+        gives(rt, &op, &account.apply(0, op).is_ok(), &true);
+    }
+}
+
 #[test]
 fn runs_five_thousand_calls(rt: HostRuntime) {
     let mut account = Account::new(rt.alloc(), 0, None, 20_000);
     for call in 1..=5000 {
-        let ops = [
-            credit(1050, None),
-            reserve(call, CHEAPER, 600),
-            Op::Settle {
-                call,
-                number: 7,
-                info: TimeInfo::NoSwitch { t: 600 },
-            },
-            Op::Return { call },
-        ];
-        for &op in &ops {
-            gives(&rt, &op, &account.apply(0, op).is_ok(), &true);
-        }
+        pays_for_a_call(&rt, &mut account, call);
     }
     assert!(rt; account.history().len() == 20_000 && account.available() == 0);
     for call in 1..=5000 {

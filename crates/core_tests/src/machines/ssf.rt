@@ -7,7 +7,7 @@ use super::ssf_rows::{CALLS, Input, Row, Sent, Start};
 use crate::looking::gives;
 use cap_values::{Cause, Event, Mode, ScfOp, SsfMsg};
 use price_core::HORIZON;
-use ssf_core::{BcsmEvent, DefaultHandling, Item, Moment, Out, Ssf, SsfConfig, State};
+use ssf_core::{BcsmEvent, DefaultHandling, Item, Moment, Out, Ssf, SsfConfig, State, Step};
 use std::process::Abort;
 
 /// The last moment that a gsmSSF takes.
@@ -93,18 +93,32 @@ fn started(rt: &impl Abort, start: &Start) -> Ssf {
     }
 }
 
+/// Hands a gsmSSF an input at a moment.
+fn handed(rt: &impl Abort, ssf: &mut Ssf, now: Moment, input: &Input) -> Step
+    requires { now ≤ HORIZON }
+{
+    match *input {
+        Input::Charge(period) => ssf.operation(now, charge(rt, period, None, false)),
+        Input::Continue => ssf.operation(now, ScfOp::Continue),
+        Input::Reject => ssf.operation(now, ScfOp::ReleaseCall(Cause::call_rejected())),
+        Input::Event(event) => ssf.event(now, event),
+        Input::Advance => ssf.advance(now),
+    }
+}
+
+/// Looks at what was sent, in order, each item with its moment.
+fn sends(rt: &impl Abort, place: &(&str, Moment), sent: &[Out], want: &[(Moment, Sent)]) {
+    for (out, (at, sent)) in sent.iter().zip(want) {
+        gives(rt, place, &(out.at, out.item), &(*at, item_of(sent)));
+    }
+}
+
 /// Hands a gsmSSF one input after the other, and looks at each step.
 fn runs(rt: &impl Abort, name: &str, ssf: &mut Ssf, rows: &[Row]) {
     for (now, input, fault, sent, state, due) in rows {
         let now = *now;
         assert!(rt; now <= LATEST);
-        let step = match *input {
-            Input::Charge(period) => ssf.operation(now, charge(rt, period, None, false)),
-            Input::Continue => ssf.operation(now, ScfOp::Continue),
-            Input::Reject => ssf.operation(now, ScfOp::ReleaseCall(Cause::call_rejected())),
-            Input::Event(event) => ssf.event(now, event),
-            Input::Advance => ssf.advance(now),
-        };
+        let step = handed(rt, ssf, now, input);
         let found = (step.fault, step.sent.len(), ssf.state(), ssf.next_due());
         gives(
             rt,
@@ -112,9 +126,7 @@ fn runs(rt: &impl Abort, name: &str, ssf: &mut Ssf, rows: &[Row]) {
             &found,
             &(*fault, sent.len(), *state, *due),
         );
-        for (out, (at, sent)) in step.sent.iter().zip(*sent) {
-            gives(rt, &(name, now), &(out.at, out.item), &(*at, item_of(sent)));
-        }
+        sends(rt, &(name, now), step.sent.as_slice(), sent);
     }
 }
 

@@ -195,25 +195,37 @@ fn grants_more_later<S: Shared, R: Abort + Threads + Wait + Sync>(
     Ok(())
 }
 
-/// A call that is held inside an account keeps none from another account.
-fn holds_one_alone<S: Shared, R: Abort + Threads + Wait + Sync>(
+/// Asks accounts 1 and 2, which opened with 1500, from a seat each at the same time, and gives the
+/// answers.
+fn ask_two_accounts<S: Shared, R: Abort + Threads + Wait + Sync, G: Gate + Sync>(
     rt: &R,
     alloc: Global,
-) -> Result<(), Fail> {
+    ops: (Ops, Ops),
+    gate: &G,
+) -> Result<(Answers, Answers), Fail> {
     let (account, first, _) = two_seats::<S, R>(rt, alloc, 1, 1500, None)?;
     let (other_account, second, _) = two_seats::<S, R>(rt, alloc, 2, 1500, None)?;
-    let ops = (
-        (op_of(Ask::Reserve(1, 0)), None),
-        (op_of(Ask::Reserve(2, 0)), None),
-    );
-    let gate = Holds::new(0, 1, 2);
     let ((_, one), (_, other)) = ask_both(
         rt,
         (&account, &other_account),
         (first, second),
         ops,
-        &gate,
+        gate,
     );
+    Ok((one, other))
+}
+
+/// A call that is held inside an account keeps none from another account.
+fn holds_one_alone<S: Shared, R: Abort + Threads + Wait + Sync>(
+    rt: &R,
+    alloc: Global,
+) -> Result<(), Fail> {
+    let ops = (
+        (op_of(Ask::Reserve(1, 0)), None),
+        (op_of(Ask::Reserve(2, 0)), None),
+    );
+    let gate = Holds::new(0, 1, 2);
+    let (one, other) = ask_two_accounts::<S, R, _>(rt, alloc, ops, &gate)?;
     let granted = (answer_of(Want::Granted(600, false, 450)), None);
     gives(rt, &"one alone", &one, &granted);
     gives(rt, &"one alone", &other, &granted);

@@ -180,6 +180,11 @@ fn codes_stand_for_values(rt: HostRuntime) {
         );
         gives(&rt, &want, &codes, &(code, code, code));
     }
+    assert!(rt; ScfOp::default() == ScfOp::Continue);
+}
+
+#[test]
+fn causes_have_their_values(rt: HostRuntime) {
     let causes = [
         (Cause::unallocated_number(), 1),
         (Cause::normal_call_clearing(), 16),
@@ -189,20 +194,27 @@ fn codes_stand_for_values(rt: HostRuntime) {
     for &(cause, value) in &causes {
         gives(&rt, &value, &Cause::new(value), &Ok(cause));
     }
-    assert!(rt; ScfOp::default() == ScfOp::Continue);
 }
 
 #[test]
-fn values_keep_their_ranges(rt: HostRuntime) {
+fn causes_keep_their_range(rt: HostRuntime) {
     for &(value, fault) in &CAUSES {
         let made = value_of(Cause::new(value));
         gives(&rt, &value, &made, &or_fault(value, fault));
     }
+}
+
+#[test]
+fn charges_keep_their_ranges(rt: HostRuntime) {
     for &(fields, fault) in &CHARGES {
         let (period, switch, release) = fields;
         let made = fields_of(Charge::new(period, switch, release));
         gives(&rt, &fields, &made, &or_fault(fields, fault));
     }
+}
+
+#[test]
+fn numbers_have_digits_alone(rt: HostRuntime) {
     for &(text, fault) in &NUMBERS {
         let number = Number::new(text);
         gives(&rt, &text, &number.err(), &fault);

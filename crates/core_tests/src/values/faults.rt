@@ -1,6 +1,6 @@
 //! The texts and the numbers of faults.
 
-use crate::looking::{gives, reads};
+use crate::looking::{prints, reads};
 use cap_values::ValueFault;
 use price_core::{PlanRange, TimeRange};
 use std::alloc::Global;
@@ -54,21 +54,28 @@ const TABLE_FAULTS: [(TableFault, &str); 3] = [
 
 /// Looks at the text of a fault that has no number.
 fn reads_text<T: Debug + Display>(rt: &impl Abort, alloc: Global, fault: &T, want: &str) {
-    let text = fault.to_string(alloc).expect(rt, "memory");
-    gives(rt, fault, &text.as_str(), &want);
+    prints(rt, alloc, fault, fault, want);
 }
 
 #[test]
-fn faults_have_texts_and_numbers(rt: HostRuntime) {
+fn faults_without_a_number_have_texts(rt: HostRuntime) {
     for &(fault, want) in &TABLE_FAULTS {
         reads_text(&rt, rt.alloc(), &fault, want);
     }
+    reads_text(&rt, rt.alloc(), &PlanRange, PLAN_RANGE);
+    reads_text(&rt, rt.alloc(), &TimeRange, TIME_RANGE);
+}
+
+#[test]
+fn tariff_faults_have_texts_and_numbers(rt: HostRuntime) {
     for &(kind, code, want) in &KINDS {
         let fault = TariffFault { row: 7, kind };
         reads(&rt, rt.alloc(), &kind, &fault, kind.code(), (code, want));
     }
-    reads_text(&rt, rt.alloc(), &PlanRange, PLAN_RANGE);
-    reads_text(&rt, rt.alloc(), &TimeRange, TIME_RANGE);
+}
+
+#[test]
+fn value_faults_have_texts_and_numbers(rt: HostRuntime) {
     for &(fault, number, want) in &VALUE_FAULTS {
         reads(&rt, rt.alloc(), &fault, &fault, fault as u8, (number, want));
     }

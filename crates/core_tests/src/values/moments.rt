@@ -1,6 +1,6 @@
 //! Moments as people write them.
 
-use crate::looking::gives;
+use crate::looking::{gives, prints};
 use moment_texts::{Clock, MomentField, TimeOfDay, moment, printed_moments_are_read};
 use price_core::{HORIZON, MAX_MOMENT};
 use std::test::Fail;
@@ -85,17 +85,15 @@ const PRINTED: [(u64, &str); 12] = [
 
 #[test]
 fn prints_moments(rt: HostRuntime) -> Result<(), Fail> {
+    let alloc = rt.alloc();
     for &(at, want) in &PRINTED {
-        let dates = MomentField(Clock::Dates, Some(at)).to_string(rt.alloc())?;
-        gives(&rt, &at, &dates.as_str(), &want);
-        let digits = MomentField(Clock::Digits, Some(at)).to_string(rt.alloc())?;
-        let number = at.to_string(rt.alloc())?;
-        gives(&rt, &at, &digits.as_str(), &number.as_str());
+        prints(&rt, alloc, &at, &MomentField(Clock::Dates, Some(at)), want);
+        let digits = at.to_string(alloc)?;
+        let number = MomentField(Clock::Digits, Some(at));
+        prints(&rt, alloc, &at, &number, digits.as_str());
     }
-    let none = MomentField(Clock::Dates, None).to_string(rt.alloc())?;
-    gives(&rt, &(), &none.as_str(), &"");
-    let time = TimeOfDay(288_599).to_string(rt.alloc())?;
-    gives(&rt, &288_599, &time.as_str(), &"08:00");
+    prints(&rt, alloc, &(), &MomentField(Clock::Dates, None), "");
+    prints(&rt, alloc, &288_599, &TimeOfDay(288_599), "08:00");
     printed_moments_are_read();
     Ok(())
 }

@@ -45,6 +45,10 @@ fn plans_keep_their_ranges(rt: HostRuntime) {
         let made = rates_of(Plan::new(fee, before, after).ok());
         gives(&rt, &rates, &made, &fits.then_some(rates));
     }
+}
+
+#[test]
+fn plans_have_free_units(rt: HostRuntime) {
     for &(free, fits) in &FREE_UNITS {
         let made = CHEAPER.with_free(free).ok();
         let units = made.map(|plan| plan.free);
@@ -56,6 +60,10 @@ fn plans_keep_their_ranges(rt: HostRuntime) {
             &fits.then_some((50, 1000, Some(400))),
         );
     }
+}
+
+#[test]
+fn plans_have_steps(rt: HostRuntime) {
     for &(first, step, fits) in &STEPS {
         let made = FREE.with_steps(first, step).ok();
         let steps = made.map(|plan| (plan.free, plan.first, plan.step));

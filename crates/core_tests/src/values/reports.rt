@@ -96,13 +96,17 @@ fn split_of(times: Option<Times>) -> Option<Split> {
 }
 
 #[test]
-fn times_and_reports_keep_their_ranges(rt: HostRuntime) {
+fn times_keep_their_ranges(rt: HostRuntime) {
     for &(split, fits) in &TIMES {
         let (before, after, switched) = split;
         let made = split_of(Times::new(before, after, switched));
         gives(&rt, &split, &made, &fits.then_some(split));
     }
     assert!(rt; Times::new(0, 0, false) == Some(Times::ZERO));
+}
+
+#[test]
+fn reports_keep_their_ranges(rt: HostRuntime) {
     for &(t, fits) in &UNSWITCHED {
         let want = fits.then_some(TimeInfo::NoSwitch { t });
         gives(&rt, &t, &TimeInfo::no_switch(t).ok(), &want);

@@ -267,6 +267,10 @@ fn routes_by_prefix_and_time(rt: HostRuntime) {
     routes(&rt, TABLE, &ROUTES);
     routes(&rt, WITH_FREE, &ROUTES_WITH_FREE);
     routes(&rt, EMPTY_PREFIX, &EMPTY_PREFIX_ROUTES);
+}
+
+#[test]
+fn routes_have_the_steps_of_their_tariff(rt: HostRuntime) {
     let tariff = Tariff::read(rt.alloc(), WITH_STEPS).expect(&rt, "a tariff");
     for &(called, now, want) in &ROUTES_WITH_STEPS {
         assert!(rt; now <= LATEST);
