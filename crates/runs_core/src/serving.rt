@@ -153,8 +153,8 @@ fn run_workers<D: Driver, S: Shared, R: Wait + Threads + Sync, G: Gate + Sync>(
 
 /// Starts the workers but for the first in a scope, plays the rounds, and waits for the workers.
 /// The fault is that of the failed worker with the least number, else the run's own.
-fn run_in<'s, E, D: Driver, S: Shared, R: Wait + Threads + Sync, G: Gate + Sync>(
-    scope: &Scope<'s, E>,
+fn run_in<'s, 'e, D: Driver, S: Shared, R: Wait + Threads + Sync, G: Gate + Sync>(
+    scope: &Scope<'s, &'e ()>,
     rt: &'s R,
     alloc: Global,
     setup: &'s RunSetup,
@@ -216,8 +216,8 @@ fn first_fault(
 }
 
 /// Starts the workers but for the first, and plays the rounds.
-fn start_and_play<'s, E, D: Driver, S: Shared, R: Wait + Sync, G: Gate + Sync>(
-    scope: &Scope<'s, E>,
+fn start_and_play<'s, 'e, D: Driver, S: Shared, R: Wait + Sync, G: Gate + Sync>(
+    scope: &Scope<'s, &'e ()>,
     rt: &'s R,
     alloc: Global,
     setup: &'s RunSetup,

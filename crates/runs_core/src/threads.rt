@@ -18,8 +18,8 @@ use std::vec::IntoIter;
 
 /// Starts a worker for each team, in order from number 1 on, and puts down its link. After a fault
 /// the links are those of the workers that were started.
-pub(crate) fn start_all<'s, E, S: Shared, R: Wait + Sync, G: Gate + Sync>(
-    scope: &Scope<'s, E>,
+pub(crate) fn start_all<'s, 'e, S: Shared, R: Wait + Sync, G: Gate + Sync>(
+    scope: &Scope<'s, &'e ()>,
     rt: &'s R,
     alloc: Global,
     setup: &'s RunSetup,

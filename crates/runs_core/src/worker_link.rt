@@ -41,8 +41,8 @@ pub(crate) struct WorkerLink<'s, S: Shared, G: Gate> {
 }
 
 /// Starts a worker in a thread of its own.
-pub(crate) fn start<'s, E, S: Shared, R: Wait + Sync, G: Gate + Sync>(
-    scope: &Scope<'s, E>,
+pub(crate) fn start<'s, 'e, S: Shared, R: Wait + Sync, G: Gate + Sync>(
+    scope: &Scope<'s, &'e ()>,
     rt: &'s R,
     alloc: Global,
     number: u32,
