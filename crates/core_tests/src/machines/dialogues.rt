@@ -4,6 +4,7 @@ use super::making::{arms, charge, number};
 use crate::looking::gives;
 use crate::plans::CHEAPER;
 use account_core::{AccountFault, Op, Reply};
+use arrayvec::ArrayVec;
 use cap_values::{Cause, Event, Leg, Mode, ScfOp, SsfMsg};
 use dialogue_core::{
     Dialogue, DialogueFault, ServiceConfig, Turn, honest_replies_are_expected,
@@ -308,37 +309,35 @@ fn report(active: bool) -> SsfMsg {
     }
 }
 
-/// Whether a turn is the one that is wanted, where the last report was of this moment.
-fn is_wanted(
-    rt: &impl Abort,
-    turn: &Result<Turn, DialogueFault>,
-    want: &Want,
-    reported: u64,
-) -> bool {
-    match (turn, want) {
-        (Ok(Turn::Ask(asked)), Want::Reserve) => *asked == reserve(reported),
-        (Ok(Turn::Ask(asked)), Want::Settle) => *asked == SETTLE,
-        (Ok(Turn::Ask(asked)), Want::Return) => *asked == Op::Return { call: 1 },
-        (Ok(Turn::Send(sent)), Want::Nothing) => sent.is_empty(),
-        (Ok(Turn::Send(sent)), Want::Continue) => {
-            sent.as_slice() == [ScfOp::Continue].as_slice()
-        }
-        (Ok(Turn::Send(sent)), Want::Release(cause)) => {
-            let cause = Cause::new(*cause).expect(rt, "a cause");
-            sent.as_slice() == [ScfOp::ReleaseCall(cause)].as_slice()
-        }
-        (Ok(Turn::Send(sent)), Want::Charge(period)) => {
-            sent.as_slice() == [charge(rt, *period, None, true)].as_slice()
-        }
-        (Ok(Turn::Send(sent)), Want::Start(period, last)) => {
+/// The turn that sends these operations.
+fn sends(rt: &impl Abort, operations: &[ScfOp]) -> Turn {
+    let mut sent = ArrayVec::new();
+    sent.try_extend_from_slice(operations).expect(rt, "room");
+    Turn::Send(sent)
+}
+
+/// The turn that is wanted, where the last report was of this moment.
+fn wanted(rt: &impl Abort, want: &Want, reported: u64) -> Result<Turn, DialogueFault> {
+    Ok(match *want {
+        Want::Reserve => Turn::Ask(reserve(reported)),
+        Want::Settle => Turn::Ask(SETTLE),
+        Want::Return => Turn::Ask(Op::Return { call: 1 }),
+        Want::Nothing => sends(rt, &[]),
+        Want::Continue => sends(rt, &[ScfOp::Continue]),
+        Want::Release(cause) => sends(rt, &[release(rt, cause)]),
+        Want::Charge(period) => sends(rt, &[charge(rt, period, None, true)]),
+        Want::Start(period, last) => {
             let watch = arms(rt, Mode::NotifyAndContinue);
-            let charge = charge(rt, *period, Some(60), *last);
-            sent.as_slice() == [watch, charge, ScfOp::Continue].as_slice()
+            let charge = charge(rt, period, Some(60), last);
+            sends(rt, &[watch, charge, ScfOp::Continue])
         }
-        (Ok(Turn::Done), Want::Done) => true,
-        (Err(met), Want::Fault(fault)) => met == fault,
-        _ => false,
-    }
+        Want::Done => Turn::Done,
+        Want::Fault(fault) => return Err(fault),
+    })
+}
+
+fn release(rt: &impl Abort, cause: u8) -> ScfOp {
+    ScfOp::ReleaseCall(Cause::new(cause).expect(rt, "a cause"))
 }
 
 /// Hands a dialogue an input at a moment.
@@ -372,9 +371,9 @@ fn plays(rt: &impl Abort, name: &str, rows: &[(Input, Want)]) {
             reported = at;
         }
         let turn = handed(rt, &mut dialogue, at, input);
-        let wanted = is_wanted(rt, &turn, want, reported);
         let kept = turn.is_ok() || dialogue == before;
-        gives(rt, &(name, row, &turn), &(wanted, kept), &(true, true));
+        let wanted = wanted(rt, want, reported);
+        gives(rt, &(name, row), &(turn, kept), &(wanted, true));
     }
 }
 
@@ -387,8 +386,6 @@ fn dialogues_play_every_row(rt: HostRuntime) {
         plays(&rt, name, rows);
     }
     let (_, turn) = Dialogue::begin(1, 0, None, &CONFIG);
-    assert!(rt;
-        is_wanted(&rt, &Ok(turn), &Want::Release(UNALLOCATED_NUMBER), 0),
-        "with no route"
-    );
+    let released = sends(&rt, &[release(&rt, UNALLOCATED_NUMBER)]);
+    gives(&rt, &"with no route", &turn, &released);
 }

@@ -43,6 +43,10 @@ fn a_tariff_names_the_row(rt: HostRuntime) {
         let kind = TariffKind::Device;
         gives(&rt, &length, &fault, &Some(TariffFault { row, kind }));
     }
+}
+
+#[test]
+fn a_refused_tariff_names_the_first_row(rt: HostRuntime) {
     for &(text, row, kind) in &REFUSED {
         let bytes = text.as_bytes();
         let fault = fault_of(rt.alloc(), Failing { bytes });
