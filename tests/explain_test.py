@@ -325,14 +325,18 @@ TAKEN = "\r\x1b[K"
 # What is said of a long run: the call that no subscriber makes, and the events that had no place, if any had none.
 SAID = re.compile(r"1 call of a number that no subscriber has: 1000000\n(?:\d+ events? that had no place: call [^\n]*\n)?")
 # Runs, how many parts they have, and whether their parts come one after another. All but those of two workers print the same.
+# How many inputs are tried until a run takes long enough.
+TRIES = 5
 LONG_RUNS = [("run --workers 1", 1, True), ("run --parts 4", 4, True), ("run --parts 16 --threads 2", 16, False), ("run --workers 2", 1, True)]
 
 
 def long_input(program):
-    """An input whose run takes a processor four seconds at least, with a call of a number that no subscriber has, its lines, and
-    what is said of it."""
-    for hold in (120, 1200, 7200):
-        words = [sys.executable, f"{ROOT}/examples/generate.py", "--calls", "150000", "--rate", "60000", "--hold", str(hold)]
+    """An input whose run takes a processor five to eight seconds or so, with a call of a number that no subscriber has, its
+    lines, and what is said of it. So two threads at a time still take two seconds, after which it is first shown how far they
+    are, and half a second more."""
+    calls = 20000
+    for _ in range(TRIES):
+        words = [sys.executable, f"{ROOT}/examples/generate.py", "--calls", str(calls), "--rate", "60000", "--hold", "1200"]
         text = subprocess.run(words, capture_output=True, check=True).stdout.decode()
         text += text[text.rindex("\n", 0, -1) + 1 :].split(",")[0] + ",1000000,start,1,4930\n"
         before = os.times()
@@ -340,9 +344,11 @@ def long_input(program):
         if status or not SAID.fullmatch(said):
             sys.exit(f"explain: a long run: {said[:300]!r} {status}")
         after = os.times()
-        if after.children_user + after.children_system - before.children_user - before.children_system > 4:
+        taken = after.children_user + after.children_system - before.children_user - before.children_system
+        if taken > 5:
             return text, lines, said
-    sys.exit("explain: no input takes four seconds")
+        calls = int(calls * 6.5 / max(taken, 0.5))
+    sys.exit("explain: no input takes five seconds")
 
 
 def progress(program):
