@@ -1,6 +1,7 @@
-"""A history that is full: what the service says to calls that ask their account for more, and the records of calls."""
+"""A history that is full: what the service says to calls that ask their account for more, the records of calls, and what
+a run says."""
 from calls import HEADER as CALLS_HEADER
-from rows import Row
+from rows import BAND, Row, run_input
 from served import HEAD
 from traces import GRANTED, HEADER
 
@@ -42,10 +43,24 @@ def messages():
     yield from BEHIND
 
 
-def rows():
+def served():
+    """The messages, and what is said to each."""
     lines, printed = [], []
     for number, (call, said, answered) in enumerate(messages()):
         lines.append(f"0,,{call},{said}\n")
         printed.append(f"0,{number},{call},{said}\n")
         printed.extend(f"0,{number},{call},service,{answer}\n" for answer in answered)
-    yield Row("serve --calls", HEAD + HEADER + "".join(lines), f"{HEADER}{''.join(printed)}%%\n{CALLS_HEADER}{CALLS}")
+    return Row("serve --calls", HEAD + HEADER + "".join(lines), f"{HEADER}{''.join(printed)}%%\n{CALLS_HEADER}{CALLS}")
+
+
+def played():
+    """A call for whose three entries there is one place too few."""
+    setup, recharges = "account,7,0\nsubscriber,491700001,7\n", "0,,recharge,7,1\n" * (MOST - 2)
+    text = run_input(BAND, setup, f"{recharges}0,1,start,491700001,4930\n")
+    line = f"account 7 opening 0 available {MOST - 2} entries {MOST - 2}\n"
+    return Row("run --workers 1", text, line, "prepaid: refused: 1 HistoryFull\n")
+
+
+def rows():
+    yield served()
+    yield played()
