@@ -33,6 +33,17 @@ subscriber,491700001,7
 subscriber,491700002,8
 """
 
+# The book of a call that no party ends, and that is charged all that the account has.
+UNENDED_BOOK = """\
+account,seat,op,call,x1,x2,x3,x4,x5,x6,x7,reply,y1,y2,y3
+7,,opening,,1500,,,,,,,,,,
+7,1,reserve,1,50,1000,,600,50,0,0,granted,600,more,450
+7,1,settle,1,2,n,600,,,,,settled,1050,,450
+7,1,reserve,1,50,1000,,600,50,0,700,granted,270,last,0
+7,1,settle,1,3,n,870,,,,,settled,1500,,0
+7,1,return,1,,,,,,,,returned,1500,,0
+"""
+
 # A call of each, which start at one moment and talk at the same time.
 TWO_CALLS = """\
 0,2,start,491700002,4931
@@ -49,6 +60,23 @@ account 8 opening 900 available 433 entries 3
 call 1 account 7 paid 717 returned
 call 2 account 8 paid 467 returned
 """
+
+# Two calls of one account, which start at one moment, and its books: whichever comes first, the other gets what is left.
+AT_ONCE = "0,1,start,491700001,4930\n0,2,start,491700001,4931\n"
+AT_ONCE_BOOKS = [
+    """\
+account,seat,op,call,x1,x2,x3,x4,x5,x6,x7,reply,y1,y2,y3
+7,,opening,,1500,,,,,,,,,,
+7,1,reserve,1,50,1000,,600,50,0,0,granted,600,more,450
+7,0,reserve,2,50,1000,,600,50,0,0,granted,240,last,0
+""",
+    """\
+account,seat,op,call,x1,x2,x3,x4,x5,x6,x7,reply,y1,y2,y3
+7,,opening,,1500,,,,,,,,,,
+7,0,reserve,2,50,1000,,600,50,0,0,granted,600,more,450
+7,1,reserve,1,50,1000,,600,50,0,0,granted,240,last,0
+""",
+]
 
 # Words, the rows of the tariff, the setup and the script, and what is written.
 PLAYED = [
@@ -84,6 +112,7 @@ PLAYED = [
         "account 7 opening 1500 available 450 entries 1\ncall 1 account 7 paid 0 holding\n",
     ),
     ("run --delay 50 --least 300 --book", BAND, ACCOUNT, UNENDED, DELAYED_BOOK),
+    ("run --book", BAND, ACCOUNT, UNENDED, UNENDED_BOOK),
     ("run", BAND, TWO_SUBSCRIBERS, TWO_CALLS, TWO_LINES),
     ("run --workers 16", "", "", "", ""),
     ("run --book", "", "", "", "account,seat,op,call,x1,x2,x3,x4,x5,x6,x7,reply,y1,y2,y3\n"),
@@ -175,6 +204,7 @@ NO_RUNS = [
 def rows():
     for words, tariff, setup, script, output in PLAYED:
         yield Row(words, run_input(tariff, setup, script), output)
+    yield [Row("run --book", run_input(BAND, ACCOUNT, AT_ONCE), book) for book in AT_ONCE_BOOKS]
     for words, script, output in SILENT:
         yield Row(words, run_input(BAND, ACCOUNT, script), output)
     for words, script, output, line in REFUSING:

@@ -170,6 +170,18 @@ RECHARGED = (
     "6,1,,service,refused,OutOfRange,,,\n"
 )
 
+# A call and recharges, which two workers serve at one moment; two of them are refused.
+BESIDE = "0,,recharge,7,5\n0,,recharge,8,0\n0,,recharge,7,0\n0,1,start,491700001,4930\n"
+
+# What is said of them.
+REFUSED_BESIDE = (
+    "0,0,,operator,Recharge,7,5,,\n"
+    "0,1,,operator,Recharge,8,0,,\n"
+    "0,1,,service,refused,OutOfRange,,,\n"
+    "0,2,,operator,Recharge,7,0,,\n"
+    "0,2,,service,refused,OutOfRange,,,\n"
+) + GRANTED.replace("0,0,1,", "0,3,1,")
+
 # A recharge with a last moment.
 EXPIRING = "prefix,from,fee,rate\n%%\nkind,key,value\naccount,7,1500\n%%\nmoment,call,what,x,y,z\n5,,recharge,7,300,9000\n"
 
@@ -188,6 +200,8 @@ NO_TABLE = [
 def recharges():
     """What is said of recharges, and of their moments as dates and times."""
     yield Row("run --trace", run_input(BAND, ACCOUNT, RECHARGES), HEADER + RECHARGED, "prepaid: refused: 1 OutOfRange\n")
+    text = run_input(BAND, TWO_SUBSCRIBERS, BESIDE)
+    yield Row("run --trace", text, HEADER + REFUSED_BESIDE, "prepaid: refused: 2 OutOfRange\n")
     yield Row("run --trace", EXPIRING, f"{HEADER}5,0,,operator,Recharge,7,300,9000,\n")
     dates = "1970-01-01T00:00:00.5,0,,operator,Recharge,7,300,1970-01-01T00:15:00.0,\n"
     yield Row("run --trace --clock", EXPIRING, HEADER + dates)

@@ -5,7 +5,6 @@ use run_values::{RunFault, SetupFault};
 use std::alloc::Global;
 use std::fmt::Display;
 use std::process::Abort;
-use std::test::Fail;
 use workers_core::WorkerFault;
 
 const SETUP_FAULTS: [(SetupFault, u8, &str); 4] = [
@@ -37,22 +36,20 @@ fn expect<T: Display>(
     found: u8,
     number: u8,
     name: &str,
-) -> Result<(), Fail> {
-    let text = format!(in alloc; "{fault}")?;
+) {
+    let text = format!(in alloc; "{fault}").expect(rt, "the name");
     gives(rt, &name, &(found, text.as_str()), &(number, name));
-    Ok(())
 }
 
 #[test]
-fn faults_have_names_and_numbers(rt: HostRuntime) -> Result<(), Fail> {
+fn faults_have_names_and_numbers(rt: HostRuntime) {
     for &(fault, number, name) in &SETUP_FAULTS {
-        expect(&rt, rt.alloc(), &fault, fault as u8, number, name)?;
+        expect(&rt, rt.alloc(), &fault, fault as u8, number, name);
     }
     for &(fault, number, name) in &WORKER_FAULTS {
-        expect(&rt, rt.alloc(), &fault, fault as u8, number, name)?;
+        expect(&rt, rt.alloc(), &fault, fault as u8, number, name);
     }
     for &(fault, number, name) in &RUN_FAULTS {
-        expect(&rt, rt.alloc(), &fault, fault as u8, number, name)?;
+        expect(&rt, rt.alloc(), &fault, fault as u8, number, name);
     }
-    Ok(())
 }

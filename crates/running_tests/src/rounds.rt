@@ -4,30 +4,18 @@ ghost use Rattle.std.specs.Prelude.{◌≡◌, ◌≤◌, ◌++◌, ◌∷◌, [
 ghost use Rattle.price_core.specs.declared.times.TheConstants.{HORIZON};
 
 use account_core::AccountFault;
-use cap_values::ScfOp;
 use price_core::HORIZON;
 use run_values::{Answer, Body, Driver};
 use std::alloc::{AllocError, Global};
 
-/// What an answer says.
-#[derive(Clone, Copy)]
-pub(crate) struct Heard {
-    /// Whether its post was a stray.
-    pub stray: bool,
-    /// The last operation that the call's gsmSSF is sent.
-    pub last: Option<ScfOp>,
-    /// The last fault that an ask of the account got.
-    pub refused: Option<AccountFault>,
-}
-
-/// Gives one or two bodies in each round, all at moment 0, and keeps what the answers say. It takes
-/// an answer only with the number of its post.
+/// Gives one or two bodies in each round, all at moment 0, and keeps what the answers say that was
+/// refused. It takes an answer only with the number of its post.
 #[derive(Drop)]
 pub(crate) struct Rounds<'a> {
     rounds: &'a [(Body, Option<Body>)],
     played: usize,
     given: Vec<(u64, Body)>,
-    heard: Vec<Heard>,
+    refused: Vec<Option<AccountFault>>,
     ended: bool,
     ghost in_range: { All (λ item. item.0 ≤ HORIZON) given.items },
 }
@@ -41,14 +29,14 @@ impl<'a> Rounds<'a> {
             rounds,
             played: 0,
             given: Vec::new(alloc),
-            heard: Vec::new(alloc),
+            refused: Vec::new(alloc),
             ended: false,
         }
     }
 
-    /// What the answers said that it has got.
-    pub(crate) fn heard(&self) -> &[Heard] {
-        self.heard.as_slice()
+    /// For each post, the last fault that an ask of an account got.
+    pub(crate) fn into_refused(self) -> Vec<Option<AccountFault>> {
+        self.refused
     }
 
     fn give(&mut self, body: Body) -> Result<(), AllocError>
@@ -61,15 +49,11 @@ impl<'a> Rounds<'a> {
     }
 }
 
-/// Keeps what answers say, each where it has the next number.
-fn hear(heard: &mut Vec<Heard>, answers: &[Answer]) -> Result<(), AllocError> {
+/// Keeps what answers say that was refused, each where it has the next number.
+fn hear(refused: &mut Vec<Option<AccountFault>>, answers: &[Answer]) -> Result<(), AllocError> {
     for answer in answers {
-        if answer.number == heard.len() as u64 {
-            heard.push(Heard {
-                stray: answer.stray,
-                last: answer.ops.last().copied(),
-                refused: answer.refused,
-            })?;
+        if answer.number == refused.len() as u64 {
+            refused.push(answer.refused)?;
         }
     }
     Ok(())
@@ -93,7 +77,7 @@ impl Driver for Rounds<'_> {
     }
 
     fn round(&mut self, answers: &[Answer]) -> Result<bool, AllocError> {
-        hear(&mut self.heard, answers)?;
+        hear(&mut self.refused, answers)?;
         if self.played >= self.rounds.len() {
             self.ended = true;
             return Ok(false);

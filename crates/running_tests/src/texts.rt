@@ -1,16 +1,13 @@
 //! Readers that fail: the tables of a setup and of a script keep that fault, unless a row in front
-//! of it has one. Each fault of their rows is tried in tests/program. Moments in the fields of a
-//! row.
+//! of it has one. Each fault of their rows is tried in tests/program.
 
 use crate::looking::gives;
-use crate::setups::list;
-use run_texts::{moment_field, read_script, read_setup};
+use run_texts::{read_script, read_setup};
 use run_values::Directory;
 use std::alloc::Global;
 use std::io::{self, ErrorKind, Read};
 use std::process::Abort;
-use std::test::Fail;
-use table_core::{RowFault, RowKind, Table, TableFault};
+use table_core::{RowFault, RowKind, TableFault};
 
 /// A reader that gives some bytes and then fails.
 #[derive(Drop)]
@@ -49,6 +46,9 @@ const SETUPS: [(&[u8], u32, RowKind); 7] = [
         RowKind::Unknown,
     ),
 ];
+
+/// The setup of the scripts.
+const ACCOUNT: &[u8] = b"kind,key,value\naccount,7,1500\n";
 
 /// The same of scripts.
 const SCRIPTS: [(&[u8], u32, RowKind); 8] = [
@@ -114,25 +114,12 @@ fn expect_of_script(
 }
 
 #[test]
-fn names_a_reader_that_fails(rt: HostRuntime) -> Result<(), Fail> {
+fn names_a_reader_that_fails(rt: HostRuntime) {
     for &(text, row, kind) in &SETUPS {
         expect_of_setup(&rt, rt.alloc(), text, row, kind);
     }
-    let directory = list(rt.alloc(), &[(7, 1500), (9, 0)])?;
+    let directory = read_setup(rt.alloc(), ACCOUNT).expect(&rt, "the setup");
     for &(text, row, kind) in &SCRIPTS {
         expect_of_script(&rt, rt.alloc(), &directory, text, row, kind);
     }
-    Ok(())
-}
-
-#[test]
-fn reads_moments_in_fields(rt: HostRuntime) {
-    let text: &[u8] = b"a,b\n1970-01-01 00:01:00,1970-01-01 00:00:60\n";
-    let opened = Table::open(rt.alloc(), text, &[&["a", "b"]], 1);
-    let mut table = opened.expect(&rt, "the header");
-    assert!(rt; table.next_row() == Ok(true));
-    let row = table.row();
-    gives(&rt, &600, &moment_field(row, 0, 600), &Ok(600));
-    gives(&rt, &599, &moment_field(row, 0, 599), &Err(RowKind::Number));
-    gives(&rt, &600, &moment_field(row, 1, 600), &Err(RowKind::Number));
 }

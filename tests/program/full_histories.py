@@ -1,0 +1,66 @@
+"""A history that is full: what the service says to calls that ask their account for more, the records of calls, and what
+a run says."""
+from calls import HEADER as CALLS_HEADER
+from rows import BAND, Row, run_input
+from served import HEAD
+from traces import GRANTED, HEADER
+
+# The most entries of a history, and how many recharges leave it the room for what two calls come to, of which one is
+# granted a second period: three reserves, three settles and two returns.
+MOST = 1_000_000
+RECHARGES = MOST - 8
+RECHARGE = "operator,Recharge,7,1,,"
+
+# What comes behind these recharges, each with its call and what the service says to it.
+BEHIND = [
+    ("1", "switch,ApplyChargingReport,active,n,600,", ["ApplyCharging,600,,,"]),
+    ("", RECHARGE, ["refused,HistoryFull,,,"]),
+    ("3", "switch,ApplyChargingReport,active,n,600,", ["ReleaseCall,41,,,", "refused,HistoryFull,,,"]),
+    ("2", "switch,InitialDP,491700001,4930,,", ["ReleaseCall,41,,,", "refused,HistoryFull,,,"]),
+    ("1", "switch,ApplyChargingReport,inactive,n,900,", []),
+    ("1", "switch,Ended,,,,", []),
+    ("2", "switch,Ended,,,,", []),
+    ("3", "switch,Ended,,,,", []),
+    ("", RECHARGE, ["refused,HistoryFull,,,"]),
+]
+
+# The records: 900 units cost 1550, and 600 cost 1050.
+CALLS = """\
+1,491700001,4930,7,49,0,,0,900,0,1550,released
+2,491700001,4930,7,49,0,,0,0,0,0,refused
+3,491700001,4930,7,49,0,,0,600,0,1050,released
+"""
+
+
+def messages():
+    """The messages, each with its call and what the service says to it."""
+    granted = [row.split(",", 4)[4] for row in GRANTED.splitlines()[1:]]
+    yield "1", "switch,InitialDP,491700001,4930,,", granted
+    yield "", "operator,Recharge,7,600,,", []
+    yield "3", "switch,InitialDP,491700001,4930,,", granted
+    for _ in range(RECHARGES - 1):
+        yield "", RECHARGE, []
+    yield from BEHIND
+
+
+def served():
+    """The messages, and what is said to each."""
+    lines, printed = [], []
+    for number, (call, said, answered) in enumerate(messages()):
+        lines.append(f"0,,{call},{said}\n")
+        printed.append(f"0,{number},{call},{said}\n")
+        printed.extend(f"0,{number},{call},service,{answer}\n" for answer in answered)
+    return Row("serve --calls", HEAD + HEADER + "".join(lines), f"{HEADER}{''.join(printed)}%%\n{CALLS_HEADER}{CALLS}")
+
+
+def played():
+    """A call for whose three entries there is one place too few."""
+    setup, recharges = "account,7,0\nsubscriber,491700001,7\n", "0,,recharge,7,1\n" * (MOST - 2)
+    text = run_input(BAND, setup, f"{recharges}0,1,start,491700001,4930\n")
+    line = f"account 7 opening 0 available {MOST - 2} entries {MOST - 2}\n"
+    return Row("run --workers 1", text, line, "prepaid: refused: 1 HistoryFull\n")
+
+
+def rows():
+    yield served()
+    yield played()
