@@ -2,10 +2,10 @@
 
 use crate::asks::{Account as Looks, LIMIT, OPENING, Seen, Watched, are_all, ask_all, counted};
 use crate::closing;
-use crate::forms::two_seats;
 use crate::outcome::{Course, Outcome, expect};
+use crate::sharing::two_seats;
 use account_core::{Account, AccountFault, AccountPort, Entry, Op, Port, Reply};
-use locked_account::{Seat, SharedAccount};
+use locked_account::Seat;
 use std::alloc::{AllocError, Global};
 
 /// The account of each call here.
@@ -28,10 +28,6 @@ impl Watched for AccountPort {
             mine: None,
         }
     }
-
-    fn is_free(&mut self) -> bool {
-        true
-    }
 }
 
 /// An account that is asked from a seat.
@@ -44,7 +40,7 @@ struct SeatPort {
 impl SeatPort {
     /// A new account, and the first seat of another one.
     fn open<R>(rt: &R, alloc: Global) -> Result<SeatPort, Outcome> {
-        let (_, seat, _) = two_seats::<SharedAccount, R>(rt, alloc)?;
+        let (_, seat, _) = two_seats(rt, alloc)?;
         Ok(SeatPort {
             account: account(alloc),
             seat,
@@ -65,17 +61,14 @@ impl Watched for SeatPort {
             mine: Some(counted(self.seat.mine())),
         }
     }
-
-    fn is_free(&mut self) -> bool {
-        true
-    }
 }
 
-/// Asks an account by itself.
+/// Asks an account by itself. Its history is legal, and is so after its own opening alone.
 pub(crate) fn applies(alloc: Global) -> Course {
     let mut port = AccountPort::new(account(alloc), 0);
     let outcome = ask_all(&mut port)?;
-    expect(are_all(port.account.history(), 0))?;
+    let entries = port.account.history();
+    expect(are_all(entries, 0) && are_of_opening(alloc, entries)?)?;
     Ok(outcome)
 }
 
@@ -95,14 +88,6 @@ pub(crate) fn closes_a_call(alloc: Global) -> Course {
 /// Closes a call of an account from a seat.
 pub(crate) fn closes_a_call_from_seat<R>(rt: &R, alloc: Global) -> Course {
     closing::closes(&mut SeatPort::open(rt, alloc)?)
-}
-
-/// Checks the history of an account, which is legal, and is so after its own opening alone.
-pub(crate) fn checks(alloc: Global) -> Course {
-    let mut port = AccountPort::new(account(alloc), 0);
-    let outcome = ask_all(&mut port)?;
-    expect(are_of_opening(alloc, port.account.history())?)?;
-    Ok(outcome)
 }
 
 /// Whether entries are legal, and so after this opening alone.
