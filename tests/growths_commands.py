@@ -13,6 +13,8 @@ from model.tables import Fault
 ROOT = os.path.dirname(os.path.dirname(os.path.abspath(__file__)))
 OUT_OF_MEMORY, NO_THREAD = b"prepaid: run: OutOfMemory\n", b"prepaid: run: Thread\n"
 TABLES = ("lines.txt", "book.csv", "calls.csv", "trace.csv")
+# The messages at which an account is asked for something that takes memory.
+ALL_KINDS = frozenset(["InitialDP", "ApplyChargingReport", "Recharge"])
 # Calls of three accounts, by which two workers meet at each: they talk through several grants, are cut, denied and ended,
 # and between them and behind them these accounts are recharged, and one without calls. The numbers of the calls of
 # account 9 don't rise.
@@ -157,8 +159,8 @@ def write(path, text):
 class Command:
     """A command that prints its answer at its end, and nothing where memory ran out."""
 
-    # What the messages are for which an account has to have had no memory in some try.
-    KINDS = frozenset()
+    # what messages there have to be for which an account had no memory in some try
+    kinds = frozenset()
 
     def __init__(self, words, text):
         self.words, self.text = tuple(words.split()), text
@@ -201,9 +203,9 @@ class Rows(Command):
 
 
 class Run(Command):
-    """A run that says for how many messages an account had no memory, and not for which."""
+    """A run that says for how many messages an account had no memory."""
 
-    KINDS = frozenset(["InitialDP"])
+    kinds = frozenset(["InitialDP"])
 
     def is_right(self, ended, _folder):
         if ended.status:
@@ -215,23 +217,14 @@ class Run(Command):
         return numbers is not None and self.are_refused(numbers, messages, ended)
 
 
-class Traced(Command):
-    """A run of one worker that prints its trace."""
-
-    KINDS = frozenset(["InitialDP", "ApplyChargingReport", "Recharge"])
-
-    def is_right(self, ended, _folder):
-        if ended.status:
-            return ended.ran_out() and not ended.output
-        numbers = without_memory(ended.output)
-        return ended.said() == self.answer(numbers) and self.are_refused(numbers, messages_in(ended.output), ended)
-
-
 class Into(Command):
-    """A run of two workers that writes all of its tables. In its book the model sees in which order they met."""
+    """A run that writes all of its tables. In its book the model sees in which order workers met at an account."""
 
-    # Which ask takes a growth is another one each time, so no try is sure to refuse those of a report.
-    KINDS = frozenset(["InitialDP"])
+    def __init__(self, workers):
+        super().__init__(f"run --workers {workers}", RUN)
+        self.options = {"--workers": str(workers)}
+        # with several workers another ask takes a growth each time, so that each kind is refused isn't sure
+        self.kinds = ALL_KINDS if workers == 1 else Run.kinds
 
     def begin(self, folder):
         os.makedirs(f"{folder}/into", exist_ok=True)
@@ -245,7 +238,7 @@ class Into(Command):
             return ended.ran_out(NO_THREAD) and not ended.output and found == dict.fromkeys(TABLES, b"old")
         numbers = without_memory(found["trace.csv"])
         try:
-            run, _ = do_run({}, self.text, found["book.csv"].decode(), numbers)
+            run, _ = do_run(self.options, self.text, found["book.csv"].decode(), numbers)
         except Fault:
             # no order of what the workers asked is the book's
             return False
@@ -257,7 +250,7 @@ class Into(Command):
 class Serve(Command):
     """The service live. A log, and a new beginning with one that has all messages, change nothing of what is printed."""
 
-    KINDS = Traced.KINDS
+    kinds = ALL_KINDS
 
     def begin(self, folder):
         super().begin(folder)
@@ -273,7 +266,7 @@ class Serve(Command):
         return b"log,1,600,50,50\n" + self.text
 
     def answer(self, numbers=frozenset()):
-        return by_model(("serve", "--lines"), self.text, numbers)
+        return by_model(self.words[:2], self.text, numbers)
 
     def is_log_right(self, status, path):
         """Whether the log has all messages, or where the service failed the first of them."""
@@ -316,14 +309,15 @@ def commands(program):
         "command/run_calls": Run("run --calls", call),
         "command/run_parts": Run("run --parts 2", TWO_CALLS),
         "command/run_threads": Run("run --parts 2 --threads 2", TWO_CALLS),
-        "command/run_trace": Traced("run --workers 1 --trace", RUN),
-        "command/run_into": Into("run", RUN),
+        "command/run_trace": Run("run --trace", call),
+        "command/run_into": Into(1),
+        "command/run_into_two": Into(2),
         "command/audit": Command("audit", book),
         "command/audit_long": Command("audit --long", book),
         "command/audit_altered": Command("audit --rows", altered),
         "command/audit_lines": Command("audit --lines", book),
         "command/rate": Rows("rate", TARIFF + b"%%\n" + RECORDS),
         "command/serve": Serve("serve --lines", live),
-        "command/serve_log": Serve("serve --lines --log LOG", live),
-        "command/serve_again": Serve("serve --lines --log LOG --again 0", live),
+        "command/serve_log": Serve("serve --book --log LOG", live),
+        "command/serve_again": Serve("serve --calls --log LOG --again 0", live),
     }

@@ -29,7 +29,7 @@ class Wrong(Exception):
 class Call:
     """A call of the crate, which says by its status whether all was right."""
 
-    KINDS, refused = frozenset(), {}
+    kinds, refused = frozenset(), {}
 
     def __init__(self, name):
         self.name = name
@@ -81,7 +81,7 @@ def try_form(shim, program, name, it, form):
 def try_both(shim, program, name, it):
     """What is found of a call or a command in both forms."""
     most = max(try_form(shim, program, name, it, form) for form in ("ONE", "FROM"))
-    if not most or it.KINDS - set(it.refused.values()):
+    if not most or it.kinds - set(it.refused.values()):
         raise Wrong(f"{name}: {most} growths, and an account had no memory for {it.refused} alone")
     return f"{name}: {most} growths" + f"; messages without memory: {len(it.refused)}" * bool(it.refused)
 
