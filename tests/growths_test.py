@@ -93,7 +93,8 @@ def main():
     words = asked.parse_args()
     program, wrong = os.path.abspath(words.program), 0
     tries = {name: (program, name, it) for name, it in commands(program).items()}
-    tries |= {name: (CALLS, name, it) for name, it in calls().items()}
+    if not words.name or set(words.name) - set(tries):
+        tries |= {name: (CALLS, name, it) for name, it in calls().items()}
     with tempfile.NamedTemporaryFile() as shim, ThreadPoolExecutor(len(os.sched_getaffinity(0))) as pool:
         source = f"{ROOT}/tests/refuse_growths.c"
         subprocess.run(["cc", "-shared", "-fPIC", "-O2", "-o", shim.name, source, "-ldl"], check=True)
