@@ -1,11 +1,9 @@
-//! An account that one alone asks: by itself, or from a seat.
+//! An account that is asked by itself.
 
 use crate::asks::{Account as Looks, LIMIT, OPENING, Seen, Watched, are_all, ask_all, counted};
 use crate::closing;
 use crate::outcome::{Course, Outcome, expect};
-use crate::sharing::two_seats;
-use account_core::{Account, AccountFault, AccountPort, Entry, Op, Port, Reply};
-use locked_account::Seat;
+use account_core::{Account, AccountPort, Entry};
 use std::alloc::{AllocError, Global};
 
 /// The account of each call here.
@@ -30,39 +28,6 @@ impl Watched for AccountPort {
     }
 }
 
-/// An account that is asked from a seat.
-#[derive(Drop)]
-struct SeatPort {
-    account: Account,
-    seat: Seat,
-}
-
-impl SeatPort {
-    /// A new account, and the first seat of another one.
-    fn open<R>(rt: &R, alloc: Global) -> Result<SeatPort, Outcome> {
-        let (_, seat, _) = two_seats(rt, alloc)?;
-        Ok(SeatPort {
-            account: account(alloc),
-            seat,
-        })
-    }
-}
-
-impl Port for SeatPort {
-    fn ask(&mut self, op: Op) -> Result<Reply, AccountFault> {
-        self.seat.apply_to(&mut self.account, op)
-    }
-}
-
-impl Watched for SeatPort {
-    fn seen(&self) -> Seen {
-        Seen {
-            account: Some(looks_of(&self.account)),
-            mine: Some(counted(self.seat.mine())),
-        }
-    }
-}
-
 /// Asks an account by itself. Its history is legal, and is so after its own opening alone.
 pub(crate) fn applies(alloc: Global) -> Course {
     let mut port = AccountPort::new(account(alloc), 0);
@@ -72,22 +37,9 @@ pub(crate) fn applies(alloc: Global) -> Course {
     Ok(outcome)
 }
 
-/// Asks an account from a seat.
-pub(crate) fn applies_from_seat<R>(rt: &R, alloc: Global) -> Course {
-    let mut port = SeatPort::open(rt, alloc)?;
-    let outcome = ask_all(&mut port)?;
-    expect(are_all(port.account.history(), 0) && are_all(port.seat.mine(), 0))?;
-    Ok(outcome)
-}
-
 /// Closes a call of an account by itself.
 pub(crate) fn closes_a_call(alloc: Global) -> Course {
     closing::closes(&mut AccountPort::new(account(alloc), 0))
-}
-
-/// Closes a call of an account from a seat.
-pub(crate) fn closes_a_call_from_seat<R>(rt: &R, alloc: Global) -> Course {
-    closing::closes(&mut SeatPort::open(rt, alloc)?)
 }
 
 /// Whether entries are legal, and so after this opening alone.

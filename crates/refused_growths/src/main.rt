@@ -24,28 +24,22 @@ use std::{env, io};
 enum Trial {
     /// An account is asked by itself, and its history is checked.
     Account,
-    /// An account is asked from a seat.
-    Seat,
     /// An account under its lock is opened, asked and closed.
     Lock,
     /// A call is driven.
     Drive,
     /// A call of an account by itself is closed.
     CloseByAccount,
-    /// The same from a seat.
-    CloseBySeat,
     /// The same under the lock.
     CloseByLock,
 }
 
 /// What is tried, by names.
-const TRIALS: [(&str, Trial); 7] = [
+const TRIALS: [(&str, Trial); 5] = [
     ("Account::apply", Trial::Account),
-    ("Seat::apply_to", Trial::Seat),
     ("SharedAccount::call", Trial::Lock),
     ("drive_call", Trial::Drive),
     ("closing/account", Trial::CloseByAccount),
-    ("closing/seat", Trial::CloseBySeat),
     ("closing/lock", Trial::CloseByLock),
 ];
 
@@ -91,11 +85,9 @@ fn try_it<R: AllocGlobal + Wait>(rt: &R, trial: Trial) -> Course {
     let alloc = rt.alloc();
     match trial {
         Trial::Account => accounts::applies(alloc),
-        Trial::Seat => accounts::applies_from_seat(rt, alloc),
         Trial::Lock => sharing::asks(rt, alloc),
         Trial::Drive => driven::drives(alloc),
         Trial::CloseByAccount => accounts::closes_a_call(alloc),
-        Trial::CloseBySeat => accounts::closes_a_call_from_seat(rt, alloc),
         Trial::CloseByLock => sharing::closes_a_call(rt, alloc),
     }
 }

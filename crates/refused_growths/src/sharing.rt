@@ -15,7 +15,7 @@ use std::sync::Wait;
 const NUMBER: u32 = 7;
 
 /// An account with two seats.
-pub(crate) fn two_seats<R>(rt: &R, alloc: Global) -> Result<(SharedAccount, Seat, Seat), Outcome>
+fn two_seats<R>(rt: &R, alloc: Global) -> Result<(SharedAccount, Seat, Seat), Outcome>
     ensures first { IfOk result (λ made. made.1.account ≡ made.0.number) }
     ensures second { IfOk result (λ made. made.2.account ≡ made.0.number) }
 {
