@@ -6,10 +6,10 @@ JOBS = $(shell nproc)
 SOURCES := crates.txt $(shell find crates -path '*/out' -prune -o -name '*.rt' -print -o -name '*.antt' -print)
 # The program that `rt ci` builds, and what of it has a test of its own.
 BUILT := crates/prepaid/out/prepaid
-HELD := serve devices dist docs explain words report pipe into divide program
+HELD := serve devices growths dist docs explain words report pipe into divide program
 
 .PHONY: all quick run report picture test edits install dist bench recipes
-.PHONY: test-edits test-tries test-prove test-growths test-random $(HELD:%=test-%)
+.PHONY: test-edits test-tries test-prove test-random $(HELD:%=test-%)
 
 # Proves what is below the program, several crates at once, and builds bin/prepaid; out/proved/prepaid says by which
 # toolchain. A process takes 0.7 to 3.5 GB; with four processors it took 7 GB in all.
@@ -46,16 +46,16 @@ picture: report
 # The commit, and whether the tree is that commit's.
 TREE = $(shell git rev-parse HEAD) $(if $(shell git status --porcelain),changed,clean)
 
-# Looks whether each edit fits its file, compares the page of definitions with their comments and the names on the
-# page of proofs with the code, proves everything from nothing, and runs the tests and the programs. Then, several at
-# once: tries the edits of the gate, what tries edits, and what make proves; holds the words of the man page and the
+# Looks whether each edit fits its file, compares the page of definitions with their comments and the names on the page
+# of proofs with the code, proves everything from nothing, and runs the tests and the programs. Then, several at once:
+# tries the edits of the gate, what tries edits, and what make proves; holds the words of the man page and the
 # completions against the formats, runs the program over worked rows and the commands of the pages as they are, makes
 # packages and uses them, compares reports with their tables, runs in parts with whole ones and the files of a run with
 # what runs print, drives the service over a pipe, compares what is said of faults with a table, on a terminal too, cuts
-# and kills a service with a log, lets inputs, outputs and logs fail, refuses memory to each call that takes any, and
-# compares the program with its model. Libraries that an earlier gate left, which have no stamp, are removed: where rt ci
-# has kept all proofs it would put them back as they were, and the edits would be tried over them. Once all has passed,
-# out/passed.txt says so of the commit; make expands TREE before the first line.
+# and kills a service with a log, lets inputs, outputs and logs fail, refuses memory to each command and to calls that
+# none makes, and compares the program with its model. Libraries that an earlier gate left, which have no stamp, are
+# removed: where rt ci has kept all proofs it would put them back as they were, and the edits would be tried over them.
+# Once all has passed, out/passed.txt says so of the commit; make expands TREE before the first line.
 test:
 	mkdir -p out
 	rm -f out/passed.txt
@@ -64,7 +64,7 @@ test:
 	tests/proofs_test.py
 	@for it in crates/*/out/rlib; do test -e $$it/stamp || rm -rf $$it; done
 	set -o pipefail; rt ci | tee out/gate.txt
-	$(MAKE) --jobs=$(JOBS) --output-sync=target test-edits test-tries test-prove test-growths test-random $(HELD:%=test-%)
+	$(MAKE) --jobs=$(JOBS) --output-sync=target test-edits test-tries test-prove test-random $(HELD:%=test-%)
 	@printf '%s\n' '$(TREE)' "$$(tail -n 1 out/gate.txt)" > out/passed.txt
 	@tail -n 1 out/gate.txt
 
@@ -76,9 +76,6 @@ test-tries:
 
 test-prove:
 	tests/prove_test.py
-
-test-growths:
-	tests/refused_growths.sh
 
 test-random:
 	tests/random.sh --program $(BUILT)

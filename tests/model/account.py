@@ -118,8 +118,8 @@ class Account:
     def available(self):
         return self.opening + self.credits - sum(it.taken() for it in self.calls.values())
 
-    def fault(self, op):
-        """Why an operation is refused, or None."""
+    def fault(self, op, has_memory=True):
+        """Why an operation is refused, or None. For closing a call memory is kept beside the places."""
         kind, call = op[0], self.calls.get(op[1])
         if kind == "credit" and not 1 <= op[1] <= MAX_MONEY:
             return "OutOfRange"
@@ -130,7 +130,10 @@ class Account:
         if kind == "reserve" and call and not call.is_open:
             return "CallUsed"
         owed = sum(1 + (not it.was_settled) for it in self.calls.values() if it.is_open)
-        return "HistoryFull" if len(self.entries) + owed + self.needed(op, call) > self.limit else None
+        needed = self.needed(op, call)
+        if len(self.entries) + owed + needed > self.limit:
+            return "HistoryFull"
+        return None if has_memory or not needed else "OutOfMemory"
 
     def needed(self, op, call):
         """The places that the operation takes of the history, beside those that are kept for closing."""
@@ -140,9 +143,9 @@ class Account:
             return 1 + call.was_settled if call else 3
         return int(op[0] == "settle" and call.was_settled)
 
-    def apply(self, seat, op):
+    def apply(self, seat, op, has_memory=True):
         """Answers an operation and enters it; a fault is a text, and changes nothing."""
-        fault = self.fault(op)
+        fault = self.fault(op, has_memory)
         if fault:
             return fault
         reply = getattr(self, op[0])(*op[1:])

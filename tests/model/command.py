@@ -46,10 +46,11 @@ TAKEN = {
 }
 
 
-def command(words, text, book=None, write=None):
+def command(words, text, book=None, write=None, without_memory=frozenset()):
     """Returns status, output, the line on standard error, and whether no other output is right as well.
 
-    Of `serve` the text may be a file, and what is printed goes to `write` as it comes.
+    Of `serve` the text may be a file, and what is printed goes to `write` as it comes. In `run` and `serve` accounts have no
+    memory for the messages and recharges of some numbers.
     """
     printed = []
     explains = bool(words) and words[0] == "--explain"
@@ -59,7 +60,7 @@ def command(words, text, book=None, write=None):
             raise ARGUMENTS
         given = options_in(words[0], words[1:])
         if words[0] == "run":
-            run, script = do_run(given, text, book)
+            run, script = do_run(given, text, book, without_memory)
             table = next((it for it in TABLES if it in given), None)
             text = {None: run.lines, "--book": run.book, "--calls": run.calls, "--trace": run.trace}[table]()
             # where workers have met at an account, which events had no place is open
@@ -68,7 +69,8 @@ def command(words, text, book=None, write=None):
         if words[0] in ("audit", "rate"):
             return *{"audit": do_audit, "rate": rate}[words[0]](given, text), "", True
         if words[0] == "serve":
-            do_serve(given, io.BytesIO(text) if isinstance(text, bytes) else text, write or printed.append)
+            source = io.BytesIO(text) if isinstance(text, bytes) else text
+            do_serve(given, source, write or printed.append, without_memory)
             return 0, "".join(printed), "", True
         return 0, {"price": do_price, "replay": do_replay, "quote": do_quote}[words[0]](given, text), "", True
     except Fault as fault:
@@ -257,7 +259,7 @@ def do_audit(given, text):
     return status, "".join(lines) + (call_lines(legal) if "--lines" in given else "")
 
 
-def do_serve(given, source, write):
+def do_serve(given, source, write, without_memory):
     wanted, least, tccd = number(given, "--wanted", 600), number(given, "--least", 50), number(given, "--tccd", 50)
     again = number(given, "--again", most=2**64 - 1) if "--again" in given else None
     if not 1 <= tccd <= least <= wanted <= DAY:
@@ -267,10 +269,11 @@ def do_serve(given, source, write):
         if rows:
             write("".join(f"{it}\n" for it in rows))
 
-    serve(given, source, say, {"wanted": wanted, "least": least, "tccd": tccd}, given.get("--log"), again)
+    options = {"wanted": wanted, "least": least, "tccd": tccd, "without_memory": without_memory}
+    serve(given, source, say, options, given.get("--log"), again)
 
 
-def do_run(given, text, book):
+def do_run(given, text, book, without_memory=frozenset()):
     parts = number(given, "--parts", most=2**32 - 1) if "--parts" in given else None
     threads = number(given, "--threads", 1, 64)
     workers = number(given, "--workers", 2 if parts is None else 1, 99)
@@ -288,7 +291,7 @@ def do_run(given, text, book):
     script = read_script(third, setup[0])
     if not 1 <= workers <= 16:
         raise Fault("prepaid: run: Workers", 2)
-    options = Options(workers, wanted, least, tssf, tccd, delay, given.get("--default") != "proceed")
+    options = Options(workers, wanted, least, tssf, tccd, delay, given.get("--default") != "proceed", without_memory)
     run = Run(tariff, setup, options, book, clock_of(given))
     if parts is None or "--book" not in given:
         # the parts print the lines and the calls of one run

@@ -21,6 +21,8 @@ class Options:
     tccd: int = 50
     delay: int = 2
     releases: bool = True
+    # the numbers of the messages and recharges for which accounts have no memory
+    without_memory: "frozenset[int]" = frozenset()
 
 
 def shown(it):
@@ -171,15 +173,16 @@ class Run:
             before = list(asks)
             for at, (seat, worker) in enumerate(workers):
                 while asks[at] and self.is_next(seat, *asks[at]):
-                    reply = self.accounts[asks[at][0]].apply(seat, asks[at][1])
+                    account, *ask = asks[at]
+                    reply = self.accounts[account].apply(seat, *ask)
                     asks[at] = send(worker, ("refused", reply) if isinstance(reply, str) else reply)
             if asks == before:
                 raise Fault(f"model: at {now} no order of these is the book's: {[it for it in asks if it]}", 9)
 
-    def is_next(self, seat, account, op):
+    def is_next(self, seat, account, op, has_memory):
         if self.orders is None and self.met.setdefault(account, seat) != seat:
             self.is_contended = True
-        if self.orders is None or self.accounts[account].fault(op):
+        if self.orders is None or self.accounts[account].fault(op, has_memory):
             return True
         order = self.orders[account]
         if not order or order[0] != (str(seat), op_fields(op, self.columns)):
@@ -188,11 +191,11 @@ class Run:
         return True
 
     def work(self, now, queue, answers):
-        """What a worker asks, (account, operation) after the other, as it goes through its posts."""
+        """What a worker asks as it goes through its posts: accounts, operations, and whether there is memory for them."""
         for number, call, message in queue:
             answers[number] = answer = trace.Answer()
             if call is None:
-                note(answer, (yield message[1], ("credit", *message[2:])))
+                note(answer, (yield message[1], ("credit", *message[2:]), number not in self.options.without_memory))
             else:
                 yield from self.handle(now, number, call, message, answer)
 
@@ -216,7 +219,7 @@ class Run:
             given = number, now, message
         turn = send(dialogue, given)
         while turn and turn[0] == "ask":
-            turn = send(dialogue, note(answer, (yield account, turn[1])))
+            turn = send(dialogue, note(answer, (yield account, turn[1], number not in self.options.without_memory)))
         if turn is None:
             del self.talks[call]
             return

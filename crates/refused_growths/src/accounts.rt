@@ -1,11 +1,9 @@
-//! An account that one alone asks: by itself, or from a seat.
+//! An account that is asked by itself.
 
 use crate::asks::{Account as Looks, LIMIT, OPENING, Seen, Watched, are_all, ask_all, counted};
 use crate::closing;
-use crate::forms::two_seats;
 use crate::outcome::{Course, Outcome, expect};
-use account_core::{Account, AccountFault, AccountPort, Entry, Op, Port, Reply};
-use locked_account::{Seat, SharedAccount};
+use account_core::{Account, AccountPort, Entry};
 use std::alloc::{AllocError, Global};
 
 /// The account of each call here.
@@ -28,81 +26,20 @@ impl Watched for AccountPort {
             mine: None,
         }
     }
-
-    fn is_free(&mut self) -> bool {
-        true
-    }
 }
 
-/// An account that is asked from a seat.
-#[derive(Drop)]
-struct SeatPort {
-    account: Account,
-    seat: Seat,
-}
-
-impl SeatPort {
-    /// A new account, and the first seat of another one.
-    fn open<R>(rt: &R, alloc: Global) -> Result<SeatPort, Outcome> {
-        let (_, seat, _) = two_seats::<SharedAccount, R>(rt, alloc)?;
-        Ok(SeatPort {
-            account: account(alloc),
-            seat,
-        })
-    }
-}
-
-impl Port for SeatPort {
-    fn ask(&mut self, op: Op) -> Result<Reply, AccountFault> {
-        self.seat.apply_to(&mut self.account, op)
-    }
-}
-
-impl Watched for SeatPort {
-    fn seen(&self) -> Seen {
-        Seen {
-            account: Some(looks_of(&self.account)),
-            mine: Some(counted(self.seat.mine())),
-        }
-    }
-
-    fn is_free(&mut self) -> bool {
-        true
-    }
-}
-
-/// Asks an account by itself.
+/// Asks an account by itself. Its history is legal, and is so after its own opening alone.
 pub(crate) fn applies(alloc: Global) -> Course {
     let mut port = AccountPort::new(account(alloc), 0);
     let outcome = ask_all(&mut port)?;
-    expect(are_all(port.account.history(), 0))?;
-    Ok(outcome)
-}
-
-/// Asks an account from a seat.
-pub(crate) fn applies_from_seat<R>(rt: &R, alloc: Global) -> Course {
-    let mut port = SeatPort::open(rt, alloc)?;
-    let outcome = ask_all(&mut port)?;
-    expect(are_all(port.account.history(), 0) && are_all(port.seat.mine(), 0))?;
+    let entries = port.account.history();
+    expect(are_all(entries, 0) && are_of_opening(alloc, entries)?)?;
     Ok(outcome)
 }
 
 /// Closes a call of an account by itself.
 pub(crate) fn closes_a_call(alloc: Global) -> Course {
     closing::closes(&mut AccountPort::new(account(alloc), 0))
-}
-
-/// Closes a call of an account from a seat.
-pub(crate) fn closes_a_call_from_seat<R>(rt: &R, alloc: Global) -> Course {
-    closing::closes(&mut SeatPort::open(rt, alloc)?)
-}
-
-/// Checks the history of an account, which is legal, and is so after its own opening alone.
-pub(crate) fn checks(alloc: Global) -> Course {
-    let mut port = AccountPort::new(account(alloc), 0);
-    let outcome = ask_all(&mut port)?;
-    expect(are_of_opening(alloc, port.account.history())?)?;
-    Ok(outcome)
 }
 
 /// Whether entries are legal, and so after this opening alone.

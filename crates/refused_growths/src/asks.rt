@@ -173,8 +173,10 @@ pub(crate) trait Watched: Port {
     /// What is seen of it.
     fn seen(&self) -> Seen;
 
-    /// Whether another one that asks the same account gets its answer.
-    fn is_free(&mut self) -> bool;
+    /// Whether another one that asks the same account gets its answer, if any other one may ask it.
+    fn is_free(&mut self) -> bool {
+        true
+    }
 }
 
 /// Asks all in turn.

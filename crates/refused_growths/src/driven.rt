@@ -2,14 +2,29 @@
 
 use crate::accounts::account;
 use crate::outcome::{Course, Outcome, expect};
-use crate::service::{SERVICE, SUBSCRIBER, SWITCH};
 use account_core::{Account, AccountPort};
 use cap_values::Number;
+use dialogue_core::ServiceConfig;
 use one_call::{CallEnd, drive_call};
 use price_core::{Plan, Route, TimeInfo};
-use ssf_core::{BcsmEvent, State};
+use ssf_core::{BcsmEvent, DefaultHandling, SsfConfig, State};
 use std::alloc::Global;
 
+/// What the service asks the account for.
+const SERVICE: ServiceConfig = ServiceConfig {
+    wanted: 600,
+    least: 50,
+    tccd: 50,
+};
+
+/// What the gsmSSF waits for.
+const SWITCH: SsfConfig = SsfConfig {
+    tssf: 100,
+    tccd: 50,
+    default_handling: DefaultHandling::Release,
+};
+
+/// What the call is charged by.
 const ROUTE: Route = Route {
     plan: Plan {
         fee: 50,
@@ -59,7 +74,7 @@ pub(crate) fn drives(alloc: Global) -> Course {
 
 /// Drives it over an account.
 fn drive(alloc: Global, port: &mut AccountPort) -> Result<CallEnd, Outcome> {
-    let call = (1, Number::new(SUBSCRIBER)?, Number::new("4930")?);
+    let call = (1, Number::new("491700001")?, Number::new("4930")?);
     let script = [(100, BcsmEvent::Answer)];
     Ok(drive_call(
         alloc,

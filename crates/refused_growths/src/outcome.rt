@@ -3,13 +3,9 @@
 use account_core::AccountFault;
 use cap_values::ValueFault;
 use one_call::DriveFault;
-use run_values::{RunFault, SetupFault};
 use shared_account::CloseFault;
-use std::alloc::{AllocError, AllocFailed};
+use std::alloc::AllocError;
 use std::io;
-use table_core::TableFault;
-use tariff_core::{TariffFault, TariffKind};
-use workers_core::WorkerFault;
 
 /// How a call went. It is the program's exit status.
 #[derive(Clone, Copy, PartialEq, Eq)]
@@ -57,12 +53,6 @@ impl From<AllocError> for Outcome {
     }
 }
 
-impl<T: Drop> From<AllocFailed<T>> for Outcome {
-    fn from(_error: AllocFailed<T>) -> Outcome {
-        Outcome::Refused
-    }
-}
-
 impl From<io::Error> for Outcome {
     fn from(_error: io::Error) -> Outcome {
         Outcome::Refused
@@ -78,36 +68,6 @@ impl From<AccountFault> for Outcome {
 impl From<CloseFault> for Outcome {
     fn from(_fault: CloseFault) -> Outcome {
         Outcome::Wrong
-    }
-}
-
-impl From<TariffFault> for Outcome {
-    fn from(fault: TariffFault) -> Outcome {
-        refused_if(fault.kind == TariffKind::OutOfMemory)
-    }
-}
-
-impl From<TableFault> for Outcome {
-    fn from(fault: TableFault) -> Outcome {
-        refused_if(fault == TableFault::OutOfMemory)
-    }
-}
-
-impl From<SetupFault> for Outcome {
-    fn from(fault: SetupFault) -> Outcome {
-        refused_if(fault == SetupFault::OutOfMemory)
-    }
-}
-
-impl From<WorkerFault> for Outcome {
-    fn from(fault: WorkerFault) -> Outcome {
-        refused_if(fault == WorkerFault::OutOfMemory)
-    }
-}
-
-impl From<RunFault> for Outcome {
-    fn from(fault: RunFault) -> Outcome {
-        refused_if(fault == RunFault::OutOfMemory || fault == RunFault::Thread)
     }
 }
 
