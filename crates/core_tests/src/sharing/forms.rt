@@ -81,6 +81,8 @@ fn entries_of(book: &Book, seat: u32) -> usize {
 pub(crate) enum Ask {
     /// A call wants 600 units and takes 50, at a moment.
     Reserve(u64, u64),
+    /// A call wants a unit more than a day.
+    PastDay(u64),
     /// A call has talked so many units.
     Settle(u64, u32),
     Return(u64),
@@ -91,13 +93,8 @@ pub(crate) enum Ask {
 /// The operation that asks it.
 pub(crate) fn op_of(ask: Ask) -> Op {
     match ask {
-        Ask::Reserve(call, at) => Op::Reserve {
-            call,
-            plan: CHEAPER,
-            wanted: 600,
-            least: 50,
-            at,
-        },
+        Ask::Reserve(call, at) => reserve(call, 600, at),
+        Ask::PastDay(call) => reserve(call, 864_001, 0),
         Ask::Settle(call, t) => Op::Settle {
             call,
             number: 7,
@@ -105,6 +102,16 @@ pub(crate) fn op_of(ask: Ask) -> Op {
         },
         Ask::Return(call) => Op::Return { call },
         Ask::Credit(amount, until) => Op::Credit { amount, until },
+    }
+}
+
+fn reserve(call: u64, wanted: u32, at: u64) -> Op {
+    Op::Reserve {
+        call,
+        plan: CHEAPER,
+        wanted,
+        least: 50,
+        at,
     }
 }
 

@@ -23,7 +23,7 @@ const ENDED: [Row; 7] = [
     (0, true, Ask::Return(5), Want::Returned(950, 0)),
 ];
 
-const REFUSED: [Row; 9] = [
+const REFUSED: [Row; 11] = [
     (
         0,
         false,
@@ -53,6 +53,18 @@ const REFUSED: [Row; 9] = [
         1,
         true,
         Ask::Credit(0, None),
+        Want::Fault(AccountFault::OutOfRange),
+    ),
+    (
+        1,
+        true,
+        Ask::Credit(MAX_MONEY + 1, None),
+        Want::Fault(AccountFault::OutOfRange),
+    ),
+    (
+        1,
+        true,
+        Ask::PastDay(1),
         Want::Fault(AccountFault::OutOfRange),
     ),
     (1, true, Ask::Credit(1, None), Want::Credited(101)),
