@@ -5,9 +5,9 @@ ghost use Rattle.std.specs.Prelude.{◌≡◌, ◌≤◌};
 use super::forms::{Ask, close, entries_of_each, op_of, says, two_seats, two_seats_within};
 use super::histories::{RUNS, Row, Run};
 use crate::answers::{Answer, Want};
-use crate::looking::gives;
-use account_core::{Account, AccountFault, Op, Port};
-use locked_account::{Seat, SharedAccount};
+use crate::looking::{gives, prints};
+use account_core::{Op, Port};
+use locked_account::SharedAccount;
 use price_core::MAX_MONEY;
 use shared_account::{Book, CloseFault, Gate, OpenGate, Shared, SharedPort};
 use std::alloc::Global;
@@ -159,37 +159,10 @@ fn asks_by_port<S: Shared, R: Abort + Wait>(rt: &R, alloc: Global) -> Result<(),
     Ok(())
 }
 
-const KEPT: [(Ask, Want); 4] = [
-    (Ask::Reserve(1, 0), Want::Granted(600, false, 450)),
-    (Ask::Settle(1, 600), Want::Settled(1050, 450)),
-    (Ask::Return(1), Want::Returned(1050, 450)),
-    (Ask::Return(1), Want::Fault(AccountFault::NotOpen)),
-];
-
-/// Asks an account from a seat, which keeps what it has entered.
-fn ask_from(rt: &impl Abort, seat: &mut Seat, account: &mut Account) {
-    for &(ask, want) in &KEPT {
-        let op = op_of(ask);
-        says(rt, op, seat.apply_to(account, op), want);
-    }
-    gives(rt, &"entries", &seat.mine().len(), &3);
-    gives(rt, &"entries", &seat.mine(), &account.history());
-}
-
-/// A seat keeps what it enters into an account of its own.
-fn keeps_its_entries(rt: &impl Abort, alloc: Global) -> Result<(), Fail> {
-    let (_, mut seat, other) = two_seats::<SharedAccount, _>(rt, alloc, 1, 1500, None)?;
-    gives(rt, &"seats", &(seat.number(), other.number()), &(0, 1));
-    let mut account = Account::new(alloc, 1500, None, 100);
-    ask_from(rt, &mut seat, &mut account);
-    Ok(())
-}
-
 #[test]
-fn keeps_what_it_has_entered(rt: HostRuntime) -> Result<(), Fail> {
+fn ports_ask_from_a_seat(rt: HostRuntime) -> Result<(), Fail> {
     asks_by_port::<SharedAccount, _>(&rt, rt.alloc())?;
-    asks_by_port::<TurnAccount, _>(&rt, rt.alloc())?;
-    keeps_its_entries(&rt, rt.alloc())
+    asks_by_port::<TurnAccount, _>(&rt, rt.alloc())
 }
 
 const FAULTS: [(CloseFault, u8, &str); 2] = [
@@ -202,12 +175,10 @@ const FAULTS: [(CloseFault, u8, &str); 2] = [
 ];
 
 #[test]
-fn names_its_faults(rt: HostRuntime) -> Result<(), Fail> {
+fn names_its_faults(rt: HostRuntime) {
     for &(fault, number, want) in &FAULTS {
-        let text = format!(in rt.alloc(); "{fault}")?;
-        let found = (fault.code(), text.as_str());
-        gives(&rt, &number, &found, &(number, want));
+        prints(&rt, rt.alloc(), &fault, &fault, want);
+        gives(&rt, &fault, &fault.code(), &number);
     }
     assert!(rt; OpenGate.before(0, 1) && OpenGate.inside(1));
-    Ok(())
 }
