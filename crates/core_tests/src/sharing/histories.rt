@@ -143,7 +143,7 @@ pub(crate) type Run = (
     &'static [CallSum],
 );
 
-pub(crate) const RUNS: [Run; 6] = [
+pub(crate) static RUNS: [Run; 6] = [
     (1500, None, 100, &[], (0, 0), 1500, &[]),
     (
         1500,
