@@ -41,6 +41,13 @@ FAILED = [
     *((*given, errno.EIO, 2, DEVICE) for given in INPUTS),
 ]
 
+# Books that are read row by row, and the fault of their last row: it comes once that row is read whole.
+REFUSED = [
+    ("account,seat\n", b"prepaid: book row 1: Header\n"),
+    (OPENING + "1,0,credit\n", b"prepaid: book row 3: Csv\n"),
+    (OPENING + "1,0,credit,,x,,,,,credited,,,1\n", b"prepaid: book row 3: Number\n"),
+]
+
 # A tariff and records, and what is printed of them.
 RECORDS = ("prefix,from,fee,rate,free\n49,00:00,50,1000,0\n49,08:00,50,400,0\n4915,00:00,0,1900,600\n%%\n"
            "called,answer,time,paid\n4930,0,600,1000\n")
@@ -109,11 +116,15 @@ class Devices(Trial):
 
 
 def read_inputs():
-    """An input that fails behind each of its bytes is a fault of its own. Nothing is printed but the records that were
-    rated before."""
+    """An input that fails behind each of its bytes is a fault of its own, but where a row that was read whole has another.
+    Nothing is printed but the records that were rated before."""
     for words, text, error, status, line in FAILED:
         for room in range(len(text) + 1):
             yield Row(words, text, "", line, status), {"input_room": room, "input_error": error}
+    for text, line in REFUSED:
+        for room in range(len(text)):
+            yield Row("audit --long", text, "", DEVICE, 2), {"input_room": room, "input_error": errno.EIO}
+        yield Row("audit --long", text, "", line, 1), {"input_room": len(text), "input_error": errno.EIO}
     text, fronts = RECORDS + "4930", [re.escape(RATED[:size]) for size in range(len(RATED) + 1)]
     row = Row("rate", text, re.compile("|".join(fronts).encode()), DEVICE, 2)
     for room in range(len(text) + 1):

@@ -18,6 +18,9 @@ JUDGED = [
     ("1,0,reserve,2,50,1000,400,600,50,granted,240,last,1\n", False),
     ("1,0,reserve,2,50,1000,400,600,50,credited,,,450\n", False),
     ("1,0,return,3,,,,,,returned,0,,450\n", False),
+    ("1,0,return,1,,,,,,granted,600,more,450\n", False),
+    ("1,0,reserve,2,50,1000,400,600,50,granted,600,more,450\n", False),
+    ("1,0,reserve,2,50,1000,400,600,50,denied,,,450\n", False),
     ('1,0,settle,1,9,s,100,200,,settled,450,,450\n"1",0,return,01,,,,,,returned,450,,1050\n', True),
 ]
 

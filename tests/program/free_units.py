@@ -1,4 +1,4 @@
-"""Runs whose tariff has free units, and books of each version."""
+"""Runs whose tariff has free units or billing steps, and books of each version."""
 from rows import ACCOUNT, CALL, Row, refused
 from runs import BOOK
 
@@ -41,6 +41,22 @@ account,seat,op,call,x1,x2,x3,x4,x5,reply,y1,y2,y3
 7,1,reserve,1,50,1000,,600,50,granted,600,more,950
 """
 
+# Steps of a tariff, its first ones and the further ones, and the book of the call.
+STEPS_HEADER = "account,seat,op,call,x1,x2,x3,x4,x5,x6,x7,x8,x9,reply,y1,y2,y3\n"
+STEPS_BOOKS = [
+    ("0,1", BOOK),
+    (
+        "600,1",
+        f"{STEPS_HEADER}7,,opening,,1500,,,,,,,,,,,,\n7,1,reserve,1,50,1000,,600,50,0,0,600,1,granted,600,more,450\n"
+        "7,1,settle,1,2,n,300,,,,,,,settled,1050,,450\n7,1,return,1,,,,,,,,,,returned,1050,,450\n",
+    ),
+    (
+        "0,60",
+        f"{STEPS_HEADER}7,,opening,,1500,,,,,,,,,,,,\n7,1,reserve,1,50,1000,,600,50,0,0,0,60,granted,600,more,450\n"
+        "7,1,settle,1,2,n,300,,,,,,,settled,550,,450\n7,1,return,1,,,,,,,,,,returned,550,,950\n",
+    ),
+]
+
 # Rows of a tariff with free units, and the first fault.
 FREE_REFUSED = [
     ("49,00:00,50,1000,864001\n", "tariff row 2: Free"),
@@ -65,15 +81,20 @@ BOOK_REFUSED = [
 ]
 
 
-def free_input(tariff):
-    """An input whose tariff has free units."""
-    return f"prefix,from,fee,rate,free\n{tariff}%%\nkind,key,value\n{ACCOUNT}%%\nmoment,call,what,x,y\n{CALL}"
+def free_input(tariff, columns=""):
+    """An input whose tariff has free units, and more columns behind them."""
+    return f"prefix,from,fee,rate,free{columns}\n{tariff}%%\nkind,key,value\n{ACCOUNT}%%\nmoment,call,what,x,y\n{CALL}"
 
 
 def rows():
     text = free_input("49,00:00,50,1000,300\n")
     yield Row("run", text, FREE_LINES)
     yield Row("run --book", text, FREE_BOOK)
+    for steps, book in STEPS_BOOKS:
+        text = free_input(f"49,00:00,50,1000,0,{steps}\n", ",first,step")
+        yield Row("run --book", text, book)
+        # without the call
+        yield Row("run --book", text.removesuffix(CALL), "".join(book.splitlines(keepends=True)[:2]))
     for tariff, fault in FREE_REFUSED:
         yield refused("run --workers 0", free_input(tariff), fault)
     for book in [FIRST_BOOK, SECOND_BOOK, BOOK, FREE_BOOK]:

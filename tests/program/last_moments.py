@@ -28,9 +28,10 @@ PLAYED = [
     ("699", "650,,recharge,7,1,\n", "account 7 opening 1500 available 451 entries 5\ncall 1 account 7 paid 1050 returned\n"),
 ]
 
-# The book of the call whose account has the last moment 699.
-BOOK = """\
-account,seat,op,call,x1,x2,x3,x4,x5,x6,x7,reply,y1,y2,y3
+# The header of a book, and that of the call whose account has the last moment 699.
+BOOK_HEADER = "account,seat,op,call,x1,x2,x3,x4,x5,x6,x7,reply,y1,y2,y3\n"
+BOOK = f"""\
+{BOOK_HEADER}\
 7,,opening,,1500,699,,,,,,,,,
 7,1,reserve,1,50,1000,,600,50,0,0,granted,600,more,450
 7,1,settle,1,2,n,600,,,,,settled,1050,,450
@@ -93,6 +94,25 @@ account,seat,op,call,x1,x2,x3,x4,x5,x6,x7,reply,y1,y2,y3
 7,1,settle,1,2,n,864000,,,,,settled,1441000000000,,559000000000
 """
 
+# The history of an account: a call is denied past the last moment, and granted once a credit has moved it.
+FIRST = "7,1,reserve,1,50,1000,400,600,50,0,1000,granted,600,more,450\n"
+DENIED = "7,0,reserve,2,50,1000,400,600,50,0,1001,denied,,,450\n"
+SETTLED = "7,1,settle,1,7,n,300,,,,,settled,550,,450\n"
+PROLONGED = "7,0,credit,,1,2000,,,,,,credited,,,451\n"
+LATER = "7,0,reserve,2,50,1000,400,600,50,0,1001,granted,240,last,1\n"
+ENDED = "7,1,return,1,,,,,,,,returned,550,,501\n"
+# Its second call at once, and what is left then.
+SECOND = LATER.replace(",1\n", ",0\n")
+
+# Entries of an account that was opened with 1500, and the last moments with which they are legal, and aren't.
+EXPIRED = [
+    ([FIRST, DENIED, SETTLED, PROLONGED, LATER, ENDED], ["1000"], ["999", "1001", ""]),
+    # the two replies of the second call are exchanged
+    ([FIRST, LATER, SETTLED, PROLONGED, DENIED, ENDED], [], ["1000"]),
+    ([FIRST, SECOND], ["", "1001"], ["1000"]),
+    ([FIRST, DENIED], ["1000"], [""]),
+]
+
 # Operations that are refused, and the fault.
 REFUSED_OPERATIONS = [
     ("0,reserve,1,50,1000,400,600,50,0,\n", "ops row 2: Number"),
@@ -141,5 +161,10 @@ def rows():
         yield refused("replay --opening 9", operations(asked), fault)
     for book in [BOOK, LATEST]:
         yield Row("audit", book, "account 7 yes\n")
+    for entries, legal, illegal in EXPIRED:
+        for until in legal + illegal:
+            word, status = ("yes", 0) if until in legal else ("no", 3)
+            book = f"{BOOK_HEADER}7,,opening,,1500,{until},,,,,,,,,\n{''.join(entries)}"
+            yield Row("audit", book, f"account 7 {word}\n", status=status)
     for entries, fault in REFUSED_BOOKS:
-        yield refused("audit", f"account,seat,op,call,x1,x2,x3,x4,x5,x6,x7,reply,y1,y2,y3\n{entries}", fault)
+        yield refused("audit", BOOK_HEADER + entries, fault)

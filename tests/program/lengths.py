@@ -1,4 +1,6 @@
 """Inputs of great length."""
+from accounts import HEADER as OPERATIONS, credit, reserve, returned, talked
+from audits import HEADER as BOOK
 from rows import BAND, PRICE, Row, refused, run_input
 
 # A tariff, the line that divides, and the header of records.
@@ -8,6 +10,21 @@ RECORD = "4930,0,600,ok\n"
 RATED = "4930,0,600,ok,49,600,0,1050,,\n"
 # What is printed of the header.
 RATED_HEADER = "called,answer,time,note,prefix,before,after,price,difference,fault\n"
+
+# A call that is paid for, is granted 600 units and talks all of them.
+CALL = """\
+1,0,credit,,1050,,,,,credited,,,1050
+1,0,reserve,{0},50,1000,400,600,50,granted,600,more,0
+1,0,settle,{0},7,n,600,,,settled,1050,,0
+1,0,return,{0},,,,,,returned,1050,,0
+"""
+# What an account without money answers to such a call.
+ANSWERED = """\
+credited available 1050
+granted 600 more available 0
+settled paid 1050 available 0
+returned paid 1050 available 0
+"""
 
 # The notes of long rows, and what is printed of them: what comes first, a piece and how often it comes, and what comes last.
 # The three fields before the note have 11 of the 131072 bytes.
@@ -39,13 +56,27 @@ def numbers_of_rows():
     """As many rows as a table may have, and one more."""
     reports = "before,after\n" + "0,0\n" * 10_000
     yield Row(PRICE, reports, "debit 0 total 0\n" * 10_000 + "total 0\n")
-    for more in ["x,0\n", "x,0\nx\n"]:
-        yield refused(PRICE, reports + more, "reports row 10002: TooManyRows")
+    for more, kind in [("x,0\n", "TooManyRows"), ("x,0\nx\n", "TooManyRows"), ("x\n", "Csv")]:
+        yield refused(PRICE, reports + more, f"reports row 10002: {kind}")
+    bands = "prefix,from,fee,rate\n" + "".join(f"{prefix},00:00,{prefix},1\n" for prefix in range(10_000, 20_000))
+    yield Row("quote --called 123456 --at 5", bands, "prefix 12345 from 00:00 fee 12345 rate 1 free 0\n")
+    yield refused("quote --called 123456 --at 5", f"{bands}1,00:00,0,0\n", "tariff row 10002: TooManyRows")
     accounts = numbered(1_000, "account,", ",0")
     yield Row("run", run_input("", accounts, ""), numbered(1_000, "account ", " opening 0 available 0 entries 0"))
     yield refused("run", run_input("", accounts + "account,7,0\n", ""), "setup row 1002: TooManyRows")
     recharges = run_input("", "account,7,0\n", "0,,recharge,7,1\n" * 100)
     yield Row("run --workers 1", recharges, "account 7 opening 0 available 100 entries 100\n")
+
+
+def many_calls():
+    """A book of 1000 calls, each with a credit for all that it costs, and the same that are replayed."""
+    calls = range(1, 1001)
+    entries = "".join(CALL.format(call) for call in calls)
+    lines = "".join(f"call {call} account 1 paid 1050 returned\n" for call in calls)
+    output = f"account 1 opening 0 available 0 entries 4000\n{lines}"
+    yield Row("audit --lines", f"{BOOK}1,,opening,,0,,,,,,,,\n{entries}", output)
+    asked = "".join(credit(1050) + reserve(call, 600) + talked(call, 600) + returned(call) for call in calls)
+    yield Row("replay --opening 0", OPERATIONS + asked, ANSWERED * 1000)
 
 
 def noted(note):
@@ -74,5 +105,6 @@ def long_headers():
 
 def rows():
     yield from numbers_of_rows()
+    yield from many_calls()
     yield from long_rows()
     yield from long_headers()

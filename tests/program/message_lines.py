@@ -90,6 +90,9 @@ def rows():
         before = "".join(stray(f"0,{number},9,switch,Ended,,,,") for number in range(count))
         yield Row("serve", head + b"0,,9,switch,Ended,,,,\n" * count + line, HEADER + before + stray(printed))
     yield Row("serve", head + FIRST, HEADER + GRANTED)
+    last = "2000000000000,0,1,"
+    first = f"{last}switch,InitialDP,491700001,4930,,\n"
+    yield Row("serve", f"{front}{first}", HEADER + GRANTED.replace("0,0,1,", last))
     for size, end, kind in LONG:
         rest, said = ("5,,,operator,Recharge,7,500,,\n", "5,0,,operator,Recharge,7,500,,\n") if end else ("", "")
         yield Row("serve", f"{front}{'x' * size}{end}{rest}", f"{HEADER},,,service,fault,{kind},2,,\n{said}")

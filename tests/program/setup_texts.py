@@ -27,6 +27,8 @@ REFUSED = [
     ("account,7,+1", "row 2: Number"),
     ("account,7,1\nsubscriber,,7", "row 3: Number"),
     ("account,7,1\nsubscriber,49a,7", "row 3: Number"),
+    ("account,7,1\nsubscriber,49 170,7", "row 3: Number"),
+    ("account,7,1\nsubscriber,+49170,7", "row 3: Number"),
     ("account,7,1\nsubscriber,49é,7", "row 3: Number"),
     ("account,7,1\nsubscriber,1234567890123456,7", "row 3: Number"),
     ("account,7,1\nsubscriber,49,x", "row 3: Number"),

@@ -64,6 +64,8 @@ OPTIONS = [
     ("run --wanted 000000000000000000600", 1, ARGUMENTS),
     ("run --wanted ", 1, ARGUMENTS),
     ("run --wanted +600", 1, ARGUMENTS),
+    ("run --wanted 864000 --least 1 --tccd 1 --delay 1", 0, ""),
+    ("run --wanted 864000 --least 864000 --tccd 864000", 0, ""),
     ("run --least 49", 1, CONFIG),
     ("run --least 600", 0, ""),
     ("run --least 601", 1, CONFIG),

@@ -25,16 +25,3 @@ pub(crate) fn prints<I: Debug, T: Display>(
     let text = printed.to_string(alloc).expect(rt, "memory");
     gives(rt, input, &text.as_str(), &want);
 }
-
-/// Looks at the number of a fault, and at the text that is printed for it.
-pub(crate) fn reads<I: Debug, T: Display>(
-    rt: &impl Abort,
-    alloc: Global,
-    input: &I,
-    printed: &T,
-    number: u8,
-    want: (u8, &str),
-) {
-    let text = printed.to_string(alloc).expect(rt, "memory");
-    gives(rt, input, &(number, text.as_str()), &want);
-}

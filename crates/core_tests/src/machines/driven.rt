@@ -15,6 +15,8 @@ use std::process::Abort;
 /// What a port does in place of asking its account.
 #[derive(Clone, Copy)]
 enum Habit {
+    /// It asks.
+    Asks,
     /// It refuses each Settle.
     Refuses,
     /// It refuses everything.
@@ -60,10 +62,11 @@ const BACKWARDS: Script = &[(100, BcsmEvent::Answer), (50, BcsmEvent::Busy)];
 
 const UNASKED: Left = (0, None, 1500);
 
-/// The opening credit with its last moment, the delay and the script of a call, how it ends, and
-/// what is left.
-static CALLS: [((u64, Option<u64>), u32, Script, End, Left); 10] = [
+/// A habit, the opening credit with its last moment, the delay and the script of a call, how it
+/// ends, and what is left.
+static CALLS: [(Habit, (u64, Option<u64>), u32, Script, End, Left); 14] = [
     (
+        Habit::Asks,
         (1500, None),
         2,
         ANSWER,
@@ -71,6 +74,7 @@ static CALLS: [((u64, Option<u64>), u32, Script, End, Left); 10] = [
         (5, Some(1500), 0),
     ),
     (
+        Habit::Asks,
         (1050, None),
         2,
         ANSWER,
@@ -78,6 +82,7 @@ static CALLS: [((u64, Option<u64>), u32, Script, End, Left); 10] = [
         (4, Some(1050), 0),
     ),
     (
+        Habit::Asks,
         (1500, None),
         2,
         BUSY,
@@ -86,15 +91,31 @@ static CALLS: [((u64, Option<u64>), u32, Script, End, Left); 10] = [
     ),
     // A further period comes too late.
     (
+        Habit::Asks,
         (1500, None),
         50,
         ANSWER,
         Ok((1, Some(600), 0, 1)),
         (4, Some(1050), 450),
     ),
-    ((1500, None), 0, ANSWER, Err(DriveFault::Delay), UNASKED),
-    ((1500, None), 51, ANSWER, Err(DriveFault::Delay), UNASKED),
     (
+        Habit::Asks,
+        (1500, None),
+        0,
+        ANSWER,
+        Err(DriveFault::Delay),
+        UNASKED,
+    ),
+    (
+        Habit::Asks,
+        (1500, None),
+        51,
+        ANSWER,
+        Err(DriveFault::Delay),
+        UNASKED,
+    ),
+    (
+        Habit::Asks,
         (1500, None),
         2,
         BACKWARDS,
@@ -102,6 +123,7 @@ static CALLS: [((u64, Option<u64>), u32, Script, End, Left); 10] = [
         UNASKED,
     ),
     (
+        Habit::Asks,
         (1500, None),
         0,
         BACKWARDS,
@@ -110,6 +132,7 @@ static CALLS: [((u64, Option<u64>), u32, Script, End, Left); 10] = [
     ),
     // The second period is asked for at 700.
     (
+        Habit::Asks,
         (1500, Some(700)),
         2,
         ANSWER,
@@ -117,27 +140,42 @@ static CALLS: [((u64, Option<u64>), u32, Script, End, Left); 10] = [
         (5, Some(1500), 0),
     ),
     (
+        Habit::Asks,
         (1500, Some(699)),
         2,
         ANSWER,
         Ok((1, Some(600), 0, 0)),
         (4, Some(1050), 450),
     ),
-];
-
-/// The same of a port with a habit, to an account with 1500, with a delay of 2.
-const HABITS: [(Habit, Script, End, Left); 4] = [
-    (Habit::Closed, &[], Ok((0, None, 0, 0)), UNASKED),
+    (
+        Habit::Closed,
+        (1500, None),
+        2,
+        &[],
+        Ok((0, None, 0, 0)),
+        UNASKED,
+    ),
     // Its call is cleared by the time that it would be answered.
-    (Habit::Closed, ANSWER, Ok((0, None, 0, 1)), UNASKED),
+    (
+        Habit::Closed,
+        (1500, None),
+        2,
+        ANSWER,
+        Ok((0, None, 0, 1)),
+        UNASKED,
+    ),
     (
         Habit::Refuses,
+        (1500, None),
+        2,
         ANSWER,
         Ok((1, Some(600), 0, 0)),
         (2, Some(0), 1500),
     ),
     (
         Habit::Forfeits,
+        (1500, None),
+        2,
         ANSWER,
         Ok((1, Some(600), 1, 0)),
         (2, Some(0), 1500),
@@ -169,9 +207,9 @@ const ROUTE: Route = Route {
 };
 
 /// Drives call 1 from 0.
-fn driven<R: Abort + AllocGlobal, P: Port>(
+fn driven<R: Abort + AllocGlobal>(
     rt: &R,
-    port: &mut P,
+    till: &mut Till,
     delay: u32,
     script: Script,
 ) -> Result<CallEnd, DriveFault> {
@@ -189,7 +227,7 @@ fn driven<R: Abort + AllocGlobal, P: Port>(
         call,
         Some(ROUTE),
         script,
-        port,
+        till,
     )
 }
 
@@ -212,45 +250,27 @@ fn left(account: &Account) -> Left {
     )
 }
 
-/// Opens an account, drives a call over it, and looks at how it ends and what is left.
+/// Opens an account, drives a call over it by a port with a habit, and looks at how it ends and
+/// what is left.
 fn drives<R: Abort + AllocGlobal>(
     rt: &R,
+    habit: Habit,
     (opening, until): (u64, Option<u64>),
     delay: u32,
     script: Script,
     want: &(Result<CallEnd, DriveFault>, Left),
 ) {
     assert!(rt; opening <= MAX_MONEY);
-    let mut port = AccountPort::new(Account::new(rt.alloc(), opening, until, 1000), 0);
-    let met = driven(rt, &mut port, delay, script);
-    let found = (met, left(&port.account));
+    let port = AccountPort::new(Account::new(rt.alloc(), opening, until, 1000), 0);
+    let mut till = Till { port, habit };
+    let met = driven(rt, &mut till, delay, script);
+    let found = (met, left(&till.port.account));
     gives(rt, &(until, delay, script), &found, want);
 }
 
 #[test]
 fn calls_are_paid_or_not_driven(rt: HostRuntime) {
-    for &(opened, delay, script, end, account) in &CALLS {
-        drives(&rt, opened, delay, script, &(end_of(end), account));
-    }
-}
-
-/// Drives a call over a port with a habit, and looks at how it ends and what is left.
-fn drives_by_habit<R: Abort + AllocGlobal>(
-    rt: &R,
-    habit: Habit,
-    script: Script,
-    want: &(Result<CallEnd, DriveFault>, Left),
-) {
-    let port = AccountPort::new(Account::new(rt.alloc(), 1500, None, 1000), 0);
-    let mut till = Till { port, habit };
-    let met = driven(rt, &mut till, 2, script);
-    let found = (met, left(&till.port.account));
-    gives(rt, &script, &found, want);
-}
-
-#[test]
-fn a_port_refuses_or_forfeits(rt: HostRuntime) {
-    for &(habit, script, end, account) in &HABITS {
-        drives_by_habit(&rt, habit, script, &(end_of(end), account));
+    for &(habit, opened, delay, script, end, account) in &CALLS {
+        drives(&rt, habit, opened, delay, script, &(end_of(end), account));
     }
 }

@@ -1,6 +1,6 @@
 //! The texts and the numbers of faults.
 
-use crate::looking::reads;
+use crate::looking::{gives, prints};
 use account_core::AccountFault;
 use dialogue_core::DialogueFault;
 use one_call::DriveFault;
@@ -45,34 +45,31 @@ const DRIVE_FAULTS: [(DriveFault, u8, &str); 3] = [
 #[test]
 fn account_faults_have_texts_and_numbers(rt: HostRuntime) {
     for &(fault, number, want) in &ACCOUNT_FAULTS {
-        reads(&rt, rt.alloc(), &fault, &fault, fault as u8, (number, want));
+        prints(&rt, rt.alloc(), &fault, &fault, want);
+        gives(&rt, &fault, &(fault as u8), &number);
     }
 }
 
 #[test]
 fn ssf_faults_have_texts_and_numbers(rt: HostRuntime) {
     for &(fault, number, want) in &SSF_FAULTS {
-        reads(&rt, rt.alloc(), &fault, &fault, fault as u8, (number, want));
+        prints(&rt, rt.alloc(), &fault, &fault, want);
+        gives(&rt, &fault, &(fault as u8), &number);
     }
 }
 
 #[test]
 fn dialogue_faults_have_texts_and_numbers(rt: HostRuntime) {
     for &(fault, number, want) in &DIALOGUE_FAULTS {
-        reads(
-            &rt,
-            rt.alloc(),
-            &fault,
-            &fault,
-            fault.code(),
-            (number, want),
-        );
+        prints(&rt, rt.alloc(), &fault, &fault, want);
+        gives(&rt, &fault, &fault.code(), &number);
     }
 }
 
 #[test]
 fn drive_faults_have_texts_and_numbers(rt: HostRuntime) {
     for &(fault, number, want) in &DRIVE_FAULTS {
-        reads(&rt, rt.alloc(), &fault, &fault, fault as u8, (number, want));
+        prints(&rt, rt.alloc(), &fault, &fault, want);
+        gives(&rt, &fault, &(fault as u8), &number);
     }
 }

@@ -7,8 +7,13 @@ use super::ssf_rows::{CALLS, Input, Row, Sent, Start};
 use crate::looking::gives;
 use cap_values::{Cause, Event, Mode, ScfOp, SsfMsg};
 use price_core::HORIZON;
-use ssf_core::{BcsmEvent, DefaultHandling, Item, Moment, Out, Ssf, SsfConfig, State, Step};
+use ssf_core::{
+    BcsmEvent, DefaultHandling, Item, Moment, Out, Ssf, SsfConfig, SsfFault, State, Step,
+};
 use std::process::Abort;
+
+/// `tssf` and `tccd` of a gsmSSF that don't fit.
+const NO_TIMERS: [(u32, u32); 4] = [(0, 50), (100, 0), (864_001, 50), (100, 864_001)];
 
 /// The last moment that a gsmSSF takes.
 const LATEST: Moment = 2_000_000_000_000;
@@ -28,8 +33,8 @@ fn item_of(sent: &Sent) -> Item {
 fn triggered(rt: &impl Abort, default_handling: DefaultHandling) -> Ssf {
     let config = SsfConfig::new(100, 50, default_handling).expect(rt, "a configuration");
     let mut ssf = Ssf::new(config);
-    assert!(rt; ssf.state() == State::Idle);
-    assert!(rt; ssf.invoke(0).fault == None && ssf.state() == State::WaitForRequest);
+    let idle = ssf.state();
+    let invoked = (ssf.invoke(0).fault, ssf.state());
     let (calling, called) = (number(rt, "491700001"), number(rt, "4930123456"));
     let step = ssf.trigger(0, 1, calling, called);
     let asked = Out {
@@ -41,8 +46,10 @@ fn triggered(rt: &impl Abort, default_handling: DefaultHandling) -> Ssf {
         }),
     };
     gives(rt, &0, &step.sent.as_slice(), &[asked].as_slice());
-    let found = (ssf.state(), ssf.next_due());
-    gives(rt, &0, &found, &(State::WaitingForInstructions, Some(100)));
+    let found = (idle, invoked, ssf.state(), ssf.next_due());
+    let waits = (None, State::WaitForRequest);
+    let want = (State::Idle, waits, State::WaitingForInstructions, Some(100));
+    gives(rt, &0, &found, &want);
     ssf
 }
 
@@ -53,14 +60,14 @@ fn monitored(rt: &impl Abort, at: Moment, switch: Option<u32>, busy: Mode) -> Ss
     let mut ssf = triggered(rt, DefaultHandling::Release);
     let watched = ssf.operation(at, arms(rt, busy));
     let charged = ssf.operation(at, charge(rt, 600, switch, false));
-    gives(rt, &at, &(watched.fault, charged.fault), &(None, None));
     let step = ssf.operation(at, ScfOp::Continue);
     let proceed = Out {
         at,
         item: Item::Proceed,
     };
     gives(rt, &at, &step.sent.as_slice(), &[proceed].as_slice());
-    gives(rt, &at, &ssf.state(), &State::Monitoring);
+    let found = (watched.fault, charged.fault, ssf.state());
+    gives(rt, &at, &found, &(None, None, State::Monitoring));
     ssf
 }
 
@@ -132,6 +139,11 @@ fn runs(rt: &impl Abort, name: &str, ssf: &mut Ssf, rows: &[Row]) {
 
 #[test]
 fn calls_run(rt: HostRuntime) {
+    for &(tssf, tccd) in &NO_TIMERS {
+        let made = SsfConfig::new(tssf, tccd, DefaultHandling::Release);
+        let fault = Some(SsfFault::ParameterOutOfRange);
+        gives(&rt, &(tssf, tccd), &made.err(), &fault);
+    }
     for (name, start, rows) in &CALLS {
         let mut ssf = started(&rt, start);
         runs(&rt, name, &mut ssf, rows);

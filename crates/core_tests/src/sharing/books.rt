@@ -5,45 +5,38 @@ ghost use Rattle.std.specs.Prelude.{◌≡◌, ◌≤◌};
 use super::forms::{Ask, close, entries_of_each, op_of, says, two_seats, two_seats_within};
 use super::histories::{RUNS, Row, Run};
 use crate::answers::{Answer, Want};
-use crate::looking::gives;
-use account_core::{Account, AccountFault, Op, Port};
-use locked_account::{Seat, SharedAccount};
+use crate::looking::{gives, prints};
+use account_core::{Op, Port};
+use locked_account::SharedAccount;
 use price_core::MAX_MONEY;
 use shared_account::{Book, CloseFault, Gate, OpenGate, Shared, SharedPort};
 use std::alloc::Global;
 use std::process::Abort;
 use std::sync::Wait;
-use std::test::Fail;
 use turn_account::TurnAccount;
 
 /// Closes an account with its seats in another order.
-fn refuses_an_exchange<S: Shared, R: Abort>(rt: &R, alloc: Global) -> Result<(), Fail> {
-    let (account, first, second) = two_seats::<S, R>(rt, alloc, 1, 1500, None)?;
-    let closed = close(alloc, account, second, first)?;
-    gives(rt, &"exchanged", &closed.err(), &Some(CloseFault::Seats));
-    Ok(())
+fn refuses_an_exchange<S: Shared, R: Abort>(rt: &R, alloc: Global) {
+    let (account, first, second) = two_seats::<S, R>(rt, alloc, 1, 1500, None);
+    let fault = close(rt, alloc, account, second, first).err();
+    gives(rt, &"exchanged", &fault, &Some(CloseFault::Seats));
 }
 
 /// Closes an account with a seat too few.
-fn refuses_a_lack<S: Shared, R: Abort>(rt: &R, alloc: Global) -> Result<(), Fail> {
-    let (account, first, _) = two_seats::<S, R>(rt, alloc, 1, 1500, None)?;
-    let mut seats = Vec::with_capacity(alloc, 1)?;
+fn refuses_a_lack<S: Shared, R: Abort>(rt: &R, alloc: Global) {
+    let (account, first, _) = two_seats::<S, R>(rt, alloc, 1, 1500, None);
+    let mut seats = Vec::with_capacity(alloc, 1).expect(rt, "memory");
     seats.push_reserved(first);
     let fault = account.close(seats).err();
     gives(rt, &"a lack", &fault, &Some(CloseFault::Seats));
-    Ok(())
-}
-
-/// Closes accounts of a form with seats in another order, and with a seat too few.
-fn refuses_seats<S: Shared, R: Abort>(rt: &R, alloc: Global) -> Result<(), Fail> {
-    refuses_an_exchange::<S, R>(rt, alloc)?;
-    refuses_a_lack::<S, R>(rt, alloc)
 }
 
 #[test]
-fn closes_with_all_seats_in_order(rt: HostRuntime) -> Result<(), Fail> {
-    refuses_seats::<SharedAccount, _>(&rt, rt.alloc())?;
-    refuses_seats::<TurnAccount, _>(&rt, rt.alloc())
+fn closes_with_all_seats_in_order(rt: HostRuntime) {
+    refuses_an_exchange::<SharedAccount, _>(&rt, rt.alloc());
+    refuses_a_lack::<SharedAccount, _>(&rt, rt.alloc());
+    refuses_an_exchange::<TurnAccount, _>(&rt, rt.alloc());
+    refuses_a_lack::<TurnAccount, _>(&rt, rt.alloc());
 }
 
 /// A gate of accounts, which is open or shut.
@@ -93,19 +86,19 @@ fn book_of<S: Shared, R: Abort + Wait>(
     alloc: Global,
     terms: (u64, Option<u64>, u32),
     rows: &[Row],
-) -> Result<Book, Fail>
+) -> Book
     requires { terms.0 ≤ MAX_MONEY }
 {
     let (opening, until, limit) = terms;
     let (account, mut first, mut second) = two_seats_within::<S, R>(
         rt, alloc, 1, opening, until, limit,
-    )?;
+    );
     for (seat, open, ask, want) in rows {
         let (op, gate) = (op_of(*ask), Door { open: *open });
         let answer = ask_one(rt, &account, &mut first, &mut second, *seat, op, gate);
         says(rt, op, answer, *want);
     }
-    Ok(close(alloc, account, first, second)??)
+    close(rt, alloc, account, first, second).expect(rt, "a book")
 }
 
 /// Compares a book with what its account was opened with.
@@ -119,77 +112,47 @@ fn expect_terms(rt: &impl Abort, book: &Book, run: &Run) {
 }
 
 /// Compares what a book sums up to.
-fn expect_summary(rt: &impl Abort, alloc: Global, book: &Book, run: &Run) -> Result<(), Fail> {
+fn expect_summary(rt: &impl Abort, alloc: Global, book: &Book, run: &Run) {
     let (opening, _, _, _, made, available, calls) = run;
-    let summary = book.summary(alloc)?;
+    let summary = book.summary(alloc).expect(rt, "memory");
     let found = (summary.account, summary.opening, summary.available);
     gives(rt, made, &found, &(1, *opening, *available));
     gives(rt, made, &summary.entries, &made.0.saturating_add(made.1));
     gives(rt, made, &summary.calls.as_slice(), calls);
-    Ok(())
 }
 
 /// Compares the book of an account of a form, and what it sums up to.
-fn sums_up<S: Shared, R: Abort + Wait>(rt: &R, alloc: Global, run: &Run) -> Result<(), Fail> {
+fn sums_up<S: Shared, R: Abort + Wait>(rt: &R, alloc: Global, run: &Run) {
     let (opening, until, limit, rows, _, _, _) = run;
     assert!(rt; *opening <= MAX_MONEY);
-    let book = book_of::<S, R>(rt, alloc, (*opening, *until, *limit), rows)?;
+    let book = book_of::<S, R>(rt, alloc, (*opening, *until, *limit), rows);
     expect_terms(rt, &book, run);
-    expect_summary(rt, alloc, &book, run)
+    expect_summary(rt, alloc, &book, run);
 }
 
 #[test]
-fn sums_up_its_calls(rt: HostRuntime) -> Result<(), Fail> {
+fn sums_up_its_calls(rt: HostRuntime) {
     for run in &RUNS {
-        sums_up::<SharedAccount, _>(&rt, rt.alloc(), run)?;
-        sums_up::<TurnAccount, _>(&rt, rt.alloc(), run)?;
+        sums_up::<SharedAccount, _>(&rt, rt.alloc(), run);
+        sums_up::<TurnAccount, _>(&rt, rt.alloc(), run);
     }
-    Ok(())
 }
 
 /// A port asks from its seat, and another seat is answered after it.
-fn asks_by_port<S: Shared, R: Abort + Wait>(rt: &R, alloc: Global) -> Result<(), Fail> {
-    let (account, mut first, mut second) = two_seats::<S, R>(rt, alloc, 1, 1500, None)?;
+fn asks_by_port<S: Shared, R: Abort + Wait>(rt: &R, alloc: Global) {
+    let (account, mut first, mut second) = two_seats::<S, R>(rt, alloc, 1, 1500, None);
     let mut port = SharedPort::new(&account, &mut second, rt, &OpenGate);
     let op = op_of(Ask::Reserve(1, 0));
     says(rt, op, port.ask(op), Want::Granted(600, false, 450));
     let op = op_of(Ask::Credit(10, None));
     let answer = account.call(rt, &mut first, op, &OpenGate);
     says(rt, op, answer, Want::Credited(460));
-    Ok(())
-}
-
-const KEPT: [(Ask, Want); 4] = [
-    (Ask::Reserve(1, 0), Want::Granted(600, false, 450)),
-    (Ask::Settle(1, 600), Want::Settled(1050, 450)),
-    (Ask::Return(1), Want::Returned(1050, 450)),
-    (Ask::Return(1), Want::Fault(AccountFault::NotOpen)),
-];
-
-/// Asks an account from a seat, which keeps what it has entered.
-fn ask_from(rt: &impl Abort, seat: &mut Seat, account: &mut Account) {
-    for &(ask, want) in &KEPT {
-        let op = op_of(ask);
-        says(rt, op, seat.apply_to(account, op), want);
-    }
-    gives(rt, &"entries", &seat.mine().len(), &3);
-    gives(rt, &"entries", &seat.mine(), &account.history());
-}
-
-/// A seat keeps what it enters into an account of its own.
-fn keeps_its_entries(rt: &impl Abort, alloc: Global) -> Result<(), Fail> {
-    let (_, mut seat, other) = two_seats::<SharedAccount, _>(rt, alloc, 1, 1500, None)?;
-    gives(rt, &"seats", &(seat.number(), other.number()), &(0, 1));
-    let mut account = Account::new(alloc, 1500, None, 100);
-    ask_from(rt, &mut seat, &mut account);
-    Ok(())
 }
 
 #[test]
-fn keeps_what_it_has_entered(rt: HostRuntime) -> Result<(), Fail> {
-    asks_by_port::<SharedAccount, _>(&rt, rt.alloc())?;
-    asks_by_port::<TurnAccount, _>(&rt, rt.alloc())?;
-    keeps_its_entries(&rt, rt.alloc())
+fn ports_ask_from_a_seat(rt: HostRuntime) {
+    asks_by_port::<SharedAccount, _>(&rt, rt.alloc());
+    asks_by_port::<TurnAccount, _>(&rt, rt.alloc());
 }
 
 const FAULTS: [(CloseFault, u8, &str); 2] = [
@@ -202,12 +165,10 @@ const FAULTS: [(CloseFault, u8, &str); 2] = [
 ];
 
 #[test]
-fn names_its_faults(rt: HostRuntime) -> Result<(), Fail> {
+fn names_its_faults(rt: HostRuntime) {
     for &(fault, number, want) in &FAULTS {
-        let text = format!(in rt.alloc(); "{fault}")?;
-        let found = (fault.code(), text.as_str());
-        gives(&rt, &number, &found, &(number, want));
+        prints(&rt, rt.alloc(), &fault, &fault, want);
+        gives(&rt, &fault, &fault.code(), &number);
     }
     assert!(rt; OpenGate.before(0, 1) && OpenGate.inside(1));
-    Ok(())
 }

@@ -1,6 +1,6 @@
 //! What the tests do with an account of either form.
 
-ghost use Rattle.std.specs.Prelude.{◌≡◌, ◌≤◌, IfOk};
+ghost use Rattle.std.specs.Prelude.{◌≡◌, ◌≤◌};
 
 use crate::answers::{Answer, Want, answer_of};
 use crate::looking::gives;
@@ -8,9 +8,8 @@ use crate::plans::CHEAPER;
 use account_core::Op;
 use price_core::{MAX_MONEY, TimeInfo};
 use shared_account::{Book, CloseFault, Shared};
-use std::alloc::{AllocError, Global};
+use std::alloc::Global;
 use std::process::Abort;
-use std::test::Fail;
 
 /// An account with two seats, and room for 100 entries.
 pub(crate) fn two_seats<S: Shared, R: Abort>(
@@ -19,10 +18,10 @@ pub(crate) fn two_seats<S: Shared, R: Abort>(
     number: u32,
     opening: u64,
     until: Option<u64>,
-) -> Result<(S, S::Seat, S::Seat), Fail>
+) -> (S, S::Seat, S::Seat)
     requires { opening ≤ MAX_MONEY }
-    ensures first { IfOk result (λ made. S.reads.key made.1 ≡ S.key made.0) }
-    ensures second { IfOk result (λ made. S.reads.key made.2 ≡ S.key made.0) }
+    ensures first { S.reads.key result.1 ≡ S.key result.0 }
+    ensures second { S.reads.key result.2 ≡ S.key result.0 }
 {
     two_seats_within(rt, alloc, number, opening, until, 100)
 }
@@ -35,31 +34,33 @@ pub(crate) fn two_seats_within<S: Shared, R: Abort>(
     opening: u64,
     until: Option<u64>,
     limit: u32,
-) -> Result<(S, S::Seat, S::Seat), Fail>
+) -> (S, S::Seat, S::Seat)
     requires { opening ≤ MAX_MONEY }
-    ensures first { IfOk result (λ made. S.reads.key made.1 ≡ S.key made.0) }
-    ensures second { IfOk result (λ made. S.reads.key made.2 ≡ S.key made.0) }
+    ensures first { S.reads.key result.1 ≡ S.key result.0 }
+    ensures second { S.reads.key result.2 ≡ S.key result.0 }
 {
-    let (account, mut seats) = S::new(rt, alloc, number, opening, until, limit, 2)?;
+    let made = S::new(rt, alloc, number, opening, until, limit, 2);
+    let (account, mut seats) = made.expect(rt, "memory");
     let second = seats.pop().expect(rt, "two seats");
     let first = seats.pop().expect(rt, "two seats");
-    Ok((account, first, second))
+    (account, first, second)
 }
 
 /// Closes an account whose two seats are handed in, in this order.
-pub(crate) fn close<S: Shared>(
+pub(crate) fn close<S: Shared, R: Abort>(
+    rt: &R,
     alloc: Global,
     account: S,
     first: S::Seat,
     second: S::Seat,
-) -> Result<Result<Book, CloseFault>, AllocError>
+) -> Result<Book, CloseFault>
     requires first { S.reads.key first ≡ S.key account }
     requires second { S.reads.key second ≡ S.key account }
 {
-    let mut seats = Vec::with_capacity(alloc, 2)?;
+    let mut seats = Vec::with_capacity(alloc, 2).expect(rt, "memory");
     seats.push_reserved(first);
     seats.push_reserved(second);
-    Ok(account.close(seats))
+    account.close(seats)
 }
 
 /// How many entries of a book each of the two seats has made.
@@ -81,6 +82,8 @@ fn entries_of(book: &Book, seat: u32) -> usize {
 pub(crate) enum Ask {
     /// A call wants 600 units and takes 50, at a moment.
     Reserve(u64, u64),
+    /// A call wants a unit more than a day.
+    PastDay(u64),
     /// A call has talked so many units.
     Settle(u64, u32),
     Return(u64),
@@ -91,13 +94,8 @@ pub(crate) enum Ask {
 /// The operation that asks it.
 pub(crate) fn op_of(ask: Ask) -> Op {
     match ask {
-        Ask::Reserve(call, at) => Op::Reserve {
-            call,
-            plan: CHEAPER,
-            wanted: 600,
-            least: 50,
-            at,
-        },
+        Ask::Reserve(call, at) => reserve(call, 600, at),
+        Ask::PastDay(call) => reserve(call, 864_001, 0),
         Ask::Settle(call, t) => Op::Settle {
             call,
             number: 7,
@@ -105,6 +103,16 @@ pub(crate) fn op_of(ask: Ask) -> Op {
         },
         Ask::Return(call) => Op::Return { call },
         Ask::Credit(amount, until) => Op::Credit { amount, until },
+    }
+}
+
+fn reserve(call: u64, wanted: u32, at: u64) -> Op {
+    Op::Reserve {
+        call,
+        plan: CHEAPER,
+        wanted,
+        least: 50,
+        at,
     }
 }
 

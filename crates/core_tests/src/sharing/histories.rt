@@ -23,7 +23,7 @@ const ENDED: [Row; 7] = [
     (0, true, Ask::Return(5), Want::Returned(950, 0)),
 ];
 
-const REFUSED: [Row; 9] = [
+const REFUSED: [Row; 11] = [
     (
         0,
         false,
@@ -53,6 +53,18 @@ const REFUSED: [Row; 9] = [
         1,
         true,
         Ask::Credit(0, None),
+        Want::Fault(AccountFault::OutOfRange),
+    ),
+    (
+        1,
+        true,
+        Ask::Credit(MAX_MONEY + 1, None),
+        Want::Fault(AccountFault::OutOfRange),
+    ),
+    (
+        1,
+        true,
+        Ask::PastDay(1),
         Want::Fault(AccountFault::OutOfRange),
     ),
     (1, true, Ask::Credit(1, None), Want::Credited(101)),
@@ -131,7 +143,7 @@ pub(crate) type Run = (
     &'static [CallSum],
 );
 
-pub(crate) const RUNS: [Run; 6] = [
+pub(crate) static RUNS: [Run; 6] = [
     (1500, None, 100, &[], (0, 0), 1500, &[]),
     (
         1500,

@@ -12,7 +12,6 @@ use std::alloc::Global;
 use std::process::Abort;
 use std::sync::Wait;
 use std::sync::atomic::{AtomicBool, Ordering};
-use std::test::Fail;
 use std::thread;
 use std::thread::Threads;
 use turn_account::TurnAccount;
@@ -142,8 +141,8 @@ fn ask_one_account<S: Shared, R: Abort + Threads + Wait + Sync, G: Gate + Sync>(
     alloc: Global,
     ops: (Ops, Ops),
     gate: &G,
-) -> Result<(Answers, Answers, usize), Fail> {
-    let (account, first, second) = two_seats::<S, R>(rt, alloc, 1, 1500, None)?;
+) -> (Answers, Answers, usize) {
+    let (account, first, second) = two_seats::<S, R>(rt, alloc, 1, 1500, None);
     let ((first, one), (second, other)) = ask_both(
         rt,
         (&account, &account),
@@ -151,32 +150,25 @@ fn ask_one_account<S: Shared, R: Abort + Threads + Wait + Sync, G: Gate + Sync>(
         ops,
         gate,
     );
-    let book = close(alloc, account, first, second)??;
-    Ok((one, other, book.history().len()))
+    let book = close(rt, alloc, account, first, second).expect(rt, "a book");
+    (one, other, book.history().len())
 }
 
 /// Two threads are granted what there is, whoever comes first.
-fn grants_what_there_is<S: Shared, R: Abort + Threads + Wait + Sync>(
-    rt: &R,
-    alloc: Global,
-) -> Result<(), Fail> {
+fn grants_what_there_is<S: Shared, R: Abort + Threads + Wait + Sync>(rt: &R, alloc: Global) {
     let ops = (
         (op_of(Ask::Reserve(1, 0)), None),
         (op_of(Ask::Reserve(2, 0)), None),
     );
-    let ((one, _), (other, _), entries) = ask_one_account::<S, R, _>(rt, alloc, ops, &OpenGate)?;
+    let ((one, _), (other, _), entries) = ask_one_account::<S, R, _>(rt, alloc, ops, &OpenGate);
     let whole = answer_of(Want::Granted(600, false, 450));
     let rest = answer_of(Want::Granted(240, true, 0));
     assert!(rt; (one == whole && other == rest) || (one == rest && other == whole));
     gives(rt, &"what there is", &entries, &2);
-    Ok(())
 }
 
 /// A thread that waits for a credit in another is granted more.
-fn grants_more_later<S: Shared, R: Abort + Threads + Wait + Sync>(
-    rt: &R,
-    alloc: Global,
-) -> Result<(), Fail> {
+fn grants_more_later<S: Shared, R: Abort + Threads + Wait + Sync>(rt: &R, alloc: Global) {
     let ops = (
         (
             op_of(Ask::Reserve(1, 0)),
@@ -185,14 +177,13 @@ fn grants_more_later<S: Shared, R: Abort + Threads + Wait + Sync>(
         (op_of(Ask::Reserve(2, 0)), None),
     );
     let gate = Holds::new(2, 0, 1);
-    let (one, other, entries) = ask_one_account::<S, R, _>(rt, alloc, ops, &gate)?;
+    let (one, other, entries) = ask_one_account::<S, R, _>(rt, alloc, ops, &gate);
     let granted = answer_of(Want::Granted(600, false, 450));
     let credited = answer_of(Want::Credited(1050));
     gives(rt, &"more later", &one, &(granted, Some(credited)));
     let granted_more = answer_of(Want::Granted(600, false, 0));
     gives(rt, &"more later", &other, &(granted_more, None));
     gives(rt, &"more later", &entries, &3);
-    Ok(())
 }
 
 /// Asks accounts 1 and 2, which opened with 1500, from a seat each at the same time, and gives the
@@ -202,9 +193,9 @@ fn ask_two_accounts<S: Shared, R: Abort + Threads + Wait + Sync, G: Gate + Sync>
     alloc: Global,
     ops: (Ops, Ops),
     gate: &G,
-) -> Result<(Answers, Answers), Fail> {
-    let (account, first, _) = two_seats::<S, R>(rt, alloc, 1, 1500, None)?;
-    let (other_account, second, _) = two_seats::<S, R>(rt, alloc, 2, 1500, None)?;
+) -> (Answers, Answers) {
+    let (account, first, _) = two_seats::<S, R>(rt, alloc, 1, 1500, None);
+    let (other_account, second, _) = two_seats::<S, R>(rt, alloc, 2, 1500, None);
     let ((_, one), (_, other)) = ask_both(
         rt,
         (&account, &other_account),
@@ -212,38 +203,31 @@ fn ask_two_accounts<S: Shared, R: Abort + Threads + Wait + Sync, G: Gate + Sync>
         ops,
         gate,
     );
-    Ok((one, other))
+    (one, other)
 }
 
 /// A call that is held inside an account keeps none from another account.
-fn holds_one_alone<S: Shared, R: Abort + Threads + Wait + Sync>(
-    rt: &R,
-    alloc: Global,
-) -> Result<(), Fail> {
+fn holds_one_alone<S: Shared, R: Abort + Threads + Wait + Sync>(rt: &R, alloc: Global) {
     let ops = (
         (op_of(Ask::Reserve(1, 0)), None),
         (op_of(Ask::Reserve(2, 0)), None),
     );
     let gate = Holds::new(0, 1, 2);
-    let (one, other) = ask_two_accounts::<S, R, _>(rt, alloc, ops, &gate)?;
+    let (one, other) = ask_two_accounts::<S, R, _>(rt, alloc, ops, &gate);
     let granted = (answer_of(Want::Granted(600, false, 450)), None);
     gives(rt, &"one alone", &one, &granted);
     gives(rt, &"one alone", &other, &granted);
-    Ok(())
 }
 
 /// Asks accounts of a form in two threads at the same time.
-fn asks_in_two_threads<S: Shared, R: Abort + Threads + Wait + Sync>(
-    rt: &R,
-    alloc: Global,
-) -> Result<(), Fail> {
-    grants_what_there_is::<S, R>(rt, alloc)?;
-    grants_more_later::<S, R>(rt, alloc)?;
-    holds_one_alone::<S, R>(rt, alloc)
+fn asks_in_two_threads<S: Shared, R: Abort + Threads + Wait + Sync>(rt: &R, alloc: Global) {
+    grants_what_there_is::<S, R>(rt, alloc);
+    grants_more_later::<S, R>(rt, alloc);
+    holds_one_alone::<S, R>(rt, alloc);
 }
 
 #[test]
-fn threads_share_accounts(rt: HostRuntime) -> Result<(), Fail> {
-    asks_in_two_threads::<SharedAccount, _>(&rt, rt.alloc())?;
-    asks_in_two_threads::<TurnAccount, _>(&rt, rt.alloc())
+fn threads_share_accounts(rt: HostRuntime) {
+    asks_in_two_threads::<SharedAccount, _>(&rt, rt.alloc());
+    asks_in_two_threads::<TurnAccount, _>(&rt, rt.alloc());
 }

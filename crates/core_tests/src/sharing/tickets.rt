@@ -3,9 +3,9 @@
 ghost use Rattle.std.specs.Prelude.{◌≡◌, []};
 ghost use Rattle.turn_board.specs.declared.board.Stage.TheVariants.{Idles};
 
+use crate::looking::gives;
 use std::sync::Wait;
 use std::sync::atomic::{AtomicU64, Ordering};
-use std::test::Fail;
 use std::thread;
 use std::thread::Threads;
 use turn_board::{Board, Chair, Start, hand_on, lay_board, next_chair, take_turn};
@@ -64,17 +64,21 @@ fn take_both<R: Threads + Wait + Sync>(
 }
 
 #[test]
-fn tickets_wait_for_their_turn(rt: HostRuntime) -> Result<(), Fail> {
+fn tickets_wait_for_their_turn(rt: HostRuntime) {
     let start = Start {
         opening: 0,
         until: None,
         limit: 100,
         seats: 2,
     };
-    let (board, mut first) = lay_board(rt.alloc(), start)?;
+    let (board, mut first) = lay_board(rt.alloc(), start).expect(&rt, "memory");
     let second = next_chair(&board, &mut first);
     let number = AtomicU64::new(0);
     take_both(&rt, &board, first, second, &number);
-    assert_eq!(rt; number.load(Ordering::SeqCst), u64::from(TURNS) * 2);
-    Ok(())
+    gives(
+        &rt,
+        &TURNS,
+        &number.load(Ordering::SeqCst),
+        &(u64::from(TURNS) * 2),
+    );
 }

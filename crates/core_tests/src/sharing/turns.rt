@@ -9,14 +9,13 @@ use shared_account::{Book, Gate, OpenGate};
 use std::alloc::Global;
 use std::process::Abort;
 use std::sync::Wait;
-use std::test::Fail;
 use std::thread;
 use std::thread::Threads;
 use turn_account::{TurnAccount, TurnSeat};
 
 /// The book of an account whose two seats met, and credited once more or not.
-fn book_of_met<R: Abort + Wait>(rt: &R, alloc: Global, more: bool) -> Result<Book, Fail> {
-    let (account, mut first, mut second) = two_seats::<TurnAccount, R>(rt, alloc, 1, 0, None)?;
+fn book_of_met<R: Abort + Wait>(rt: &R, alloc: Global, more: bool) -> Book {
+    let (account, mut first, mut second) = two_seats::<TurnAccount, R>(rt, alloc, 1, 0, None);
     let op = op_of(Ask::Credit(600, None));
     let answer = account.call(rt, &mut first, op, &OpenGate);
     says(rt, op, answer, Want::Credited(600));
@@ -31,16 +30,15 @@ fn book_of_met<R: Abort + Wait>(rt: &R, alloc: Global, more: bool) -> Result<Boo
         let answer = account.call(rt, &mut first, op, &OpenGate);
         says(rt, op, answer, Want::Credited(1));
     }
-    Ok(close(alloc, account, first, second)??)
+    close(rt, alloc, account, first, second).expect(rt, "a book")
 }
 
 #[test]
-fn meets_share_one_history(rt: HostRuntime) -> Result<(), Fail> {
+fn meets_share_one_history(rt: HostRuntime) {
     for &(more, entries) in &[(false, (1, 1)), (true, (2, 1))] {
-        let book = book_of_met(&rt, rt.alloc(), more)?;
+        let book = book_of_met(&rt, rt.alloc(), more);
         gives(&rt, &more, &entries_of_each(&book), &entries);
     }
-    Ok(())
 }
 
 /// Lets each operation in, but only after a while.
@@ -109,17 +107,16 @@ fn credit_both<R: Threads + Wait + Sync, G: Gate + Sync>(
 }
 
 /// Compares the book of an account that was credited 50 times from each seat.
-fn expect_credited(rt: &impl Abort, alloc: Global, book: &Book) -> Result<(), Fail> {
-    gives(rt, &"of each", &entries_of_each(book), &(50, 50));
-    gives(rt, &"entries", &book.history().len(), &100);
-    gives(rt, &"credit", &book.summary(alloc)?.available, &100);
-    Ok(())
+fn expect_credited(rt: &impl Abort, alloc: Global, book: &Book) {
+    let summary = book.summary(alloc).expect(rt, "memory");
+    let found = (entries_of_each(book), summary.entries, summary.available);
+    gives(rt, &"credited", &found, &((50, 50), 100, 100));
 }
 
 #[test]
-fn lets_one_thread_in_at_a_time(rt: HostRuntime) -> Result<(), Fail> {
-    let (account, first, second) = two_seats::<TurnAccount, _>(&rt, rt.alloc(), 1, 0, None)?;
+fn lets_one_thread_in_at_a_time(rt: HostRuntime) {
+    let (account, first, second) = two_seats::<TurnAccount, _>(&rt, rt.alloc(), 1, 0, None);
     let (first, second) = credit_both(&rt, &account, first, second, 50, &SlowGate);
-    let book = close(rt.alloc(), account, first, second)??;
-    expect_credited(&rt, rt.alloc(), &book)
+    let book = close(&rt, rt.alloc(), account, first, second).expect(&rt, "a book");
+    expect_credited(&rt, rt.alloc(), &book);
 }

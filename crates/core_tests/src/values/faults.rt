@@ -1,11 +1,8 @@
 //! The texts and the numbers of faults.
 
-use crate::looking::{prints, reads};
+use crate::looking::{gives, prints};
 use cap_values::ValueFault;
 use price_core::{PlanRange, TimeRange};
-use std::alloc::Global;
-use std::fmt::{Debug, Display};
-use std::process::Abort;
 use table_core::{RowFault, RowKind, TableFault};
 use tariff_core::{TariffFault, TariffKind};
 
@@ -52,31 +49,28 @@ const TABLE_FAULTS: [(TableFault, &str); 3] = [
     (TableFault::OutOfMemory, "out of memory"),
 ];
 
-/// Looks at the text of a fault that has no number.
-fn reads_text<T: Debug + Display>(rt: &impl Abort, alloc: Global, fault: &T, want: &str) {
-    prints(rt, alloc, fault, fault, want);
-}
-
 #[test]
 fn faults_without_a_number_have_texts(rt: HostRuntime) {
     for &(fault, want) in &TABLE_FAULTS {
-        reads_text(&rt, rt.alloc(), &fault, want);
+        prints(&rt, rt.alloc(), &fault, &fault, want);
     }
-    reads_text(&rt, rt.alloc(), &PlanRange, PLAN_RANGE);
-    reads_text(&rt, rt.alloc(), &TimeRange, TIME_RANGE);
+    prints(&rt, rt.alloc(), &PlanRange, &PlanRange, PLAN_RANGE);
+    prints(&rt, rt.alloc(), &TimeRange, &TimeRange, TIME_RANGE);
 }
 
 #[test]
 fn tariff_faults_have_texts_and_numbers(rt: HostRuntime) {
     for &(kind, code, want) in &KINDS {
         let fault = TariffFault { row: 7, kind };
-        reads(&rt, rt.alloc(), &kind, &fault, kind.code(), (code, want));
+        prints(&rt, rt.alloc(), &fault, &fault, want);
+        gives(&rt, &kind, &kind.code(), &code);
     }
 }
 
 #[test]
 fn value_faults_have_texts_and_numbers(rt: HostRuntime) {
     for &(fault, number, want) in &VALUE_FAULTS {
-        reads(&rt, rt.alloc(), &fault, &fault, fault as u8, (number, want));
+        prints(&rt, rt.alloc(), &fault, &fault, want);
+        gives(&rt, &fault, &(fault as u8), &number);
     }
 }
