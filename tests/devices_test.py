@@ -38,6 +38,7 @@ FAILED = [
     ("run --delay 51", "", errno.EIO, 1, b"prepaid: input: Config\n"),
     ("run", "", errno.EIO, 2, DEVICE),
     ("audit --long", OPENING, errno.EIO, 2, DEVICE),
+    ("audit --long", OPENING, errno.ENOMEM, 2, DEVICE),
     *((*given, errno.EIO, 2, DEVICE) for given in INPUTS),
 ]
 

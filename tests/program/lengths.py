@@ -69,14 +69,14 @@ def numbers_of_rows():
 
 
 def many_calls():
-    """A book of 1000 calls, each with a credit for all that it costs, and the same that are replayed."""
-    calls = range(1, 1001)
-    entries = "".join(CALL.format(call) for call in calls)
-    lines = "".join(f"call {call} account 1 paid 1050 returned\n" for call in calls)
-    output = f"account 1 opening 0 available 0 entries 4000\n{lines}"
+    """A book of 5000 calls, each with a credit for all that it costs, and half as many that are replayed: so many rows a table
+    of operations may have. The model takes minutes for them."""
+    entries = "".join(CALL.format(call) for call in range(1, 5001))
+    lines = "".join(f"call {call} account 1 paid 1050 returned\n" for call in range(1, 5001))
+    output = f"account 1 opening 0 available 0 entries 20000\n{lines}"
     yield Row("audit --lines", f"{BOOK}1,,opening,,0,,,,,,,,\n{entries}", output)
-    asked = "".join(credit(1050) + reserve(call, 600) + talked(call, 600) + returned(call) for call in calls)
-    yield Row("replay --opening 0", OPERATIONS + asked, ANSWERED * 1000)
+    asked = "".join(credit(1050) + reserve(call, 600) + talked(call, 600) + returned(call) for call in range(1, 2501))
+    yield Row("replay --opening 0", OPERATIONS + asked, ANSWERED * 2500)
 
 
 def noted(note):
