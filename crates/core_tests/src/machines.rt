@@ -3,6 +3,5 @@
 mod dialogues;
 mod driven;
 mod faults;
-mod making;
 mod ssf;
 mod ssf_rows;

@@ -1,7 +1,7 @@
 //! Every rule of the service.
 
-use super::making::{arms, charge, number};
 use crate::looking::gives;
+use crate::making::{arms, charge, number};
 use crate::plans::CHEAPER;
 use account_core::{AccountFault, Op, Reply};
 use arrayvec::ArrayVec;

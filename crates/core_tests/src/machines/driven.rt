@@ -3,8 +3,8 @@
 
 ghost use Rattle.std.specs.Prelude.{◌≤◌, All};
 
-use super::making::number;
 use crate::looking::gives;
+use crate::making::number;
 use account_core::{Account, AccountFault, AccountPort, Op, Port, Reply};
 use dialogue_core::ServiceConfig;
 use one_call::{CallEnd, DriveFault, drive_call};

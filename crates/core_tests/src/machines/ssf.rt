@@ -2,9 +2,9 @@
 
 ghost use Rattle.std.specs.Prelude.{◌≤◌};
 
-use super::making::{arms, charge, number};
 use super::ssf_rows::{CALLS, Input, Row, Sent, Start};
 use crate::looking::gives;
+use crate::making::{arms, charge, number};
 use cap_values::{Cause, Event, Mode, ScfOp, SsfMsg};
 use price_core::HORIZON;
 use ssf_core::{

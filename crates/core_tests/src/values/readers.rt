@@ -1,26 +1,12 @@
 //! Tables whose reader fails, or has no end.
 
+use crate::failing::Failing;
 use crate::looking::gives;
 use std::alloc::Global;
-use std::io::{self, ErrorKind, Read};
+use std::io::{self, Read};
 use std::process::Abort;
 use table_core::{RowFault, RowKind, Table, TableFault};
 use tariff_core::{Tariff, TariffFault, TariffKind};
-
-/// A reader that gives some bytes and then fails.
-#[derive(Drop)]
-struct Failing<'a> {
-    bytes: &'a [u8],
-}
-
-impl Read for Failing<'_> {
-    fn read(&mut self, buf: &mut [u8]) -> io::Result<usize> {
-        if self.bytes.is_empty() {
-            return Err(io::Error::from(ErrorKind::Other));
-        }
-        self.bytes.read(buf)
-    }
-}
 
 /// Two bands for 49, and one for 4930.
 const TABLE: &[u8] = b"prefix,from,fee,rate\n49,00:00,50,1000\n49,08:00,0,400\n4930,00:00,10,600\n";

@@ -1,28 +1,13 @@
 //! Readers that fail: the tables of a setup and of a script keep that fault, unless a row in front
 //! of it has one. Each fault of their rows is tried in tests/program.
 
+use crate::failing::Failing;
 use crate::looking::gives;
 use run_texts::{read_script, read_setup};
 use run_values::Directory;
 use std::alloc::Global;
-use std::io::{self, ErrorKind, Read};
 use std::process::Abort;
 use table_core::{RowFault, RowKind, TableFault};
-
-/// A reader that gives some bytes and then fails.
-#[derive(Drop)]
-struct Failing<'a> {
-    bytes: &'a [u8],
-}
-
-impl Read for Failing<'_> {
-    fn read(&mut self, buf: &mut [u8]) -> io::Result<usize> {
-        if self.bytes.is_empty() {
-            return Err(io::Error::from(ErrorKind::Other));
-        }
-        self.bytes.read(buf)
-    }
-}
 
 /// Setups whose last row has a fault, its number, and the fault.
 const SETUPS: [(&[u8], u32, RowKind); 7] = [

@@ -1,11 +1,12 @@
 //! Runs of a few posts by two workers, over two accounts of 1500 that have one of the two forms.
 
+use super::meeting::{Meeting, Of};
+use super::messages::{Round, Say, bodies_of, recharge};
+use super::rounds::Rounds;
+use super::setups::set_up;
+use super::shutting::{ALWAYS, Holding, Shutting};
 use crate::looking::gives;
-use crate::meeting::{Meeting, Of};
-use crate::messages::{Round, Say, bodies_of, recharge};
-use crate::rounds::Rounds;
-use crate::setups::{number, set_up};
-use crate::shutting::{ALWAYS, Holding, Shutting};
+use crate::making::number;
 use account_core::{AccountFault, MIN_LIMIT};
 use arrayvec::ArrayVec;
 use locked_account::SharedAccount;

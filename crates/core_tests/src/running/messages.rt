@@ -1,6 +1,6 @@
 //! What is said in a run, in short: messages of calls, and recharges.
 
-use crate::setups::number;
+use crate::making::number;
 use cap_values::{Number, SsfMsg};
 use price_core::TimeInfo;
 use run_values::Body;

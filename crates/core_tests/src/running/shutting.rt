@@ -1,6 +1,6 @@
 //! Gates that shut.
 
-use crate::meeting::is_soon;
+use super::meeting::is_soon;
 use shared_account::Gate;
 use std::sync::atomic::{AtomicBool, AtomicU32, Ordering};
 use std::thread;

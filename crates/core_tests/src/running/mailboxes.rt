@@ -1,7 +1,7 @@
 //! A mailbox of two places.
 
+use super::messages::recharge;
 use crate::looking::gives;
-use crate::messages::recharge;
 use run_values::Post;
 use std::alloc::Global;
 use std::process::Abort;

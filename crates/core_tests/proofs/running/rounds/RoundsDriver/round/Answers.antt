@@ -1,6 +1,6 @@
 use Rattle.std.proofs.Common.{◌≡◌, ◌++◌, List, ap, refl, ◌∙◌}
 use Rattle.std.proofs.lemmas.List.{append_assoc}
-use Rattle.running_tests.proofs.rounds.RoundsDriver.round.Goals as goal
+use Rattle.core_tests.proofs.running.rounds.RoundsDriver.round.Goals as goal
 
 abbrev Grows : {A : Type 0} → List A → List A → Type 0
 Grows {A} old new = (added : List A) × (new ≡ old ++ added)

@@ -1,6 +1,7 @@
 //! Setups that are made, and setups that aren't.
 
 use crate::looking::gives;
+use crate::making::number;
 use cap_values::Number;
 use dialogue_core::ServiceConfig;
 use run_values::{OpeningCredit, RunSetup, SetupFault};
@@ -22,11 +23,6 @@ pub(crate) fn set_up(
     let service = ServiceConfig::new(600, 50, 50).expect(rt, "the service");
     let tariff = Tariff::read(alloc, BAND).expect(rt, "the tariff");
     RunSetup::new(alloc, accounts, subscribers, tariff, service, limit)
-}
-
-/// A number of digits.
-pub(crate) fn number(rt: &impl Abort, digits: &str) -> Number {
-    Number::new(digits).expect(rt, "a number")
 }
 
 /// Accounts with their credit, the accounts of one subscriber, the limit, and the fault.
