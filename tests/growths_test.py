@@ -39,8 +39,8 @@ class Call:
         return [self.name]
 
     def is_right(self, ended, _folder):
-        """Whether it was answered, or refused and right."""
-        return ended.status == 0 or ended.status in (2, 3) and ended.refused > 0
+        """Whether it was answered, or refused and right; and refused again only where a second growth was refused."""
+        return ended.status == 0 or ended.status in (2, 3) and ended.refused >= ended.status - 1
 
 
 def calls():
