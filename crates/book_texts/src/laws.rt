@@ -4,32 +4,15 @@ ghost use Rattle.account_core.specs.Entries.{asked_of};
 ghost use Rattle.price_core.specs.RatesOf.{rates_of};
 ghost use Rattle.entry_rows.specs.Fits.{FitsPlan};
 ghost use Rattle.book_texts.specs.Typed.{IsTypedAsked};
-ghost use Rattle.book_texts.specs.Laws.{BooksAreRead, BooksHaveOneText, PrintedBooksHaveTheirLines, PrintedBooksPass};
+ghost use Rattle.book_texts.specs.Laws.{BooksHaveOneText};
 
 use account_core::Op;
-use entry_rows::{operations_are_read, replies_are_read};
 use price_core::Plan;
-use table_core::{printed_decimals_are_read, printed_tables_are_read};
 
 /// What `run_lines` says of its text leaves no byte of it open.
 pub fn books_have_one_text()
     ensures { BooksHaveOneText }
 {}
-
-/// The table that `book_table` prints is read back to the openings and the histories of its books,
-/// and an audit of it says yes for each account, or the lines of the books where these are asked
-/// for: for books by rising account, whose histories are legal, whose numbers are in the ranges of
-/// their columns, and that have no more rows than the table may have.
-pub fn printed_books_are_read()
-    ensures read { BooksAreRead }
-    ensures pass { PrintedBooksPass }
-    ensures lines { PrintedBooksHaveTheirLines }
-{
-    printed_decimals_are_read();
-    printed_tables_are_read();
-    operations_are_read();
-    replies_are_read();
-}
 
 /// The numbers of an operation are in the ranges of their types.
 pub(crate) fn op_is_typed(op: Op)

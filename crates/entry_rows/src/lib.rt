@@ -6,7 +6,6 @@
 
 mod columns;
 mod field;
-mod laws;
 mod offsets;
 mod operation;
 mod reply;
@@ -17,7 +16,6 @@ mod words;
 
 pub use columns::{write_answer, write_opening, write_operation};
 pub use field::Field;
-pub use laws::{operations_are_read, replies_are_read};
 pub use operation::{is_money_blank, is_op_blank, read_op, read_until};
 pub use reply::{is_reply_blank, read_reply};
 pub use response::{op_word, write_reply, write_response};

@@ -24,7 +24,7 @@ use Rattle.part_laws.specs.OneInput.{HasValuesOf, PartsPrintAsOneRun, PrintsAlik
 use Rattle.part_laws.specs.Parts.{AreAsOfOneRun, choice_of}
 use Rattle.part_laws.specs.Printed.{run_given}
 use Rattle.part_laws.specs.Rows.{SomeRowsGiveTheirItems, chosen_rows}
-use Rattle.run_command.proofs.Starts.{played_starts}
+use Rattle.run_laws.proofs.Starts.{played_starts}
 use Rattle.part_laws.specs.ScriptParts.{IsPlayedByItsRows, PlaysItsRows, RecordsItsRows, payer_in_rows}
 use Rattle.run_command.specs.Answers.{IsRunOf}
 use Rattle.run_outputs.specs.Texts.{IsTextOf, RunSaid}

@@ -18,7 +18,7 @@ use Rattle.part_laws.specs.ScriptParts.{PlaysItsRows, RecordsItsRows, ScriptsInP
 use Rattle.part_laws.specs.Parts.{IsPlayedAlone, choice_of}
 use Rattle.part_laws.specs.Printed.{run_given}
 use Rattle.part_laws.specs.Rows.{SomeRowsGiveTheirItems, chosen_rows, is_chosen_happening}
-use Rattle.run_command.proofs.Starts.{played_starts}
+use Rattle.run_laws.proofs.Starts.{played_starts}
 use Rattle.run_command.specs.Plays.{IsPlayOf}
 use Rattle.run_outputs.specs.Parts.{part_by, part_of, part_rows}
 use Rattle.run_texts.specs.Views.{happens_of}

@@ -1,18 +1,14 @@
 -- What `rate` prints of the calls that `run --calls` prints.
 use Rattle.std.specs.Prelude.{ℕ, Bool, List, All}
-use Rattle.call_records.specs.Records.{Run}
 use Rattle.call_records.specs.Tables.{IsCallText}
 use Rattle.moment_texts.specs.declared.clock.Clock.{Clock}
 use Rattle.rated_records.specs.Tables.{IsInputOf, IsPrintable, IsRatedTable, names_by_start}
 use Rattle.rating.specs.Texts.{IsRatedText, rate_input_of}
 use Rattle.rating.specs.declared.score.Score.{Score}
 use Rattle.run_command.specs.Answers.{IsRunOf}
+use Rattle.run_laws.specs.Answered.{run_of_answer}
 use Rattle.run_outputs.specs.Texts.{RunSaid}
 use Rattle.run_options.specs.declared.options.RunAsk.{RunAsk}
-
--- what an answer of `run` has come to
-abbrev pub run_of_answer : (ask : RunAsk) (input : List ℕ) (ran : RunSaid) → IsRunOf ask input ran → Run
-run_of_answer ask input ran is = record { setup = is.are_books.setup; given = is.given; books = is.books }
 
 -- where an answer of `run` is the table of its calls, `rate` prints of it, behind the run's tariff, each record in its row, to just what was paid unless it has a forfeit
 abbrev pub RunsHaveNoDifference : Type 0

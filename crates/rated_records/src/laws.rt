@@ -6,7 +6,7 @@ ghost use Rattle.rated_records.specs.Runs.{RunsHaveNoDifference};
 ghost use Rattle.rated_records.specs.Tables.{NoRowIsPrinted, TablesHaveNoDifference};
 
 use moment_texts::printed_moments_are_read;
-use run_laws::{calls_pay_their_route, records_are_in_range};
+use run_laws::{answered_calls_have_paid, calls_pay_their_route, records_are_in_range};
 use shared_account::Shared;
 use table_core::{printed_decimals_are_read, printed_tables_are_read};
 use tariff_core::read_tariffs_are_proper;
@@ -52,5 +52,6 @@ pub fn tables_have_no_difference<S: Shared>()
 pub fn runs_have_no_difference()
     ensures { RunsHaveNoDifference }
 {
+    answered_calls_have_paid();
     tables_have_no_difference::<TurnAccount>();
 }

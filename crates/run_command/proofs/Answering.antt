@@ -5,8 +5,6 @@ use Rattle.std.specs.Result.{result_map_both}
 use Rattle.run_command.proofs.Saying.{parts_said, tables_are_said, whole_said}
 use Rattle.run_command.specs.Answers.{IsRunAnswer, IsRunSaid, MayFail}
 use Rattle.run_command.specs.InParts.{IsInParts}
-use Rattle.run_command.specs.Joined.{JoinedBooksHaveAllAccounts, JoinedBooksPass}
-use Rattle.run_command.specs.Laws.{PlayedBooksPass, PlayedCallsHavePaid}
 use Rattle.run_command.specs.Played.{AreWhole, IsWhole}
 use Rattle.run_outputs.specs.Texts.{run_said_of, tables_said}
 use Rattle.run_command.specs.Starts.{IsStartOf}
@@ -34,21 +32,21 @@ module _ (ask : RunAsk) (input : List ℕ) (setup : Setup) (rows : List ScriptRo
   ended (error.Run run.Channel) may = record { said = start.said; read = start.read; may = may }
   ended (error.Run run.Thread) may = record { said = start.said; read = start.read; may = may }
 
-  pub whole_answers : PlayedBooksPass → PlayedCallsHavePaid → None ≡ played_parts ask → (played : Result Ran RunError) → IfOk played (λ ran. IsWhole ask setup rows (run_said_of ran))
+  pub whole_answers : None ≡ played_parts ask → (played : Result Ran RunError) → IfOk played (λ ran. IsWhole ask setup rows (run_said_of ran))
       → IfErr played (MayFail ask.workers) → IsRunAnswer ask input (result_map_both run_said_of (λ why. why) played)
-  whole_answers pass paid none (Ok ran) is may =
-      subst (λ (parts : Option PartsAsk). IsRunSaid parts ask input (run_said_of ran)) none (whole_said pass paid ask input setup rows (run_said_of ran) start is)
-  whole_answers pass paid none (Err why) is may = ended why may
+  whole_answers none (Ok ran) is may =
+      subst (λ (parts : Option PartsAsk). IsRunSaid parts ask input (run_said_of ran)) none (whole_said ask input setup rows (run_said_of ran) start is)
+  whole_answers none (Err why) is may = ended why may
 
-  pub parts_answer : PlayedCallsHavePaid → JoinedBooksHaveAllAccounts → JoinedBooksPass → (parts : PartsAsk) → Some parts ≡ played_parts ask → (played : Result Ran RunError)
+  pub parts_answer : (parts : PartsAsk) → Some parts ≡ played_parts ask → (played : Result Ran RunError)
       → IfOk played (λ ran. IsInParts parts.count ask setup rows (string_bytes ran.text) ran.refusals ran.unplaced.items)
       → IfErr played (MayFail ask.workers) → IsRunAnswer ask input (result_map_both run_said_of (λ why. why) played)
-  parts_answer paid have pass parts some (Ok ran) is may =
+  parts_answer parts some (Ok ran) is may =
       subst (λ (parts : Option PartsAsk). IsRunSaid parts ask input (run_said_of ran)) some
-      (parts_said paid have pass parts.count ask input setup rows (string_bytes ran.text) ran.refusals ran.unplaced.items start is)
-  parts_answer paid have pass parts some (Err why) is may = ended why may
+      (parts_said parts.count ask input setup rows (string_bytes ran.text) ran.refusals ran.unplaced.items start is)
+  parts_answer parts some (Err why) is may = ended why may
 
-  pub tables_answer : PlayedBooksPass → PlayedCallsHavePaid → (played : Result RunTables RunError) → IfOk played (λ tables. AreWhole ask setup rows (tables_said tables))
+  pub tables_answer : (played : Result RunTables RunError) → IfOk played (λ tables. AreWhole ask setup rows (tables_said tables))
       → IfErr played (MayFail ask.workers) → IsTablesAnswer ask input (result_map_both tables_said (λ why. why) played)
-  tables_answer pass paid (Ok tables) is may = tables_are_said pass paid ask input setup rows (tables_said tables) start is
-  tables_answer pass paid (Err why) is may = ended why may
+  tables_answer (Ok tables) is may = tables_are_said ask input setup rows (tables_said tables) start is
+  tables_answer (Err why) is may = ended why may

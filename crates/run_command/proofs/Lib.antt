@@ -1,13 +1,8 @@
 pub mod Answering
 pub mod Jobbing
-pub mod Joining
 pub mod ListenLemmas
 pub mod Parting
-pub mod Passing
-pub mod Paying
 pub mod PlayLemmas
 pub mod Resaid
 pub mod Saying
-pub mod Starts
 pub mod Tabling
-pub mod Timing

@@ -2,15 +2,12 @@
 use Rattle.std.proofs.Common.{◌≡◌, ◌<◌, ◌∙◌, ℕ, List, [], map, length, refl, sym, ap, subst, arith}
 use Rattle.std.specs.List.{flat_map}
 use Rattle.std.specs.Prelude.{slice_index_or}
-use Rattle.run_laws.specs.Runs.{HasAccounts}
 use Rattle.run_command.proofs.Resaid.{part_said_alike}
 use Rattle.run_command.specs.Answers.{IsRunOf}
 use Rattle.run_outputs.specs.Texts.{RunSaid, TablesSaid}
 use Rattle.run_command.specs.Books.{AreBooksOf, IsSetupOf}
 use Rattle.run_command.specs.InParts.{IsInParts, IsPartOf, IsPlayedPart, IsRunInParts}
 use Rattle.run_outputs.specs.Kept.{IsPartsText, PartSaid}
-use Rattle.run_command.specs.Joined.{AreAllParts, JoinedBooksHaveAllAccounts, JoinedBooksPass}
-use Rattle.run_command.specs.Laws.{PlayedBooksPass, PlayedCallsHavePaid}
 use Rattle.run_command.specs.Played.{AreWhole, IsWhole}
 use Rattle.run_command.specs.Plays.{IsGivenBy, IsGivenWithout}
 use Rattle.run_outputs.specs.Refused.{none_refused}
@@ -40,9 +37,9 @@ said_alike ask script other heard given same given_by =
 pub events_moved : (without now : List ScriptRow) (events : List UnplacedEvent) → now ≡ without → AreByCall (events_in_rows without) events → AreByCall (events_in_rows now) events
 events_moved without now events same are = subst (λ (rows : List ScriptRow). AreByCall (events_in_rows rows) events) (sym same) are
 
-pub whole_said : PlayedBooksPass → PlayedCallsHavePaid → (ask : RunAsk) (input : List ℕ) (setup : Setup) (rows : List ScriptRow) (ran : RunSaid) → IsStartOf ask input setup rows
+pub whole_said : (ask : RunAsk) (input : List ℕ) (setup : Setup) (rows : List ScriptRow) (ran : RunSaid) → IsStartOf ask input setup rows
     → IsWhole ask setup rows ran → IsRunOf ask input ran
-whole_said pass paid ask input setup rows ran start is =
+whole_said ask input setup rows ran start is =
     let said = start.said in
     let moved = said_alike ask (map row_data rows) said.script is.heard is.given start.says is.given_by in
     let given_by : IsGivenBy ask said.script is.heard is.given = moved.given_by in
@@ -50,6 +47,7 @@ whole_said pass paid ask input setup rows ran start is =
     record {
       said = said;
       read = start.read;
+      range = start.range;
       workers = is.workers;
       given = is.given;
       heard = is.heard;
@@ -59,14 +57,13 @@ whole_said pass paid ask input setup rows ran start is =
       printed = is.printed;
       refused = is.refused;
       unplaced = events_moved is.given_by.play.play.unplaced given_by.play.play.unplaced ran.unplaced moved.unplaced is.unplaced;
-      passes = λ asked. pass ask said is.given is.heard is.books is.workers start.range given_by are (is.typed asked);
-      paid = paid ask said is.given is.heard is.books is.workers start.range.accounts given_by are;
+      typed = is.typed;
     }
 
 -- the same of all texts of one play
-pub tables_are_said : PlayedBooksPass → PlayedCallsHavePaid → (ask : RunAsk) (input : List ℕ) (setup : Setup) (rows : List ScriptRow) (tables : TablesSaid) → IsStartOf ask input setup rows
+pub tables_are_said : (ask : RunAsk) (input : List ℕ) (setup : Setup) (rows : List ScriptRow) (tables : TablesSaid) → IsStartOf ask input setup rows
     → AreWhole ask setup rows tables → AreTablesOf ask input tables
-tables_are_said pass paid ask input setup rows tables start is =
+tables_are_said ask input setup rows tables start is =
     let said = start.said in
     let moved = said_alike ask (map row_data rows) said.script is.heard is.given start.says is.given_by in
     let given_by : IsGivenBy ask said.script is.heard is.given = moved.given_by in
@@ -74,6 +71,7 @@ tables_are_said pass paid ask input setup rows tables start is =
     record {
       said = said;
       read = start.read;
+      range = start.range;
       workers = is.workers;
       given = is.given;
       heard = is.heard;
@@ -83,11 +81,10 @@ tables_are_said pass paid ask input setup rows tables start is =
       printed = is.printed;
       refused = is.refused;
       unplaced = events_moved is.given_by.play.play.unplaced given_by.play.play.unplaced tables.unplaced moved.unplaced is.unplaced;
-      passes = pass ask said is.given is.heard is.books is.workers start.range given_by are is.typed;
-      paid = paid ask said is.given is.heard is.books is.workers start.range.accounts given_by are;
+      typed = is.typed;
     }
 
-module _ (paid : PlayedCallsHavePaid) (ask : RunAsk) (said : RunInput) (setup : Setup) (rows : List ScriptRow) (of_input : IsSetupOf ask said setup) (accounts : HasAccounts said.setup.accounts)
+module _ (ask : RunAsk) (said : RunInput) (setup : Setup) (rows : List ScriptRow) (of_input : IsSetupOf ask said setup)
     (says : map row_data rows ≡ said.script) (firsts : List ℕ) where
   its_script : (part : ℕ) → map row_data (part_rows firsts (payer_of (with_digits setup.subscribers) (map row_data rows)) rows part)
       ≡ part_script firsts (payer_of said.setup.subscribers said.script) said.script part
@@ -102,19 +99,6 @@ module _ (paid : PlayedCallsHavePaid) (ask : RunAsk) (said : RunInput) (setup : 
       let script : List RowData = part_script firsts (payer_of said.setup.subscribers said.script) said.script part in
       let moved = said_alike ask (map row_data (part_rows firsts (payer_of (with_digits setup.subscribers) (map row_data rows)) rows part)) script is.heard is.given (its_script part) is.given_by in
       let given_by : IsGivenBy ask script is.heard is.given = moved.given_by in
-      let own : RunInput = record said { script = script } in
-      let own_are : AreBooksOf ask own is.given is.heard is.books = record {
-        setup = setup;
-        of_input = record {
-          accounts = of_input.accounts;
-          subscribers = of_input.subscribers;
-          tariff = of_input.tariff;
-          wanted = of_input.wanted;
-          least = of_input.least;
-          limit = of_input.limit;
-        };
-        run = is.run;
-      } in
       record {
         given = is.given;
         heard = is.heard;
@@ -125,22 +109,21 @@ module _ (paid : PlayedCallsHavePaid) (ask : RunAsk) (said : RunInput) (setup : 
         calls = is.calls;
         refused = is.refused;
         unplaced = is.unplaced ∙ ap events_in_rows (sym moved.unplaced);
-        paid = paid ask own is.given is.heard is.books is.workers accounts given_by own_are;
       }
 
 some_said : PartSaid
 some_said = record { books = []; calls = []; refusals = none_refused; unplaced = [] }
 
-pub parts_said : PlayedCallsHavePaid → JoinedBooksHaveAllAccounts → JoinedBooksPass → (asked : ℕ) (ask : RunAsk) (input : List ℕ) (setup : Setup) (rows : List ScriptRow) (text : List ℕ) (refusals : Refusals)
+pub parts_said : (asked : ℕ) (ask : RunAsk) (input : List ℕ) (setup : Setup) (rows : List ScriptRow) (text : List ℕ) (refusals : Refusals)
     (events : List UnplacedEvent) → IsStartOf ask input setup rows → IsInParts asked ask setup rows text refusals events → IsRunInParts asked ask input text refusals events
-parts_said paid have pass asked ask input setup rows text refusals events start is =
+parts_said asked ask input setup rows text refusals events start is =
     let workers = (is.each 0 some_said (let all = is.all in omega (arith, all))).workers in
     let each : (part : ℕ) (d : PartSaid) → part < length is.parts → IsPartOf ask start.said is.firsts part (slice_index_or is.parts part d) =
-    λ part d within. part_of_input paid ask start.said setup rows start.of_input start.range.accounts start.says is.firsts part _ (is.each part d within) in
-    let are : AreAllParts ask start.said is.firsts is.parts = record { workers = workers; range = start.range; all = is.all; each = each } in
+    λ part d within. part_of_input ask start.said setup rows start.of_input start.says is.firsts part _ (is.each part d within) in
     record {
       said = start.said;
       read = start.read;
+      range = start.range;
       workers = workers;
       firsts = is.firsts;
       count = is.count ∙ ap (λ a. part_count asked (length a)) start.of_input.accounts;
@@ -150,6 +133,5 @@ parts_said paid have pass asked ask input setup rows text refusals events start 
       printed = subst (λ (t : List Band). IsPartsText ask.output t (flat_map (λ part. part.books) is.parts) (flat_map (λ part. part.calls) is.parts) text) start.of_input.tariff is.printed;
       refused = is.refused;
       unplaced = is.unplaced;
-      accounts = have ask start.said is.firsts is.parts are;
-      passes = λ asked_for. pass ask start.said is.firsts is.parts are (is.typed asked_for);
+      typed = is.typed;
     }

@@ -1,9 +1,10 @@
 -- What `run` answers to an input.
-use Rattle.std.specs.Prelude.{◌≡◌, ℕ, true, false, Option, Some, None, List, Result, Ok, Err, ⊤}
+use Rattle.std.specs.Prelude.{◌≡◌, ℕ, true, false, Option, Some, None, List, All, Result, Ok, Err, ⊤}
+use Rattle.book_texts.specs.Typed.{IsTyped}
 use Rattle.run_command.specs.Books.{AreBooksOf}
 use Rattle.run_command.specs.InParts.{IsRunInParts}
-use Rattle.run_command.specs.Laws.{CallsHavePaid, PassTheirAudits}
 use Rattle.run_command.specs.Plays.{IsGivenBy}
+use Rattle.run_command.specs.Starts.{InputIsInRange}
 use Rattle.run_outputs.specs.Refused.{refusals_counted_in}
 use Rattle.run_outputs.specs.Unplaced.{AreByCall, events_in_rows}
 use Rattle.run_options.specs.Options.{played_parts}
@@ -28,6 +29,7 @@ use Rattle.run_outputs.specs.Texts.{IsTextOf, RunSaid}
 pub record IsRunOf (ask : RunAsk) (input : List ℕ) (ran : RunSaid) : Type 0 where
   pub said : RunInput
   pub read : input_of input ≡ Ok said
+  pub range : InputIsInRange said
   pub workers : are_workers ask.workers ≡ true
   pub given : List (ℕ × Body)
   pub heard : List (List Answer)
@@ -37,10 +39,8 @@ pub record IsRunOf (ask : RunAsk) (input : List ℕ) (ran : RunSaid) : Type 0 wh
   pub printed : IsTextOf ask.output (record { setup = are_books.setup; given = given; books = books }) (all_heard heard) ran.text
   pub refused : ran.refusals ≡ refusals_counted_in (all_heard heard)
   pub unplaced : AreByCall (events_in_rows given_by.play.play.unplaced) ran.unplaced
-  -- a long audit of the table of the books says yes for each account, and so does a short one where that takes as many rows
-  pub passes : ask.output ≡ output.Book → PassTheirAudits books
-  -- the records of its calls have paid what the calls of its books have, a call without a route nothing, and a call without a forfeit the price of its times by its route
-  pub paid : CallsHavePaid (record { setup = are_books.setup; given = given; books = books })
+  -- each number in the table of the books has its type
+  pub typed : ask.output ≡ output.Book → All IsTyped books
 
 -- what a run says, in parts or not; it is the same however many threads play the parts
 abbrev pub IsRunSaid : Option PartsAsk → RunAsk → List ℕ → RunSaid → Type 0

@@ -1,11 +1,10 @@
 -- A run that is played in parts.
 use Rattle.std.specs.Prelude.{◌≡◌, ◌<◌, ◌+◌, ℕ, true, List, [], Ok, length, map, slice_index_or}
 use Rattle.std.specs.List.{All, flat_map}
-use Rattle.std.specs.Map.{keys_of}
 use Rattle.book_texts.specs.Typed.{IsTyped}
 use Rattle.run_command.specs.Books.{AreBooksOf}
-use Rattle.run_command.specs.Laws.{CallsHavePaid, PassTheirAudits}
 use Rattle.run_command.specs.Plays.{IsGivenBy}
+use Rattle.run_command.specs.Starts.{InputIsInRange}
 use Rattle.run_outputs.specs.Refused.{added_up, refusals_counted_in}
 use Rattle.run_outputs.specs.Unplaced.{AreByCall, events_in_rows}
 use Rattle.run_outputs.specs.declared.part.Part.{Part}
@@ -39,13 +38,12 @@ pub record IsPartOf (ask : RunAsk) (said : RunInput) (firsts : List ℕ) (part :
   pub calls : KeepsCalls ask.output (record { setup = are_books.setup; given = given; books = books }) kept.calls
   pub refused : kept.refusals ≡ refusals_counted_in (all_heard heard)
   pub unplaced : kept.unplaced ≡ events_in_rows given_by.play.play.unplaced
-  -- the records of its calls have paid what the calls of its books have, a call without a route nothing, and a call without a forfeit the price of its times by its route
-  pub paid : CallsHavePaid (record { setup = are_books.setup; given = given; books = books })
 
 -- the text is that of the books or the calls of all parts of the input, one part after another, the refusals are those of all parts, added up, and the events that had no place are theirs, by their calls
 pub record IsRunInParts (asked : ℕ) (ask : RunAsk) (input text : List ℕ) (refusals : Refusals) (events : List UnplacedEvent) : Type 0 where
   pub said : RunInput
   pub read : input_of input ≡ Ok said
+  pub range : InputIsInRange said
   pub workers : are_workers ask.workers ≡ true
   -- the accounts with which the second part and each further one begins
   pub firsts : List ℕ
@@ -56,10 +54,8 @@ pub record IsRunInParts (asked : ℕ) (ask : RunAsk) (input text : List ℕ) (re
   pub printed : IsPartsText ask.output said.tariff (flat_map (λ part. part.books) parts) (flat_map (λ part. part.calls) parts) text
   pub refused : refusals ≡ added_up (map (λ part. part.refusals) parts)
   pub unplaced : AreByCall (flat_map (λ part. part.unplaced) parts) events
-  -- the books are those of all accounts of the input, in order
-  pub accounts : map (λ book. book.account) (flat_map (λ part. part.books) parts) ≡ keys_of said.setup.accounts
-  -- a long audit of their table says yes for each account, and so does a short one where that takes as many rows
-  pub passes : ask.output ≡ output.Book → PassTheirAudits (flat_map (λ part. part.books) parts)
+  -- each number in the table of their books has its type
+  pub typed : ask.output ≡ output.Book → All IsTyped (flat_map (λ part. part.books) parts)
 
 -- ---- of the rows of a script, over a setup
 

@@ -2,8 +2,6 @@ pub mod Answers
 pub mod Books
 pub mod InParts
 pub mod Jobs
-pub mod Joined
-pub mod Laws
 pub mod Listening
 pub mod Played
 pub mod Plays

@@ -1,9 +1,10 @@
 -- What a run comes to in all of its outputs.
-use Rattle.std.specs.Prelude.{◌≡◌, ℕ, true, List, Result, Ok, Err}
+use Rattle.std.specs.Prelude.{◌≡◌, ℕ, true, List, All, Result, Ok, Err}
+use Rattle.book_texts.specs.Typed.{IsTyped}
 use Rattle.run_command.specs.Answers.{IsRunAnswer}
 use Rattle.run_command.specs.Books.{AreBooksOf}
-use Rattle.run_command.specs.Laws.{CallsHavePaid, PassTheirAudits}
 use Rattle.run_command.specs.Plays.{IsGivenBy}
+use Rattle.run_command.specs.Starts.{InputIsInRange}
 use Rattle.run_outputs.specs.Refused.{refusals_counted_in}
 use Rattle.run_outputs.specs.Unplaced.{AreByCall, events_in_rows}
 use Rattle.run_command.specs.declared.error.RunError.{RunError}
@@ -21,6 +22,7 @@ use Rattle.run_outputs.specs.Texts.{AreTextsOf, TablesSaid, clock_of}
 pub record AreTablesOf (ask : RunAsk) (input : List ℕ) (tables : TablesSaid) : Type 0 where
   pub said : RunInput
   pub read : input_of input ≡ Ok said
+  pub range : InputIsInRange said
   pub workers : are_workers ask.workers ≡ true
   pub given : List (ℕ × Body)
   pub heard : List (List Answer)
@@ -30,10 +32,8 @@ pub record AreTablesOf (ask : RunAsk) (input : List ℕ) (tables : TablesSaid) :
   pub printed : AreTextsOf (clock_of ask.output) (record { setup = are_books.setup; given = given; books = books }) (all_heard heard) tables
   pub refused : tables.refusals ≡ refusals_counted_in (all_heard heard)
   pub unplaced : AreByCall (events_in_rows given_by.play.play.unplaced) tables.unplaced
-  -- a long audit of the table of the books says yes for each account, and so does a short one where that takes as many rows
-  pub passes : PassTheirAudits books
-  -- the records of its calls have paid what the calls of its books have, a call without a route nothing, and a call without a forfeit the price of its times by its route
-  pub paid : CallsHavePaid (record { setup = are_books.setup; given = given; books = books })
+  -- each number in the table of the books has its type
+  pub typed : All IsTyped books
 
 -- an answer to the input: all outputs of one run, or a fault as that of a run
 abbrev pub IsTablesAnswer : RunAsk → List ℕ → Result TablesSaid RunError → Type 0

@@ -4,7 +4,6 @@
 
 mod error;
 mod jobs;
-mod laws;
 mod listening;
 mod parts;
 mod playing;

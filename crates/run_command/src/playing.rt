@@ -1,21 +1,24 @@
 //! A script is played.
 
-ghost use Rattle.std.specs.Prelude.{◌≡◌, ◌≤◌, All, IfOk, IfErr, true};
+ghost use Rattle.std.specs.Prelude.{◌≡◌, ◌≤◌, ◌++◌, All, IfOk, IfErr, List, true};
 ghost use Rattle.run_command.specs.Answers.{MayFail};
 ghost use Rattle.run_command.specs.Played.{IsPlayedRun};
+ghost use Rattle.run_command.specs.Plays.{HearsItsRounds, IsPlayWithout};
 ghost use Rattle.run_options.specs.Options.{ask_of};
 ghost use Rattle.run_texts.specs.Views.{rows_are_in_order};
+ghost use Rattle.run_texts.specs.declared.script.ScriptRow.{ScriptRow};
+ghost use Rattle.run_values.specs.declared.post.Answer.{Answer};
 ghost use Rattle.runs_core.specs.Teams.{are_workers};
 
+use crate::RunError;
 use crate::listening::Listener;
 use crate::watched::Watched;
 use crate::watching::{Watch, Watcher, Watching};
-use crate::{RunError, laws};
 use price_core::MAX_MOMENT;
 use run_options::RunOptions;
 use run_outputs::Played;
 use run_texts::ScriptRow;
-use run_values::RunSetup;
+use run_values::{Driver, RunSetup};
 use runs_core::serve;
 use script_player::ScriptPlayer;
 use shared_account::OpenGate;
@@ -47,6 +50,20 @@ pub(crate) fn play<R: Wait + Threads + Sync, W: Watch>(
     let Watched { listener, watcher } = watched;
     watcher.clear();
     let books = served?;
-    laws::is_played(&listener.player);
+    is_played(&listener.player);
     Ok(listener.played(books))
+}
+
+/// What a player that has ended has given is the play of its rows by the answers that it has heard,
+/// in which the rows had no place that it says.
+fn is_played(player: &ScriptPlayer)
+    requires { player.now.ended ≡ true }
+    ensures { (rows : List ScriptRow) (heard : List (List Answer))
+        → player.now.taken ++ player.now.left ≡ rows
+        → HearsItsRounds player.now.network.config player.now.delay rows heard player.now
+        → IsPlayWithout player.now.network.config player.now.delay rows heard
+        player.now.network.given player.now.unplaced }
+{
+    let _ = player.ended();
+    let _ = player.given();
 }

@@ -8,11 +8,11 @@ ghost use Rattle.run_outputs.specs.Texts.{run_said_of};
 ghost use Rattle.run_options.specs.Options.{ask_of};
 ghost use Rattle.run_texts.specs.Views.{rows_are_in_order};
 
+use crate::RunError;
 use crate::parts::run_in_parts;
 use crate::playing::play;
 use crate::setting_up::{Start, set_up};
 use crate::watching::{Watch, Watching};
-use crate::{RunError, laws};
 use price_core::MAX_MOMENT;
 use run_options::RunOptions;
 use run_outputs::Ran;
@@ -44,9 +44,6 @@ pub fn run<R: Wait + Threads + Sync, W: Watch + Sync>(
         (result_map_both run_said_of (λ error. error) result) }
 {
     let Start { setup, script } = set_up(alloc, options, input)?;
-    laws::played_books_pass();
-    laws::played_calls_have_paid();
-    laws::joined_books_pass();
     let watching = Watching::new(watch);
     match options.played_parts() {
         None => run_whole(rt, alloc, options, &setup, script, &watching),

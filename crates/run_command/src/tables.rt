@@ -10,10 +10,10 @@ ghost use Rattle.run_options.specs.declared.options.RunOutput.TheVariants as out
 ghost use Rattle.run_outputs.specs.Texts.{tables_said};
 ghost use Rattle.run_texts.specs.Views.{rows_are_in_order};
 
+use crate::RunError;
 use crate::playing::play;
 use crate::setting_up::{Start, set_up};
 use crate::watching::{Watch, Watching};
-use crate::{RunError, laws};
 use moment_texts::Clock;
 use price_core::MAX_MOMENT;
 use run_options::{RunOptions, RunOutput};
@@ -40,8 +40,6 @@ pub fn run_tables<R: Wait + Threads + Sync, W: Watch>(
         (result_map_both tables_said (λ error. error) result) }
 {
     let Start { setup, script } = set_up(alloc, options, input)?;
-    laws::played_books_pass();
-    laws::played_calls_have_paid();
     play_tables(rt, alloc, options, &setup, script, &Watching::new(watch))
 }
 

@@ -9,7 +9,7 @@ use Rattle.std.proofs.lemmas.List.Elements.{All-map, All-same}
 use Rattle.std.proofs.lemmas.Bool.{and_parts, leb-true}
 use Rattle.entry_rows.specs.Fits.{IsMoment, IsMoney}
 use Rattle.runs_core.proofs.Listed.{all_unmapped}
-use Rattle.run_laws.specs.Runs.{HasAccounts}
+use Rattle.run_values.specs.Openings.{HasAccounts}
 use Rattle.run_values.proofs.Placing.{first_at}
 use Rattle.run_values.specs.Openings.{expires_in_time, opening_is_in_range}
 use Rattle.run_values.specs.Setups.{Setup}

@@ -1,4 +1,9 @@
+pub mod Answered
 pub mod Books
+pub mod Joined
+pub mod Played
+pub mod PrintedBooks
+pub mod ReadBack
 pub mod Records
 pub mod Runs
 pub mod Starts

@@ -6,7 +6,7 @@ use Rattle.call_records.specs.Records.{AreRecords, IsRecord, Run}
 use Rattle.call_records.specs.declared.call_record.CallRecord.{CallRecord}
 use Rattle.call_records.specs.declared.outcome.Outcome.TheVariants as outcome
 use Rattle.cap_values.specs.NumberDigits.{digits_of_number}
-use Rattle.run_laws.specs.Runs.{HasAccounts}
+use Rattle.run_values.specs.Openings.{HasAccounts}
 use Rattle.run_laws.specs.Starts.{HaveTheirParties, HaveTheirStarts}
 use Rattle.run_values.specs.declared.post.Answer.{Answer}
 use Rattle.runs_core.specs.Runs.{IsRun}

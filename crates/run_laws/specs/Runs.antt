@@ -1,24 +1,15 @@
 -- A run whose books can be read back.
 use Rattle.std.specs.Prelude.{◌≡◌, ℕ, true, List, All}
-use Rattle.std.specs.List.Sorted.{IsStrictlySortedBy}
-use Rattle.std.specs.Map.{keys_of}
-use Rattle.std.specs.Ordering.{nat_cmp}
 use Rattle.book_texts.specs.Typed.{IsTyped}
 use Rattle.run_laws.specs.Timely.{AreTimely}
-use Rattle.run_values.specs.Openings.{opening_is_in_range}
+use Rattle.run_values.specs.Openings.{HasAccounts}
 use Rattle.run_values.specs.Setups.{Setup}
 use Rattle.run_values.specs.declared.post.Answer.{Answer}
-use Rattle.run_values.specs.declared.directory.OpeningCredit.{OpeningCredit}
 use Rattle.run_values.specs.declared.post.Body.{Body}
 use Rattle.runs_core.specs.Runs.{IsRun}
 use Rattle.runs_core.specs.Teams.{are_workers}
 use Rattle.shared_account.specs.Closed.{Closed}
 use Rattle.shared_account.specs.Refusals.{Knowing}
-
--- accounts by rising number, each with an opening credit in its range
-pub record HasAccounts (accounts : List (ℕ × OpeningCredit)) : Type 0 where
-  pub ordered : IsStrictlySortedBy nat_cmp (keys_of accounts)
-  pub range : All (λ account. opening_is_in_range account.1 ≡ true) accounts
 
 -- a run over such accounts, to which nothing was given that has no range
 pub record IsTimelyRun (Stood : Closed → ℕ → Knowing) (setup : Setup) (workers : ℕ) (given : List (ℕ × Body)) (answers : List Answer) (books : List Closed) : Type 0 where

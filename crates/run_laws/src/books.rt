@@ -2,8 +2,8 @@
 
 ghost use Rattle.run_laws.specs.Books.{AuditableBooksHaveFewRows, AuditableBooksPass, RunBooksAreAuditable, RunBooksHaveTheirAccounts, RunsArePrintable, RunsHaveFewRows, RunsPassTheAudit};
 
+use crate::printed::printed_books_are_read;
 use account_core::entries_are_in_range;
-use book_texts::printed_books_are_read;
 use runs_core::{reserves_are_in_the_books, run_entries_are_served};
 use shared_account::Shared;
 

@@ -1,5 +1,8 @@
 -- What accounts are opened with.
-use Rattle.std.specs.Prelude.{◌&&◌, ℕ, Bool, true, Option, Some, None, nat_le}
+use Rattle.std.specs.Prelude.{◌≡◌, ◌&&◌, ℕ, Bool, true, Option, Some, None, List, All, nat_le}
+use Rattle.std.specs.List.Sorted.{IsStrictlySortedBy}
+use Rattle.std.specs.Map.{keys_of}
+use Rattle.std.specs.Ordering.{nat_cmp}
 use Rattle.price_core.specs.declared.plan.TheConstants.{MAX_MONEY}
 use Rattle.price_core.specs.declared.times.TheConstants.{MAX_MOMENT}
 use Rattle.run_values.specs.declared.directory.OpeningCredit.{OpeningCredit}
@@ -16,3 +19,8 @@ expires_in_time (Some until) = nat_le until MAX_MOMENT
 -- whether an opening credit is 0 to `MAX_MONEY`, and its last moment in time
 abbrev pub opening_is_in_range : OpeningCredit → Bool
 opening_is_in_range opening = nat_le opening.amount MAX_MONEY && expires_in_time opening.until
+
+-- accounts by rising number, each with an opening credit in its range
+pub record HasAccounts (accounts : List (ℕ × OpeningCredit)) : Type 0 where
+  pub ordered : IsStrictlySortedBy nat_cmp (keys_of accounts)
+  pub range : All (λ account. opening_is_in_range account.1 ≡ true) accounts

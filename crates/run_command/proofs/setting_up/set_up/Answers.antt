@@ -1,6 +1,6 @@
 use Rattle.std.proofs.Common.{refl, ap, true, ◌≡◌}
 use Rattle.std.proofs.lemmas.List.Elements.{All-map}
-use Rattle.run_laws.specs.Runs.{HasAccounts}
+use Rattle.run_values.specs.Openings.{HasAccounts}
 use Rattle.run_texts.specs.Happenings.{RowData, is_in_time}
 use Rattle.run_texts.specs.Inputs.{input_in}
 use Rattle.run_texts.specs.Views.{row_data, with_digits}

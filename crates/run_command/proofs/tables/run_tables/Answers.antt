@@ -4,5 +4,5 @@ use Rattle.run_command.proofs.tables.run_tables.Goals as goal
 
 pub returns : goal.returns
 returns g c =
-    tables_answer (ask_of c.args.options.now) c.args.input.now _ _ c.in_ok-setup.ensures.start c.played_books_pass.ensures c.played_calls_have_paid.ensures c.play_tables.result
+    tables_answer (ask_of c.args.options.now) c.args.input.now _ _ c.in_ok-setup.ensures.start c.play_tables.result
     c.play_tables.ensures.tables c.play_tables.ensures.fault

@@ -1,5 +1,5 @@
-use Rattle.run_command.proofs.Passing.{joined_accounts, joined_pass}
-use Rattle.run_command.proofs.laws.joined_books_pass.Goals as goal
+use Rattle.run_laws.proofs.Passing.{joined_accounts, joined_pass}
+use Rattle.run_laws.proofs.answered.joined_books_pass.Goals as goal
 
 pub returns : goal.returns
 returns c =

@@ -1,5 +1,5 @@
-use Rattle.book_texts.proofs.ReadBooks.{books_have_lines, books_pass, books_read}
-use Rattle.book_texts.proofs.laws.printed_books_are_read.Goals as goal
+use Rattle.run_laws.proofs.ReadBooks.{books_have_lines, books_pass, books_read}
+use Rattle.run_laws.proofs.printed.printed_books_are_read.Goals as goal
 
 pub returns : goal.returns
 returns c = record {

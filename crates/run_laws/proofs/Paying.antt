@@ -1,9 +1,9 @@
 -- What the records of the calls of a played script have paid.
 use Rattle.std.proofs.Common.{ℕ, List, sym, subst}
 use Rattle.call_records.specs.Records.{Run}
-use Rattle.run_laws.specs.Runs.{HasAccounts}
-use Rattle.run_command.proofs.Starts.{played_starts, started_parties}
-use Rattle.run_command.specs.Laws.{PlayedCallsHavePaid}
+use Rattle.run_values.specs.Openings.{HasAccounts}
+use Rattle.run_laws.proofs.Starts.{played_starts, started_parties}
+use Rattle.run_laws.specs.Played.{PlayedCallsHavePaid}
 use Rattle.run_laws.specs.Records.{CallsPayTheirRoute, IsServedRun, RecordsSumUp, UnroutedCallsPayNothing}
 use Rattle.run_laws.specs.Starts.{HaveTheirStarts}
 use Rattle.run_values.specs.declared.directory.OpeningCredit.{OpeningCredit}

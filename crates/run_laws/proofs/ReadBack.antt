@@ -13,7 +13,7 @@ use Rattle.price_core.specs.declared.times.TimeInfo.TheVariants as info
 use Rattle.entry_rows.specs.Column.{any_number_of, interval_of, is_empty_column, moment_column, money_of, number_column, optional_moment_of, optional_rate_of, rate_of, step_units_of, units_of}
 use Rattle.entry_rows.specs.Columns.{in_fourth, number_or_empty, operation_of}
 use Rattle.entry_rows.specs.Fits.{FitsAsked, FitsReport, IsInterval, IsMoment, IsMoney, IsRate, IsTime, IsWide}
-use Rattle.entry_rows.specs.Laws.{IsReadAsOp, OperationsAreRead, RepliesAreRead}
+use Rattle.run_laws.specs.ReadBack.{IsReadAsOp, OperationsAreRead, RepliesAreRead}
 use Rattle.entry_rows.specs.Operations.{at_of, first_column, free_of, plan_in, reserve_in, step_column}
 use Rattle.entry_rows.specs.declared.version.Version.{Version}
 use Rattle.entry_rows.specs.declared.version.Version.TheVariants as version

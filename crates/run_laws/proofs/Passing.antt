@@ -10,14 +10,16 @@ use Rattle.std.proofs.lemmas.List.Elements.{All-filter}
 use Rattle.book_texts.specs.Printable.{row_count}
 use Rattle.book_texts.specs.Typed.{IsTyped}
 use Rattle.run_laws.specs.Books.{AuditableBooksHaveFewRows, AuditableBooksPass, IsAuditable, RunBooksAreAuditable, RunBooksHaveTheirAccounts}
-use Rattle.run_laws.specs.Runs.{HasAccounts, IsTimelyRun}
-use Rattle.run_command.proofs.Joining.{all_accounts, all_parts, own_accounts}
-use Rattle.run_command.proofs.Timing.{given_timely, rows_in_time}
+use Rattle.run_laws.specs.Runs.{IsTimelyRun}
+use Rattle.run_values.specs.Openings.{HasAccounts}
+use Rattle.run_laws.proofs.Joining.{all_accounts, all_parts, own_accounts}
+use Rattle.run_laws.proofs.Timing.{given_timely, rows_in_time}
 use Rattle.run_command.specs.Books.{AreBooksOf}
 use Rattle.run_command.specs.InParts.{IsPartOf}
 use Rattle.run_outputs.specs.Kept.{PartSaid}
-use Rattle.run_command.specs.Joined.{JoinedBooksHaveAllAccounts, JoinedBooksPass, joined_books}
-use Rattle.run_command.specs.Laws.{InputIsInRange, PassTheirAudits, PlayedBooksPass}
+use Rattle.run_laws.specs.Joined.{JoinedBooksHaveAllAccounts, JoinedBooksPass, joined_books}
+use Rattle.run_command.specs.Starts.{InputIsInRange}
+use Rattle.run_laws.specs.Played.{PassTheirAudits, PlayedBooksPass}
 use Rattle.run_command.specs.Plays.{IsGivenBy}
 use Rattle.run_options.specs.declared.options.RunAsk.{RunAsk}
 use Rattle.run_outputs.specs.Parts.{part_of, part_of_account, part_script, payer_of}

@@ -1,5 +1,5 @@
-use Rattle.run_command.proofs.Passing.{played_pass}
-use Rattle.run_command.proofs.laws.played_books_pass.Goals as goal
+use Rattle.run_laws.proofs.Passing.{played_pass}
+use Rattle.run_laws.proofs.answered.played_books_pass.Goals as goal
 
 pub returns : goal.returns
 returns c =

@@ -19,7 +19,7 @@ use Rattle.account_core.specs.Entries.{EntryData}
 use Rattle.entry_rows.specs.Column.{is_empty_column, moment_column, money_of, number_column, optional_moment_of, seat_of}
 use Rattle.entry_rows.specs.Columns.{Answer, Operation, reply_fields, no_answer, number_or_empty, opening_columns, operation_at, operation_of}
 use Rattle.entry_rows.specs.Fits.{FitsEntry, IsMoment, IsMoney}
-use Rattle.entry_rows.specs.Laws.{OperationsAreRead, PrintsWhole, RepliesAreRead}
+use Rattle.run_laws.specs.ReadBack.{OperationsAreRead, PrintsWhole, RepliesAreRead}
 use Rattle.entry_rows.specs.Versions.{version_at}
 use Rattle.entry_rows.specs.declared.version.Version.{Version}
 use Rattle.entry_rows.specs.declared.version.Version.TheVariants as version
@@ -35,10 +35,10 @@ use Rattle.book_texts.specs.Audits.{AreVerdicts, IsAuditOf, IsSummedUp, AccountV
 use Rattle.book_texts.specs.BookRows.{Enters, Opens, book_account_in, columns_in, entry_in, opening_in, row_said_in}
 use Rattle.book_texts.specs.BookTexts.{asks_steps, book_text, history_has_steps, version_of}
 use Rattle.book_texts.specs.Books.{Books, Booked, books_form, book_row_at}
-use Rattle.book_texts.specs.Laws.{BooksAreRead, PrintedBooksHaveTheirLines, PrintedBooksPass}
+use Rattle.run_laws.specs.PrintedBooks.{BooksAreRead, PrintedBooksHaveTheirLines, PrintedBooksPass}
 use Rattle.book_texts.specs.Printable.{ArePrintable, FitsBook, row_count, account_of_book}
 use Rattle.book_texts.specs.RunTexts.{account_line, call_line, line_in}
-use Rattle.book_texts.proofs.PrintedRows.{book_fields, entry_fields, opening_fields, row_fields, table_fields, table_plain, text_lines, unmarked}
+use Rattle.run_laws.proofs.PrintedRows.{book_fields, entry_fields, opening_fields, row_fields, table_fields, table_plain, text_lines, unmarked}
 
 -- ---- the last account of a list that rises
 

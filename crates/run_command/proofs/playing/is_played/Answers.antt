@@ -1,6 +1,6 @@
 use Rattle.run_command.proofs.PlayLemmas.{play_of}
 use Rattle.std.proofs.Common.{refl, rules}
-use Rattle.run_command.proofs.laws.is_played.Goals as goal
+use Rattle.run_command.proofs.playing.is_played.Goals as goal
 
 pub returns : goal.returns
 returns c = λ rows heard all rounds.

@@ -1,33 +1,26 @@
 -- What an audit says of the books of a run over an input, and what its calls have paid.
-use Rattle.std.specs.Prelude.{◌≡◌, ◌≢◌, ◌⊎◌, ◌≤◌, ℕ, true, List, All, length, sum_by}
+use Rattle.std.specs.Prelude.{◌≡◌, ◌≢◌, ◌⊎◌, ◌≤◌, ℕ, true, List, All, sum_by}
 use Rattle.book_texts.specs.Printable.{row_count}
 use Rattle.book_texts.specs.Sizes.{most_rows}
 use Rattle.book_texts.specs.Typed.{IsTyped}
 use Rattle.book_texts.specs.declared.size.BookSize.TheVariants as size
 use Rattle.run_laws.specs.Books.{PassTheAudit}
-use Rattle.run_laws.specs.Runs.{HasAccounts}
 use Rattle.call_records.specs.Records.{AreRecords, IsRecord, Run}
 use Rattle.call_records.specs.declared.call_record.CallRecord.{CallRecord}
 use Rattle.call_records.specs.declared.outcome.Outcome.TheVariants as outcome
 use Rattle.run_command.specs.Books.{AreBooksOf}
 use Rattle.run_command.specs.Plays.{IsGivenBy}
+use Rattle.run_command.specs.Starts.{InputIsInRange}
 use Rattle.run_options.specs.declared.options.RunAsk.{RunAsk}
 use Rattle.run_laws.specs.Records.{IsServedRun, IsUntalked, PaysItsRoute, paid_by_calls}
 use Rattle.run_laws.specs.Starts.{HaveTheirStarts}
-use Rattle.run_texts.specs.Happenings.{is_in_time}
 use Rattle.run_texts.specs.Inputs.{RunInput}
 use Rattle.run_values.specs.declared.post.Answer.{Answer}
 use Rattle.run_values.specs.declared.post.Body.{Body}
-use Rattle.run_values.specs.declared.setup.TheConstants.{MAX_ACCOUNTS}
+use Rattle.run_values.specs.Openings.{HasAccounts}
 use Rattle.runs_core.specs.Teams.{are_workers}
 use Rattle.shared_account.specs.Closed.{Closed}
 use Rattle.turn_account.specs.Seen.{StoodIn}
-
--- an input of at most 1,000 accounts, which rise, each with an opening in its range, and whose recharges are in time, as those that are read are
-pub record InputIsInRange (said : RunInput) : Type 0 where
-  pub accounts : HasAccounts said.setup.accounts
-  pub few : length said.setup.accounts ≤ MAX_ACCOUNTS
-  pub recharges : All (λ event. is_in_time event.what ≡ true) said.script
 
 -- the table of books passes a long audit, and a short one where that takes as many rows
 pub record PassTheirAudits (books : List Closed) : Type 0 where
