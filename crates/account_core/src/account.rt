@@ -26,12 +26,23 @@ use std::marker::Model;
 /// Beside its entries it keeps what they come to. It keeps room in memory for the places that are
 /// owed for closing the open calls, so that a Return of an open call, and its first Settle since
 /// its last grant, always succeed.
-#[derive(Drop)]
 pub struct Account {
     entries: Vec<Entry>,
     opening: u64,
     until: Option<u64>,
     teller: Teller,
+}
+
+// Written out, since a derived one is proved field by field again wherever an account is let go.
+impl Drop for Account {
+    fn drop(self) {
+        let Account {
+            entries: _entries,
+            opening: _opening,
+            until: _until,
+            teller: _teller,
+        } = self;
+    }
 }
 
 impl Model for Account {
@@ -201,12 +212,23 @@ impl Account {
 /// answers alone.
 ///
 /// Each clause speaks of every ledger that a teller stands for: one whose history comes to this.
-#[derive(Drop)]
 pub struct Teller {
     tally: Tally,
     limit: u32,
     entries: usize,
     owed: usize,
+}
+
+// Written out, since a derived one is proved field by field again wherever a teller is let go.
+impl Drop for Teller {
+    fn drop(self) {
+        let Teller {
+            tally: _tally,
+            limit: _limit,
+            entries: _entries,
+            owed: _owed,
+        } = self;
+    }
 }
 
 impl Teller {

@@ -15,9 +15,15 @@ use std::marker::Model;
 /// A map by number, of values that are copied. While each new number is above all others it is a
 /// list, in which a search is quickest; from the first one on that isn't, it is an ordered map, so
 /// that no order of numbers takes long.
-#[derive(Drop)]
 pub struct RisingMap<V: Copy> {
     form: Form<V>,
+}
+
+// Written out, since a derived one is proved field by field again wherever a map is let go.
+impl<V: Copy> Drop for RisingMap<V> {
+    fn drop(self) {
+        let RisingMap { form: _form } = self;
+    }
 }
 
 /// How the values are kept.

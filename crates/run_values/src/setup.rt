@@ -27,13 +27,25 @@ pub const MAX_SUBSCRIBERS: usize = 10_000;
 
 /// What a run is set up with: the accounts in ascending order of their numbers, the subscribers,
 /// the tariff, what the service asks for, and the history limit of each account.
-#[derive(Drop)]
 pub struct RunSetup {
     accounts: Vec<(u32, OpeningCredit)>,
     subscribers: BTreeMap<Number, u32>,
     tariff: Tariff,
     service: ServiceConfig,
     limit: u32,
+}
+
+// Written out, since a derived one is proved field by field again wherever a setup is let go.
+impl Drop for RunSetup {
+    fn drop(self) {
+        let RunSetup {
+            accounts: _accounts,
+            subscribers: _subscribers,
+            tariff: _tariff,
+            service: _service,
+            limit: _limit,
+        } = self;
+    }
 }
 
 impl Model for RunSetup {

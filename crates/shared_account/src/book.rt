@@ -15,10 +15,19 @@ use std::marker::Model;
 
 /// The book of an account that was closed: its history, which is legal. A form of a shared account
 /// makes it when it is closed, by `Book::new`.
-#[derive(Drop)]
 pub struct Book {
     number: u32,
     account: Account,
+}
+
+// Written out, since a derived one is proved field by field again wherever a book is let go.
+impl Drop for Book {
+    fn drop(self) {
+        let Book {
+            number: _number,
+            account: _account,
+        } = self;
+    }
 }
 
 impl Model for Book {
