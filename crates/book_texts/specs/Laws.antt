@@ -10,10 +10,6 @@ use Rattle.book_texts.specs.Books.{books_of}
 use Rattle.book_texts.specs.Printable.{ArePrintable, account_of_book}
 use Rattle.book_texts.specs.RunTexts.{IsRunText}
 
--- of books there is no more than one text
-abbrev pub BooksHaveOneText : Type 0
-BooksHaveOneText = (books : List Closed) (one other : List ℕ) → IsRunText books one → IsRunText books other → one ≡ other
-
 -- the table that is printed of books is read back to the opening and the history of each
 abbrev pub BooksAreRead : Type 0
 BooksAreRead =

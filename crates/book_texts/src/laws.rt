@@ -4,17 +4,12 @@ ghost use Rattle.account_core.specs.Entries.{asked_of};
 ghost use Rattle.price_core.specs.RatesOf.{rates_of};
 ghost use Rattle.entry_rows.specs.Fits.{FitsPlan};
 ghost use Rattle.book_texts.specs.Typed.{IsTypedAsked};
-ghost use Rattle.book_texts.specs.Laws.{BooksAreRead, BooksHaveOneText, PrintedBooksHaveTheirLines, PrintedBooksPass};
+ghost use Rattle.book_texts.specs.Laws.{BooksAreRead, PrintedBooksHaveTheirLines, PrintedBooksPass};
 
 use account_core::Op;
 use entry_rows::{operations_are_read, replies_are_read};
 use price_core::Plan;
 use table_core::{printed_decimals_are_read, printed_tables_are_read};
-
-/// What `run_lines` says of its text leaves no byte of it open.
-pub fn books_have_one_text()
-    ensures { BooksHaveOneText }
-{}
 
 /// The table that `book_table` prints is read back to the openings and the histories of its books,
 /// and an audit of it says yes for each account, or the lines of the books where these are asked

@@ -12,7 +12,7 @@ mod table;
 mod wrong_row;
 
 pub use audit::{Audit, audit_books};
-pub use laws::{books_have_one_text, printed_books_are_read};
+pub use laws::printed_books_are_read;
 pub use lines::{RunLines, run_lines};
 pub use size::{AuditAsk, BookSize, MAX_LONG_ROWS, MAX_ROWS};
 pub use table::book_table;
