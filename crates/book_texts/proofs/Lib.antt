@@ -1,7 +1,6 @@
 pub mod CallLemmas
 pub mod CheckLemmas
 pub mod LineLemmas
-pub mod OneText
 pub mod SumLines
 pub mod TextLemmas
 pub mod AboveLemmas

@@ -5,14 +5,13 @@
 mod account_checks;
 mod audit;
 mod book_row;
-mod laws;
 mod lines;
+mod ranges;
 mod size;
 mod table;
 mod wrong_row;
 
 pub use audit::{Audit, audit_books};
-pub use laws::books_have_one_text;
 pub use lines::{RunLines, run_lines};
 pub use size::{AuditAsk, BookSize, MAX_LONG_ROWS, MAX_ROWS};
 pub use table::book_table;

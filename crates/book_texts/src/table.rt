@@ -6,7 +6,7 @@ ghost use Rattle.account_core.specs.Entries.{asked_of, entry_data};
 ghost use Rattle.book_texts.specs.BookTexts.{asks_steps, book_rows, book_text, entry_row, book_header, history_has_steps, version_of};
 ghost use Rattle.book_texts.specs.Typed.{IsTyped, IsTypedAsked};
 
-use crate::laws;
+use crate::ranges::op_is_typed;
 use account_core::{Entry, Op};
 use entry_rows::{Version, write_answer, write_opening, write_operation};
 use shared_account::Book;
@@ -120,7 +120,7 @@ fn write_entry(
         ++ entry_row version account (entry_data entry.now)) }
     ensures typed { IsTypedAsked (asked_of entry.now.op) }
 {
-    laws::op_is_typed(entry.op);
+    op_is_typed(entry.op);
     let seat = entry.seat;
     write!(text, "{account},{seat},")?;
     write_operation(text, version, entry.op)?;

@@ -7,6 +7,8 @@ pub mod Handling
 pub mod Joining
 pub mod Lines
 pub mod Logs
+pub mod PostColumns
+pub mod PostLines
 pub mod Printing
 pub mod Readable
 pub mod Recovering

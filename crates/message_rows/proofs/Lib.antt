@@ -1,4 +1,2 @@
-mod PlainLines
-mod PostColumns
-mod PostLines
+pub mod PlainLines
 pub mod RowLemmas

@@ -1,5 +1,4 @@
 pub mod Kinds
-pub mod Laws
 pub mod Lines
 pub mod Messages
 pub mod Said

@@ -3,7 +3,6 @@
 #![tactic(auto)]
 
 mod kind;
-mod laws;
 mod line;
 mod message;
 mod trace;
@@ -11,7 +10,6 @@ mod trace_rows;
 mod words;
 
 pub use kind::LineKind;
-pub use laws::printed_posts_are_read;
 pub use line::read_line;
 pub use message::Message;
 pub use trace::{trace_table, write_rows};

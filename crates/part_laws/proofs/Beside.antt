@@ -2,12 +2,12 @@
 use Rattle.std.proofs.Common.{◌≡◌, ◌≤◌, ◌<◌, ◌+◌, ◌++◌, ◌⊎◌, ℕ, Bool, true, false, Some, None, List, [], ◌∷◌, All}
 use Rattle.std.specs.List.{filter}
 use Rattle.part_laws.proofs.InOrder.{ComesInOrder, of_delivery}
+use Rattle.part_laws.proofs.OneSsf.{AreSsfsAlike}
 use Rattle.part_laws.specs.Chosen.{Choice, chosen}
 use Rattle.part_laws.specs.Rows.{chosen_rows}
 use Rattle.run_texts.specs.Views.{rows_are_in_order}
 use Rattle.run_values.specs.declared.post.Answer.{Answer}
 use Rattle.run_values.specs.declared.post.Body.{Body}
-use Rattle.script_player.proofs.OneSsf.{AreSsfsAlike}
 use Rattle.script_player.specs.Dues.{HasTimer, ssf_of}
 use Rattle.script_player.specs.Networks.{Shown}
 use Rattle.script_player.specs.Plays.{Play}

@@ -15,10 +15,10 @@ use Rattle.std.specs.Prelude.{nat_le}
 use Rattle.part_laws.proofs.Beside.{IsNetworkOf}
 use Rattle.part_laws.proofs.ChosenSteps.{chosen_ssfs, own_ssf, same_choice, shown_alike}
 use Rattle.part_laws.proofs.InOrder.{all_from, ComesInOrder, of_delivery, rest_in_order, starts_of, StartsFrom}
+use Rattle.part_laws.proofs.OneSsf.{ssfs_turned, timer_too}
 use Rattle.part_laws.specs.Chosen.{Choice}
 use Rattle.run_texts.specs.Views.{rows_are_in_order}
 use Rattle.run_texts.specs.declared.script.ScriptRow.{ScriptRow}
-use Rattle.script_player.proofs.OneSsf.{ssfs_turned, timer_too}
 use Rattle.script_player.specs.Dues.{AreDueBy, HasTimer, IsDueBy, is_among}
 use Rattle.script_player.specs.Networks.{Shown}
 use Rattle.script_player.specs.Rows.{next_row}

@@ -9,14 +9,15 @@ use Rattle.std.specs.List.{filter}
 use Rattle.std.specs.Ordering.{nat_cmp}
 use Rattle.cap_values.specs.declared.number.Number.{Number}
 use Rattle.part_laws.proofs.Beside.{HasSsfsOf, IsNetworkOf}
+use Rattle.part_laws.proofs.OneSsf.{AreSsfsAlike, HaveSsfsAlike, ShownAlike, gives_alike, happens_alike, row_fault_alike}
 use Rattle.part_laws.specs.Chosen.{Choice, chosen, is_chosen}
+use Rattle.part_laws.specs.OneWay.{TimersRunOneWay}
 use Rattle.part_laws.specs.Rows.{is_chosen_happening}
 use Rattle.run_texts.specs.declared.script.Happening.{Happening}
 use Rattle.run_texts.specs.declared.script.Happening.TheVariants as row
 use Rattle.run_texts.specs.declared.script.ScriptRow.{ScriptRow}
 use Rattle.run_values.specs.declared.post.Body.{Body}
 use Rattle.run_values.specs.declared.post.Body.TheVariants as body
-use Rattle.script_player.proofs.OneSsf.{AreSsfsAlike, HaveSsfsAlike, ShownAlike, gives_alike, happens_alike, row_fault_alike}
 use Rattle.script_player.specs.Chains.{Chain}
 use Rattle.script_player.specs.Dues.{ssf_of}
 use Rattle.script_player.specs.Networks.{Shown}
@@ -24,7 +25,6 @@ use Rattle.script_player.specs.Posts.{post_of, posts_of}
 use Rattle.script_player.specs.Steps.{Delivers, GetsSsf, FeedsSsf, GivesTo, HappensAt, PlaysRow, Recharges, SendsItems, Sets, StartsCall, Waits}
 use Rattle.script_player.specs.Unplaced.{fault_given, fault_of_feed, fault_of_row, unplaced_in, where_refused}
 use Rattle.ssf_core.specs.Calls.{View}
-use Rattle.ssf_core.specs.OneWay.{TimersRunOneWay}
 use Rattle.ssf_core.specs.declared.fault.SsfFault.{SsfFault}
 use Rattle.ssf_core.specs.declared.item.Item.{Item}
 use Rattle.ssf_core.specs.declared.item.Item.TheVariants as sent

@@ -7,13 +7,13 @@ use Rattle.std.proofs.lemmas.Bool.Decides.{nat_tests}
 use Rattle.std.proofs.lemmas.List.{map-append}
 use Rattle.std.proofs.lemmas.List.Elements.{All-cons, All-head, All-nil, All-tail}
 use Rattle.cap_values.specs.declared.message.SsfMsg.TheVariants.{InitialDp, EventReport, ChargingReport, Ended}
-use Rattle.book_texts.specs.Laws.{BooksHaveOneText}
 use Rattle.part_laws.proofs.Apart.{accounts_apart}
 use Rattle.part_laws.proofs.InOrder.{ComesInOrder, rise}
 use Rattle.part_laws.proofs.Lines.{lines_alike}
 use Rattle.part_laws.proofs.Records.{chosen_account}
 use Rattle.part_laws.specs.Chosen.{AreByAccount, HasBooksOf, IsByAccount, chosen_book}
 use Rattle.part_laws.specs.Numbers.{unnumbered_book}
+use Rattle.part_laws.specs.OneText.{BooksHaveOneText}
 use Rattle.part_laws.specs.Parts.{ArePaidBy, IsPaidBy, IsPlayedAlone, PartsAreAsOneRun, choice_of}
 use Rattle.run_outputs.specs.Kept.{own_books}
 use Rattle.run_outputs.specs.Parts.{part_by, part_of_account}

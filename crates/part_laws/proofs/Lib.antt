@@ -14,8 +14,13 @@ pub mod Merged
 pub mod MergedTables
 pub mod NoRefusals
 pub mod OneInput
+pub mod OnePlay
 pub mod OneRecord
 pub mod OneRun
+pub mod OneSsf
+pub mod OneText
+pub mod OneWay
+pub mod Orders
 pub mod OwnDeliveries
 pub mod OwnRows
 pub mod PartEvents

@@ -8,11 +8,11 @@ use Rattle.account_core.specs.Available.{available}
 use Rattle.account_core.specs.Entries.{EntryData}
 use Rattle.account_core.specs.Known.{CallFacts, known}
 use Rattle.account_core.specs.Sums.{sum_of}
-use Rattle.book_texts.specs.Laws.{BooksHaveOneText}
 use Rattle.book_texts.specs.RunTexts.{IsRunText, account_line, account_text, call_line, line_in, call_line_of}
 use Rattle.book_texts.specs.declared.lines.CallLine.{CallLine}
 use Rattle.part_laws.proofs.Blind.{available_same, known_same, reverse_map}
 use Rattle.part_laws.specs.Numbers.{unnumbered_book, without_number, without_numbers}
+use Rattle.part_laws.specs.OneText.{BooksHaveOneText}
 use Rattle.part_laws.specs.Printed.{LinesHaveNoNumbers}
 use Rattle.shared_account.specs.Closed.{Closed}
 

@@ -6,7 +6,6 @@ use Rattle.std.specs.List.Sorted.{IsStrictlySortedBy}
 use Rattle.std.specs.Map.{keys_of}
 use Rattle.std.specs.Ordering.{nat_cmp}
 use Rattle.std.proofs.lemmas.List.{get_or-map, length-map, map-id}
-use Rattle.book_texts.specs.Laws.{BooksHaveOneText}
 use Rattle.book_texts.specs.RunTexts.{IsRunText}
 use Rattle.call_records.specs.Records.{AreRecords}
 use Rattle.call_records.specs.declared.call_record.CallRecord.{CallRecord}
@@ -21,6 +20,7 @@ use Rattle.part_laws.proofs.Payers.{are_paid}
 use Rattle.part_laws.proofs.ReadInputs.{IsReadInput, of_event, read_input, rows_ordered}
 use Rattle.part_laws.proofs.ScriptParts.{rows_same, scripts_joined, tables_joined}
 use Rattle.part_laws.specs.OneInput.{HasValuesOf, PartsPrintAsOneRun, PrintsAlike}
+use Rattle.part_laws.specs.OneText.{BooksHaveOneText}
 use Rattle.part_laws.specs.Parts.{AreAsOfOneRun, choice_of}
 use Rattle.part_laws.specs.Printed.{run_given}
 use Rattle.part_laws.specs.Rows.{SomeRowsGiveTheirItems, chosen_rows}

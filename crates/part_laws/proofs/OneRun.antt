@@ -7,6 +7,8 @@ use Rattle.cap_values.specs.declared.number.Number.{Number}
 use Rattle.live_recovery.proofs.Alone.{as_many, runs_alike}
 use Rattle.live_recovery.specs.Laws.{NoneIsRefused, views_of}
 use Rattle.part_laws.proofs.Fronts.{fronts_answered}
+use Rattle.part_laws.proofs.OnePlay.{PlayAlike, fresh_alike, turn_alike}
+use Rattle.part_laws.specs.OneWay.{TimersRunOneWay, order_heard}
 use Rattle.part_laws.specs.Scripts.{ScriptsHaveOneRun}
 use Rattle.run_texts.specs.declared.script.Happening.{Happening}
 use Rattle.run_texts.specs.declared.script.Happening.TheVariants as row
@@ -16,11 +18,9 @@ use Rattle.run_values.specs.declared.post.Body.{Body}
 use Rattle.run_values.specs.declared.post.Body.TheVariants as body
 use Rattle.runs_core.specs.Hearing.{HearsMore, HearsRounds, all_heard}
 use Rattle.runs_core.specs.Runs.{IsRun}
-use Rattle.script_player.proofs.OnePlay.{PlayAlike, fresh_alike, turn_alike}
 use Rattle.script_player.specs.Chains.{Chain}
 use Rattle.script_player.specs.Dues.{ssf_of}
 use Rattle.script_player.specs.Networks.{Shown}
-use Rattle.script_player.specs.OneWay.{order_heard}
 use Rattle.script_player.specs.Plays.{Play}
 use Rattle.script_player.specs.Posts.{posts_of}
 use Rattle.script_player.specs.Rounds.{IsTurn}
@@ -29,7 +29,6 @@ use Rattle.script_player.specs.Steps.{Delivers, GetsSsf, FeedsSsf, GivesTo, Happ
 use Rattle.shared_account.specs.Closed.{Closed}
 use Rattle.turn_account.specs.Seen.{StoodIn}
 use Rattle.ssf_core.specs.Calls.{View}
-use Rattle.ssf_core.specs.OneWay.{TimersRunOneWay}
 use Rattle.tariff_core.specs.Laws.{IsProper}
 use Rattle.workers_core.specs.Handled.{AnswerView, answer_view}
 

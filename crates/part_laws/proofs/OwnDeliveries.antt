@@ -8,6 +8,7 @@ use Rattle.cap_values.specs.declared.operation.ScfOp.{ScfOp}
 use Rattle.live_recovery.proofs.Alone.{numbered_more}
 use Rattle.part_laws.proofs.Beside.{IsBetween, IsPartPlay, PassesOver, chosen_deliveries}
 use Rattle.part_laws.proofs.InOrder.{of_delivery, order_more}
+use Rattle.part_laws.proofs.Orders.{same_operations}
 use Rattle.part_laws.specs.Chosen.{Choice, answers_for, chosen, is_chosen}
 use Rattle.part_laws.specs.Numbers.{unnumbered_answer}
 use Rattle.run_values.specs.declared.post.Answer.{Answer}
@@ -15,7 +16,6 @@ use Rattle.run_values.specs.declared.post.Body.{Body}
 use Rattle.run_values.specs.declared.post.Body.TheVariants.{Ssf, Recharge}
 use Rattle.runs_core.specs.Hearing.{AnswersEach}
 use Rattle.runs_core.specs.Shares.{Item, numbered}
-use Rattle.script_player.proofs.Orders.{same_operations}
 use Rattle.script_player.specs.Deliveries.{deliveries_for, deliveries_of, deliveries_to}
 use Rattle.script_player.specs.Plays.{Play}
 use Rattle.script_player.specs.Rounds.{waiting}

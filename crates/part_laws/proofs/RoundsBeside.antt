@@ -14,6 +14,7 @@ use Rattle.part_laws.proofs.ChosenSteps.{chain_followed, delivers_followed, play
 use Rattle.part_laws.proofs.LeastMoments.{From, IsLeast, least_of}
 use Rattle.part_laws.proofs.RoundMoments.{AreTimely, GrowsAt, chain_at, delivers_at, expires_later, grows_both, happens_at, waits_at}
 use Rattle.part_laws.specs.Chosen.{Choice, chosen, is_chosen}
+use Rattle.part_laws.specs.OneWay.{TimersRunOneWay}
 use Rattle.part_laws.specs.Rows.{chosen_rows, is_chosen_happening}
 use Rattle.run_texts.specs.declared.script.ScriptRow.{ScriptRow}
 use Rattle.run_values.specs.declared.post.Answer.{Answer}
@@ -27,7 +28,6 @@ use Rattle.script_player.specs.Rows.{next_row}
 use Rattle.script_player.specs.Steps.{Delivers, DeliversDue, PlaysDue, PlaysRow, RunsTimers, Waits}
 use Rattle.script_player.specs.Unplaced.{unplaced_in}
 use Rattle.ssf_core.specs.Deliveries.{next_delivery}
-use Rattle.ssf_core.specs.OneWay.{TimersRunOneWay}
 use Rattle.ssf_core.specs.declared.deliveries.Delivery.{Delivery}
 use Rattle.price_core.specs.declared.times.TheConstants.{HORIZON}
 

@@ -2,7 +2,6 @@
 use Rattle.std.proofs.Common.{◌≡◌, ◌==◌, ◌<◌, ◌+◌, ◌∙◌, ℕ, Bool, true, false, Option, List, [], ◌∷◌, length, map, refl, sym, ap, subst, arith}
 use Rattle.std.specs.Prelude.{if◌then◌else◌, slice_index_or}
 use Rattle.std.specs.List.{filter, flat_map}
-use Rattle.book_texts.specs.Laws.{BooksHaveOneText}
 use Rattle.call_records.specs.Records.{AreRecords}
 use Rattle.call_records.specs.declared.call_record.CallRecord.{CallRecord}
 use Rattle.part_laws.proofs.Apart.{accounts_apart}
@@ -14,6 +13,7 @@ use Rattle.part_laws.proofs.OneRecord.{records_one}
 use Rattle.part_laws.proofs.Payers.{are_paid}
 use Rattle.part_laws.proofs.Records.{records_alike}
 use Rattle.part_laws.specs.Chosen.{AreByAccount, chosen}
+use Rattle.part_laws.specs.OneText.{BooksHaveOneText}
 use Rattle.part_laws.specs.ScriptParts.{PlaysItsRows, RecordsItsRows, ScriptsInPartsHaveOneRun, ScriptsInPartsHaveOneTable, payer_in_rows}
 use Rattle.part_laws.specs.Parts.{IsPlayedAlone, choice_of}
 use Rattle.part_laws.specs.Printed.{run_given}

@@ -2,6 +2,8 @@ pub mod Chosen
 pub mod Laws
 pub mod Numbers
 pub mod OneInput
+pub mod OneText
+pub mod OneWay
 pub mod Parts
 pub mod Printed
 pub mod Rows

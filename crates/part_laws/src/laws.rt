@@ -6,14 +6,15 @@ ghost use Rattle.part_laws.specs.Laws.{
   FrontsDontInterfere,
 };
 ghost use Rattle.part_laws.specs.OneInput.{PartsPrintAsOneRun};
+ghost use Rattle.part_laws.specs.OneText.{BooksHaveOneText};
 ghost use Rattle.part_laws.specs.Parts.{PartsAreAsOneRun};
 ghost use Rattle.part_laws.specs.Printed.{LinesHaveNoNumbers, RecordsAreThoseOfAll};
 ghost use Rattle.part_laws.specs.Rows.{SomeRowsGiveTheirItems};
 ghost use Rattle.part_laws.specs.ScriptParts.{ScriptsInPartsHaveOneRun, ScriptsInPartsHaveOneTable};
 ghost use Rattle.part_laws.specs.Scripts.{ScriptsHaveOneRun};
 
-use book_texts::books_have_one_text;
-use ssf_core::{initial_dp_is_first, timers_run_one_way};
+use crate::one_way::timers_run_one_way;
+use ssf_core::initial_dp_is_first;
 use tariff_core::{read_tariffs_are_proper, routes_are_single};
 
 /// Accounts don't interfere. One run of one worker is given items, and another over the same setup
@@ -44,6 +45,11 @@ pub fn fronts_are_answered_alike()
 /// driver of some accounts hears in a round is what one of all hears of them.
 pub fn fronts_dont_interfere()
     ensures { FrontsDontInterfere }
+{}
+
+/// What `run_lines` of `book_texts` says of its text leaves no byte of it open.
+pub fn books_have_one_text()
+    ensures { BooksHaveOneText }
 {}
 
 /// Books that are the same but for the numbers of settles have the same lines, byte for byte.

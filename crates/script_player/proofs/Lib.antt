@@ -10,9 +10,6 @@ pub mod Items
 pub mod DueMoments
 pub mod DueCalls
 pub mod LifeLemmas
-pub mod OnePlay
-pub mod OneSsf
-pub mod Orders
 pub mod DueRows
 pub mod RoundLemmas
 pub mod AnswerLemmas

@@ -5,7 +5,6 @@ pub mod Dues
 pub mod Inputs
 pub mod Lives
 pub mod Networks
-pub mod OneWay
 pub mod Playing
 pub mod Plays
 pub mod Posts

@@ -2,9 +2,7 @@
 //! gsmSSF for each call.
 #![tactic(auto)]
 
-mod laws;
 mod network;
 mod player;
 
-pub use laws::plays_go_one_way;
 pub use player::ScriptPlayer;

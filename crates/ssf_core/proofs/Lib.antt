@@ -5,7 +5,6 @@ pub mod InputLemmas
 pub mod LawLemmas
 pub mod MeterLemmas
 pub mod ModeLemmas
-pub mod OneWay
 pub mod RangeLemmas
 pub mod StayLemmas
 pub mod TimerLemmas

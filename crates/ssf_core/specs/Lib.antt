@@ -7,7 +7,6 @@ pub mod Laws
 pub mod Meters
 pub mod Modes
 pub mod Moments
-pub mod OneWay
 pub mod Phases
 pub mod Quantities
 pub mod Rules

@@ -1,7 +1,6 @@
 //! Laws of the traces of a gsmSSF, each the contract of a function that does nothing.
 
 ghost use Rattle.ssf_core.specs.Laws.{EachReportFits, InitialDpIsFirst, ReportsAreInRange, TheAnswerStays, TheSwitchStays};
-ghost use Rattle.ssf_core.specs.OneWay.{TimersRunOneWay};
 
 /// Each charging report is the exact split, at the tariff switch, of what was talked since the
 /// answer, while a period was pending and within the sum of the periods; where the call goes on it
@@ -29,10 +28,4 @@ pub fn the_switch_stays()
 /// Of all that a gsmSSF sends only the first is an InitialDP, if any is: no call has two.
 pub fn initial_dp_is_first()
     ensures { InitialDpIsFirst }
-{}
-
-/// From a trace the timers run up to a moment in one way: what has expired by then, and in which
-/// order, and what it has sent, is known by the trace alone.
-pub fn timers_run_one_way()
-    ensures { TimersRunOneWay }
 {}

@@ -18,8 +18,7 @@ pub use deliveries::{Delivery, next_delivery, next_moment, send, take_due};
 pub use fault::SsfFault;
 pub use item::{BcsmEvent, Item, Moment, Out, Step};
 pub use laws::{
-    each_report_fits, initial_dp_is_first, reports_are_in_range, the_answer_stays,
-    the_switch_stays, timers_run_one_way,
+    each_report_fits, initial_dp_is_first, reports_are_in_range, the_answer_stays, the_switch_stays,
 };
 pub use ssf::Ssf;
 pub use stage::State;

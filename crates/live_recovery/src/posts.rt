@@ -1,6 +1,7 @@
-//! What is printed is read back: a law, the contract of a function that does nothing else.
+//! What is printed of a message is read back: a law, the contract of a function that does nothing
+//! else.
 
-ghost use Rattle.message_rows.specs.Laws.{PostsAreRead};
+ghost use Rattle.live_recovery.specs.Posts.{PostsAreRead};
 
 use moment_texts::printed_moments_are_read;
 use table_core::{printed_decimals_are_read, printed_tables_are_read};

@@ -1,5 +1,5 @@
-use Rattle.message_rows.proofs.PostLines.{posts_read}
-use Rattle.message_rows.proofs.laws.printed_posts_are_read.Goals as goal
+use Rattle.live_recovery.proofs.PostLines.{posts_read}
+use Rattle.live_recovery.proofs.posts.printed_posts_are_read.Goals as goal
 
 pub returns : goal.returns
 returns c =

@@ -20,9 +20,9 @@ use Rattle.cap_values.specs.declared.mode.Mode.TheVariants as mode
 use Rattle.cap_values.specs.declared.number.Number.{Number}
 use Rattle.entry_rows.specs.Columns.{number_or_empty}
 use Rattle.entry_rows.specs.Fits.{IsInterval}
-use Rattle.message_rows.specs.Laws.{FitsBody, FitsPost, PostsAreRead}
+use Rattle.live_recovery.proofs.PostColumns.{post_fields, post_read, row_fields}
+use Rattle.live_recovery.specs.Posts.{FitsBody, FitsPost, PostsAreRead}
 use Rattle.message_rows.proofs.PlainLines.{low_is_no_mark}
-use Rattle.message_rows.proofs.PostColumns.{post_fields, post_read, row_fields}
 use Rattle.moment_texts.specs.Laws.{MomentsArePlain, MomentsAreRead}
 use Rattle.moment_texts.specs.Printing.{moment_or_empty, moment_text}
 use Rattle.moment_texts.specs.declared.clock.Clock.{Clock}

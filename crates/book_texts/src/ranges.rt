@@ -1,18 +1,13 @@
-//! Laws of the texts of books, each the contract of a function that does nothing else.
+//! The numbers of an operation are in the ranges of their types: what these types keep, as the
+//! contract of a function that does nothing else.
 
 ghost use Rattle.account_core.specs.Entries.{asked_of};
 ghost use Rattle.price_core.specs.RatesOf.{rates_of};
 ghost use Rattle.entry_rows.specs.Fits.{FitsPlan};
 ghost use Rattle.book_texts.specs.Typed.{IsTypedAsked};
-ghost use Rattle.book_texts.specs.Laws.{BooksHaveOneText};
 
 use account_core::Op;
 use price_core::Plan;
-
-/// What `run_lines` says of its text leaves no byte of it open.
-pub fn books_have_one_text()
-    ensures { BooksHaveOneText }
-{}
 
 /// The numbers of an operation are in the ranges of their types.
 pub(crate) fn op_is_typed(op: Op)

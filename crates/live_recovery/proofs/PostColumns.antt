@@ -14,7 +14,7 @@ use Rattle.cap_values.specs.declared.mode.Mode.{Mode}
 use Rattle.cap_values.specs.declared.mode.Mode.TheVariants as mode
 use Rattle.entry_rows.specs.Columns.{number_or_empty}
 use Rattle.entry_rows.specs.Fits.{FitsReport, IsInterval, IsMoment, IsMoney, IsTime, IsWide}
-use Rattle.message_rows.specs.Laws.{FitsMessage, FitsPost, message_of_post}
+use Rattle.live_recovery.specs.Posts.{FitsMessage, FitsPost, message_of_post}
 use Rattle.message_rows.specs.Messages.{event_message_in, interval_in, leg_in, message_in, mode_in, report_state_in}
 use Rattle.moment_texts.specs.Laws.{MomentsAreRead}
 use Rattle.moment_texts.specs.Printing.{moment_or_empty, moment_text}

@@ -1,34 +1,17 @@
 -- The timers of a gsmSSF run in one way.
 use Rattle.std.proofs.Common.{◌≡◌, ◌≤◌, ◌<◌, ◌++◌, ◌⊎◌, inl, inr, ℕ, Some, List, [], ◌∷◌, refl, sym, ap, subst, ◌∙◌, append_assoc, append-nil, arith}
+use Rattle.part_laws.specs.OneWay.{TimersRunOneWay}
 use Rattle.ssf_core.specs.Calls.{AreExpiries, IsExpiry}
 use Rattle.ssf_core.specs.Happenings.{Expired, Happening, Took, What}
-use Rattle.ssf_core.specs.OneWay.{TimersRunOneWay}
 use Rattle.ssf_core.specs.Quantities.{last_happening_moment}
 use Rattle.ssf_core.specs.Rules.{on_expiry}
 use Rattle.ssf_core.specs.Traces.{ComesBefore, HasEffect, IsTrace, MayFollow, due, phase_after, rank}
 use Rattle.ssf_core.specs.declared.config.SsfConfig.{SsfConfig}
 use Rattle.ssf_core.specs.declared.item.Item.{Item}
-use Rattle.ssf_core.specs.declared.timers.Timer.{Timer}
-use Rattle.ssf_core.specs.declared.timers.Timer.TheVariants.{Tsw, Tcp, Tccd, Tssf}
 
 -- timers of one rank are the same
-same_timer : (one other : Timer) → rank one ≡ rank other → one ≡ other
-same_timer Tsw Tsw same = refl
-same_timer Tsw Tcp same = absurd (omega (arith, same))
-same_timer Tsw Tccd same = absurd (omega (arith, same))
-same_timer Tsw Tssf same = absurd (omega (arith, same))
-same_timer Tcp Tsw same = absurd (omega (arith, same))
-same_timer Tcp Tcp same = refl
-same_timer Tcp Tccd same = absurd (omega (arith, same))
-same_timer Tcp Tssf same = absurd (omega (arith, same))
-same_timer Tccd Tsw same = absurd (omega (arith, same))
-same_timer Tccd Tcp same = absurd (omega (arith, same))
-same_timer Tccd Tccd same = refl
-same_timer Tccd Tssf same = absurd (omega (arith, same))
-same_timer Tssf Tsw same = absurd (omega (arith, same))
-same_timer Tssf Tcp same = absurd (omega (arith, same))
-same_timer Tssf Tccd same = absurd (omega (arith, same))
-same_timer Tssf Tssf same = refl
+same_timer : (one other : _) → rank one ≡ rank other → one ≡ other
+same_timer one other same = grind (arith, same)
 
 module _ (config : SsfConfig) where
   -- ---- what expires next
@@ -36,18 +19,15 @@ module _ (config : SsfConfig) where
   abbrev happens : ℕ → What → List Item → Happening
   happens at what sent = record { at = at; what = what; sent = sent }
 
-  abbrev sends : List Happening → ℕ → Timer → List Item
-  sends trace at timer = (on_expiry config.default_handling trace (phase_after config trace) at timer).sent
-
-  not_later : (one other : ℕ) (timer its : Timer) → ComesBefore one (Expired timer) other its → one ≤ other
+  not_later : (one other : ℕ) (timer its : _) → ComesBefore one (Expired timer) other its → one ≤ other
   not_later one other timer its (inl earlier) = omega (arith, earlier)
   not_later one other timer its (inr now) = omega (arith, now.0)
 
-  not_higher : (one other : ℕ) (timer its : Timer) → one ≡ other → ComesBefore one (Expired timer) other its → rank timer ≤ rank its
+  not_higher : (one other : ℕ) (timer its : _) → one ≡ other → ComesBefore one (Expired timer) other its → rank timer ≤ rank its
   not_higher one other timer its same (inl earlier) = absurd (omega (arith, earlier, same))
   not_higher one other timer its same (inr now) = now.1
 
-  same_expiry : (trace : List Happening) (at moment : ℕ) (timer its : Timer) (sent items : List Item) → MayFollow config trace (happens at (Expired timer) sent)
+  same_expiry : (trace : List Happening) (at moment : ℕ) (timer its : _) (sent items : List Item) → MayFollow config trace (happens at (Expired timer) sent)
       → MayFollow config trace (happens moment (Expired its) items) → happens at (Expired timer) sent ≡ happens moment (Expired its) items
   same_expiry trace at moment timer its sent items may too =
       let before = may.none_missed its moment too.has_effect.0 in
@@ -55,7 +35,8 @@ module _ (config : SsfConfig) where
       let same : at ≡ moment = omega (arith, not_later at moment timer its before, not_later moment at its timer after) in
       let ranks : rank timer ≡ rank its = omega (arith, not_higher at moment timer its same before, not_higher moment at its timer (sym same) after) in
       let alike : timer ≡ its = same_timer timer its ranks in
-      let said : sent ≡ items = may.has_effect.1 ∙ ap (λ (a : ℕ). sends trace a timer) same ∙ ap (λ (t : Timer). sends trace moment t) alike ∙ sym too.has_effect.1 in
+      let said : sent ≡ items = may.has_effect.1 ∙ ap (λ (a : ℕ). (on_expiry config.default_handling trace (phase_after config trace) a timer).sent) same
+      ∙ ap (λ (t : _). (on_expiry config.default_handling trace (phase_after config trace) moment t).sent) alike ∙ sym too.has_effect.1 in
       rw (same, alike, said) refl
 
   same_next : (trace : List Happening) (one other : Happening) → IsExpiry one.what → IsExpiry other.what → MayFollow config trace one → MayFollow config trace other → one ≡ other
@@ -113,7 +94,7 @@ module _ (config : SsfConfig) where
 
   -- ---- no way goes on
 
-  expires_by : (trace : List Happening) (at : ℕ) (what : What) (sent : List Item) → IsExpiry what → HasEffect config trace at what sent → (timer : Timer) × (due config trace timer ≡ Some at)
+  expires_by : (trace : List Happening) (at : ℕ) (what : What) (sent : List Item) → IsExpiry what → HasEffect config trace at what sent → (timer : _) × (due config trace timer ≡ Some at)
   expires_by trace at (Took input) sent expiry has = absurd expiry
   expires_by trace at (Expired timer) sent expiry has = (timer, has.0)
 
@@ -123,7 +104,7 @@ module _ (config : SsfConfig) where
 
   -- where nothing is due by now, nothing has expired by now
   no_further : (now : ℕ) (trace front others : List Happening) (last : Happening) → HasGone trace (front ++ last ∷ others) → last_happening_moment ((front ++ last ∷ others) ++ trace) ≤ now
-      → ((timer : Timer) (d : ℕ) → due config (others ++ trace) timer ≡ Some d → now < d) → ⊥
+      → ((timer : _) (d : ℕ) → due config (others ++ trace) timer ≡ Some d → now < d) → ⊥
   no_further now trace front others last gone reached quiet =
       let there = gone_before trace front (last ∷ others) gone in
       let its = expires_by (others ++ trace) last.at last.what last.sent there.expiries.1 there.is_trace.1.has_effect in
@@ -133,7 +114,7 @@ module _ (config : SsfConfig) where
       absurd (omega (arith, far, near, reached, ap last_happening_moment split))
 
   not_longer : (now : ℕ) (trace more fired others : List Happening) → HasGone trace fired → fired ≡ more ++ others → last_happening_moment (fired ++ trace) ≤ now
-      → ((timer : Timer) (d : ℕ) → due config (others ++ trace) timer ≡ Some d → now < d) → fired ≡ others
+      → ((timer : _) (d : ℕ) → due config (others ++ trace) timer ≡ Some d → now < d) → fired ≡ others
   not_longer now trace more fired others gone is reached quiet = by_end (ends_of more)
     where
       by_end : (more ≡ []) ⊎ ((front : List Happening) × (last : Happening) × (more ≡ front ++ last ∷ [])) → fired ≡ others
@@ -149,9 +130,9 @@ one_way config now trace timed other run too =
     let M : List Happening → Type 0 = λ l. last_happening_moment l ≤ now in
     let gone : HasGone config trace run.fired = record { expiries = run.expiries; is_trace = subst T run.follows run.is_trace } in
     let its : HasGone config trace too.fired = record { expiries = too.expiries; is_trace = subst T too.follows too.is_trace } in
-    let quiet : (timer : Timer) (d : ℕ) → due config (run.fired ++ trace) timer ≡ Some d → now < d =
+    let quiet : (timer : _) (d : ℕ) → due config (run.fired ++ trace) timer ≡ Some d → now < d =
     λ timer d is. run.quiet timer d (ap (λ (l : List Happening). due config l timer) run.follows ∙ is) in
-    let quiet_too : (timer : Timer) (d : ℕ) → due config (too.fired ++ trace) timer ≡ Some d → now < d =
+    let quiet_too : (timer : _) (d : ℕ) → due config (too.fired ++ trace) timer ≡ Some d → now < d =
     λ timer d is. too.quiet timer d (ap (λ (l : List Happening). due config l timer) too.follows ∙ is) in
     let same : run.fired ≡ too.fired =
     elim (compared config trace run.fired too.fired gone its) [

@@ -12,30 +12,28 @@ use Rattle.std.specs.Ordering.{nat_cmp}
 use Rattle.std.specs.Prelude.{min, nat_lt}
 use Rattle.cap_values.specs.Orders.{Order}
 use Rattle.cap_values.specs.declared.operation.ScfOp.{ScfOp}
+use Rattle.part_laws.proofs.OneSsf.{HaveSsfsAlike, ShownAlike, due_too, first_same, gives_alike, happens_alike, row_fault_alike, ssfs_turned, stay_alike, timer_too}
+use Rattle.part_laws.proofs.Orders.{same_operations}
+use Rattle.part_laws.specs.OneWay.{PlaysGoOneWay, TimersRunOneWay, order_heard, orders_heard}
 use Rattle.run_texts.specs.declared.script.ScriptRow.{ScriptRow}
 use Rattle.run_values.specs.declared.post.Answer.{Answer}
 use Rattle.run_values.specs.declared.post.Body.{Body}
 use Rattle.ssf_core.specs.Calls.{View}
 use Rattle.ssf_core.specs.Deliveries.{next_delivery}
 use Rattle.ssf_core.specs.Moments.{in_reach, sooner}
-use Rattle.ssf_core.specs.OneWay.{TimersRunOneWay}
 use Rattle.ssf_core.specs.declared.config.SsfConfig.{SsfConfig}
 use Rattle.ssf_core.specs.declared.deliveries.Delivery.{Delivery}
 use Rattle.ssf_core.specs.declared.fault.SsfFault.{SsfFault}
-use Rattle.script_player.proofs.Orders.{same_operations}
-use Rattle.script_player.proofs.OneSsf.{HaveSsfsAlike, ShownAlike, due_too, first_same, gives_alike, happens_alike, row_fault_alike, ssfs_turned, stay_alike, timer_too}
 use Rattle.script_player.specs.Chains.{Chain}
 use Rattle.script_player.specs.Deliveries.{deliveries_for, deliveries_of}
 use Rattle.script_player.specs.Dues.{AreDueBy, HasTimer, IsFirstDue, is_among}
 use Rattle.script_player.specs.Networks.{Shown}
-use Rattle.script_player.specs.OneWay.{PlaysGoOneWay, order_heard, orders_heard}
 use Rattle.script_player.specs.Plays.{Play}
 use Rattle.script_player.specs.Rounds.{IsEnd, IsRound, IsTurn, next_moment_of, waiting}
 use Rattle.script_player.specs.Rows.{next_row}
 use Rattle.script_player.specs.Runs.{Hears, fresh_play}
 use Rattle.script_player.specs.Steps.{Delivers, DeliversDue, PlaysDue, PlaysRow, RunsTimers, Waits}
 use Rattle.script_player.specs.Unplaced.{fault_of_row, unplaced_in, where_refused}
-use Rattle.script_player.specs.declared.network.Input.TheVariants as what
 use Rattle.price_core.specs.declared.times.TheConstants.{HORIZON}
 
 -- ---- steps one after another
@@ -160,12 +158,12 @@ round_alike one_way one after other last answers others is too alike same =
     (later_delivery is.now after.queue is.delivers.later) (later_delivery is.now last.queue delivers.later) in
     let rows = same_split (λ (row : ScriptRow). row.at) is.now is.plays.played plays.played after.left last.left (sym is.plays.split ∙ alike.left ∙ plays.split) is.plays.due plays.due
     (later_row is.now after.left is.plays.later) (later_row is.now last.left plays.later) in
-    let delivered = chain_alike (Delivers is.now) (λ d a b c e. gives_alike one_way is.now d.call (what.Operate d.op) a b c e) is.delivers.delivered one.network is.delivered other.network too.delivered
+    let delivered = chain_alike (Delivers is.now) (λ d a b c e. gives_alike one_way is.now d.call _ a b c e) is.delivers.delivered one.network is.delivered other.network too.delivered
     is.delivers.delivers (subst (λ (l : List Delivery). Chain (Delivers is.now) other.network l too.delivered) (sym queues.0) delivers.delivers) alike.network in
     let played = chain_alike PlaysRow (λ row a b c e. happens_alike one_way row.at row.what a b c e) is.plays.played is.delivered is.played too.delivered too.played
     is.plays.plays (subst (λ (l : List ScriptRow). Chain PlaysRow too.delivered l too.played) (sym rows.0) plays.plays) delivered in
     let calls = calls_same is.played.ssfs too.played.ssfs is.now is.runs.calls runs.calls played.ssfs is.runs.ascending runs.ascending is.runs.due runs.due in
-    let network = chain_alike (Waits is.now) (λ call a b c e. gives_alike one_way is.now call what.Wait a b c e) is.runs.calls is.played after.network too.played last.network
+    let network = chain_alike (Waits is.now) (λ call a b c e. gives_alike one_way is.now call _ a b c e) is.runs.calls is.played after.network too.played last.network
     is.runs.waits (subst (λ (l : List ℕ). Chain (Waits is.now) too.played l last.network) (sym calls) runs.waits) played in
     let same_unplaced : unplaced_in is.delivered is.played is.plays.played is.plays.plays ≡ unplaced_in too.delivered too.played too.plays.played too.plays.plays =
     subst (λ (l : List ScriptRow). (chain : Chain PlaysRow too.delivered l too.played) → unplaced_in is.delivered is.played is.plays.played is.plays.plays ≡ unplaced_in too.delivered too.played l chain) rows.0

@@ -1,11 +1,22 @@
--- A play goes one way: what it gives is known by its rows and by what it hears.
+-- A gsmSSF has one way to go on, and a play goes one way: what it gives is known by its rows and by what it hears.
 use Rattle.std.specs.Prelude.{◌≡◌, ℕ, List, map}
 use Rattle.cap_values.specs.Orders.{Order, orders_of}
 use Rattle.run_texts.specs.declared.script.ScriptRow.{ScriptRow}
 use Rattle.run_values.specs.declared.post.Answer.{Answer}
 use Rattle.script_player.specs.Plays.{Play}
 use Rattle.script_player.specs.Runs.{HasHeard}
+use Rattle.ssf_core.specs.Calls.{RunsUntil}
+use Rattle.ssf_core.specs.Happenings.{Happening}
 use Rattle.ssf_core.specs.declared.config.SsfConfig.{SsfConfig}
+
+-- ---- the timers of a gsmSSF
+
+-- from a trace the timers run up to a moment in one way: two traces to which they have run from it are the same
+abbrev pub TimersRunOneWay : Type 0
+TimersRunOneWay =
+    (config : SsfConfig) (now : ℕ) (trace timed other : List Happening) → RunsUntil config now trace timed → RunsUntil config now trace other → timed ≡ other
+
+-- ---- plays
 
 -- what a play hears of an answer: the number of its item, and what its operations say
 abbrev pub order_heard : Answer → ℕ × List Order

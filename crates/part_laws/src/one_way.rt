@@ -1,8 +1,12 @@
-//! Laws of a player, each the contract of a function that does nothing else.
+//! Laws of plays, each the contract of a function that does nothing else.
 
-ghost use Rattle.script_player.specs.OneWay.{PlaysGoOneWay};
+ghost use Rattle.part_laws.specs.OneWay.{PlaysGoOneWay, TimersRunOneWay};
 
-use ssf_core::timers_run_one_way;
+/// From a trace the timers run up to a moment in one way: what has expired by then, and in which
+/// order, and what it has sent, is known by the trace alone.
+pub fn timers_run_one_way()
+    ensures { TimersRunOneWay }
+{}
 
 /// A play goes one way. Two plays of the same rows, with gsmSSFs of the same configuration and the
 /// same delay, that hear the same operations in answer to the same items, round by round, have

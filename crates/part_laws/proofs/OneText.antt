@@ -3,9 +3,9 @@ use Rattle.std.proofs.Common.{◌≡◌, ◌==◌, ℕ, suc, ◌<◌, ◌≤◌,
 use Rattle.std.proofs.lemmas.Bool.Decides.{nat_tests}
 use Rattle.std.specs.List.{flat_map}
 use Rattle.std.specs.List.Sorted.{IsNonDecreasingBy}
-use Rattle.book_texts.specs.Laws.{BooksHaveOneText}
 use Rattle.book_texts.specs.RunTexts.{account_line, call_line, call_lines_of}
 use Rattle.book_texts.specs.declared.lines.CallLine.{CallLine}
+use Rattle.part_laws.specs.OneText.{BooksHaveOneText}
 
 abbrev AreFrom : ℕ → List CallLine → Type 0
 AreFrom call [] = Unit {0}

@@ -5,13 +5,13 @@ use Rattle.std.proofs.lemmas.List.{append_cancel_left}
 use Rattle.std.specs.Option.{ForSome}
 use Rattle.std.specs.Prelude.{◌==◌, MatchOption}
 use Rattle.cap_values.specs.declared.number.Number.{Number}
+use Rattle.part_laws.specs.OneWay.{TimersRunOneWay}
 use Rattle.run_texts.specs.declared.script.Happening.{Happening as RowHappening}
 use Rattle.run_texts.specs.declared.script.Happening.TheVariants as row
 use Rattle.run_values.specs.declared.post.Body.TheVariants as body
 use Rattle.ssf_core.proofs.ExpiryLemmas.{due-stage}
 use Rattle.ssf_core.specs.Calls.{IsNextDue, RunsUntil, Stands, View}
 use Rattle.ssf_core.specs.Happenings.{Happening, sent_in}
-use Rattle.ssf_core.specs.OneWay.{TimersRunOneWay}
 use Rattle.ssf_core.specs.Traces.{due}
 use Rattle.ssf_core.specs.declared.config.SsfConfig.{SsfConfig}
 use Rattle.ssf_core.specs.declared.fault.SsfFault.{SsfFault}
@@ -25,8 +25,6 @@ use Rattle.script_player.specs.Networks.{Shown}
 use Rattle.script_player.specs.Posts.{posts_of}
 use Rattle.script_player.specs.Steps.{GetsSsf, FeedsSsf, GivesTo, HappensAt, Recharges, SendsItems, Sets, StartsCall}
 use Rattle.script_player.specs.Unplaced.{fault_given, fault_of_feed, fault_of_row}
-use Rattle.script_player.specs.declared.network.Input.{Input}
-use Rattle.script_player.specs.declared.network.Input.TheVariants as what
 
 -- two gsmSSFs stand for one trace
 pub record StandAlike (one other : View) : Type 0 where
@@ -44,7 +42,7 @@ pub record GoAlike (new also : View) (sent outs : List Out) (fault its : Option 
   pub refuses : fault ≡ its
   pub stand : StandAlike new also
 
-late_alike : TimersRunOneWay → (one other new also : View) (now : ℕ) (input : Input) (sent outs : List Out) → one.last ≤ now → StandAlike one other → (is : IsGiven one new now input sent)
+late_alike : TimersRunOneWay → (one other new also : View) (now : ℕ) (input : _) (sent outs : List Out) → one.last ≤ now → StandAlike one other → (is : IsGiven one new now input sent)
     → (too : IsGiven other also now input outs) → GoAlike new also sent outs is.fault too.fault
 late_alike one_way one other new also now input sent outs late alike is too =
     let late_too : other.last ≤ now = subst (λ (n : ℕ). n ≤ now) alike.last late in
@@ -65,7 +63,7 @@ late_alike one_way one other new also now input sent outs late alike is too =
       };
     }
 
-given_alike : TimersRunOneWay → (one other new also : View) (now : ℕ) (input : Input) (sent outs : List Out) → StandAlike one other → (is : IsGiven one new now input sent) → (too : IsGiven other also now input outs)
+given_alike : TimersRunOneWay → (one other new also : View) (now : ℕ) (input : _) (sent outs : List Out) → StandAlike one other → (is : IsGiven one new now input sent) → (too : IsGiven other also now input outs)
     → GoAlike new also sent outs is.fault too.fault
 given_alike one_way one other new also now input sent outs alike is too = elim (cases_lt now one.last) [
   | inl early ↦
@@ -121,7 +119,7 @@ sends_alike before after again last call view also sent outs sends too same stan
 pub stay_alike : (before after again last : Shown) → after ≡ before → last ≡ again → ShownAlike before again → ShownAlike after last
 stay_alike before after again last same too alike = subst (λ (s : Shown). ShownAlike s last) (sym same) (subst (λ (s : Shown). ShownAlike before s) (sym too) alike)
 
-pub gives_alike : TimersRunOneWay → (now call : ℕ) (input : Input) (before after again last : Shown) → GivesTo now call input before after → GivesTo now call input again last → ShownAlike before again → ShownAlike after last
+pub gives_alike : TimersRunOneWay → (now call : ℕ) (input : _) (before after again last : Shown) → GivesTo now call input before after → GivesTo now call input again last → ShownAlike before again → ShownAlike after last
 gives_alike one_way now call input before after again last gives too alike = by_ssf (ssf_of before.ssfs call) (ssf_of again.ssfs call) gives too (alike.ssfs call)
   where
     by_ssf : (found its : Option View) → MatchOption found (after ≡ before) (FeedsSsf before after now call input) → MatchOption its (last ≡ again) (FeedsSsf again last now call input) → AreSsfsAlike found its
@@ -134,7 +132,7 @@ gives_alike one_way now call input before after again last gives too alike = by_
         sends_alike before after again last call gives.new too.new gives.sent too.sent gives.sends too.sends go.sends go.stand alike
 
 -- and by the same fault, where there is one
-gives_fault_alike : TimersRunOneWay → (now call : ℕ) (input : Input) (before after again last : Shown) (gives : GivesTo now call input before after) (too : GivesTo now call input again last) → ShownAlike before again
+gives_fault_alike : TimersRunOneWay → (now call : ℕ) (input : _) (before after again last : Shown) (gives : GivesTo now call input before after) (too : GivesTo now call input again last) → ShownAlike before again
     → fault_given now call input before after gives ≡ fault_given now call input again last too
 gives_fault_alike one_way now call input before after again last gives too alike = by_ssf (ssf_of before.ssfs call) (ssf_of again.ssfs call) gives too (alike.ssfs call)
   where
@@ -177,13 +175,13 @@ recharges_alike now account amount until before after again last is too alike = 
 
 pub happens_alike : TimersRunOneWay → (at : ℕ) (happening : RowHappening) (before after again last : Shown) → HappensAt at happening before after → HappensAt at happening again last → ShownAlike before again → ShownAlike after last
 happens_alike one_way at (row.Start call calling called) before after again last is too alike = starts_alike at call calling called before after again last is too alike
-happens_alike one_way at (row.Meets call event) before after again last is too alike = gives_alike one_way at call (what.Meet event) before after again last is too alike
+happens_alike one_way at (row.Meets call event) before after again last is too alike = gives_alike one_way at call _ before after again last is too alike
 happens_alike one_way at (row.Recharge account amount until) before after again last is too alike = recharges_alike at account amount until before after again last is too alike
 
 pub row_fault_alike : TimersRunOneWay → (at : ℕ) (happening : RowHappening) (before after again last : Shown) (is : HappensAt at happening before after) (too : HappensAt at happening again last) → ShownAlike before again
     → fault_of_row at happening before after is ≡ fault_of_row at happening again last too
 row_fault_alike one_way at (row.Start call calling called) before after again last is too alike = refl
-row_fault_alike one_way at (row.Meets call event) before after again last is too alike = gives_fault_alike one_way at call (what.Meet event) before after again last is too alike
+row_fault_alike one_way at (row.Meets call event) before after again last is too alike = gives_fault_alike one_way at call _ before after again last is too alike
 row_fault_alike one_way at (row.Recharge account amount until) before after again last is too alike = refl
 
 -- ---- what is due

@@ -1,5 +1,0 @@
-use Rattle.script_player.proofs.OnePlay.{plays_one_way}
-use Rattle.script_player.proofs.laws.plays_go_one_way.Goals as goal
-
-pub returns : goal.returns
-returns c = plays_one_way c.timers_run_one_way.ensures
