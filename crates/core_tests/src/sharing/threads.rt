@@ -81,15 +81,20 @@ impl OneInside {
     }
 
     fn waits(&self) {
-        for _ in 0..1_000_000_000u32 {
-            if self.asking.load(Ordering::SeqCst) == 2 {
-                break;
-            }
-            thread::yield_now();
-        }
+        wait_for_two(&self.asking);
         for _ in 0..2000u32 {
             thread::yield_now();
         }
+    }
+}
+
+/// Waits until two threads were counted, for at most 1,000,000,000 turns.
+pub(crate) fn wait_for_two(count: &AtomicU64) {
+    for _ in 0..1_000_000_000u32 {
+        if count.load(Ordering::SeqCst) == 2 {
+            return;
+        }
+        thread::yield_now();
     }
 }
 
