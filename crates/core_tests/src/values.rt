@@ -3,5 +3,4 @@
 mod codes;
 mod faults;
 mod moments;
-mod ranges;
 mod readers;

@@ -12,7 +12,7 @@ use std::process::Abort;
 pub(crate) enum Say {
     /// A call of this calling number to 4930 starts.
     Begins(u64, &'static str),
-    /// A call that is active, or no longer, has talked for so many units.
+    /// A call reports whether it is still active, and the time that was talked, in 100 ms.
     Reports(u64, bool, u32),
     Ends(u64),
     /// An account is credited an amount.

@@ -15,30 +15,6 @@ use std::process::Abort;
 use std::sync::Wait;
 use turn_account::TurnAccount;
 
-/// Closes an account with its seats in another order.
-fn refuses_an_exchange<S: Shared, R: Abort>(rt: &R, alloc: Global) {
-    let (account, first, second) = two_seats::<S, R>(rt, alloc, 1, 1500, None);
-    let fault = close(rt, alloc, account, second, first).err();
-    gives(rt, &"exchanged", &fault, &Some(CloseFault::Seats));
-}
-
-/// Closes an account with a seat too few.
-fn refuses_a_lack<S: Shared, R: Abort>(rt: &R, alloc: Global) {
-    let (account, first, _) = two_seats::<S, R>(rt, alloc, 1, 1500, None);
-    let mut seats = Vec::with_capacity(alloc, 1).expect(rt, "memory");
-    seats.push_reserved(first);
-    let fault = account.close(seats).err();
-    gives(rt, &"a lack", &fault, &Some(CloseFault::Seats));
-}
-
-#[test]
-fn closes_with_all_seats_in_order(rt: HostRuntime) {
-    refuses_an_exchange::<SharedAccount, _>(&rt, rt.alloc());
-    refuses_a_lack::<SharedAccount, _>(&rt, rt.alloc());
-    refuses_an_exchange::<TurnAccount, _>(&rt, rt.alloc());
-    refuses_a_lack::<TurnAccount, _>(&rt, rt.alloc());
-}
-
 /// A gate of accounts, which is open or shut.
 #[derive(Clone, Copy)]
 struct Door {

@@ -84,7 +84,7 @@ pub(crate) enum Ask {
     Reserve(u64, u64),
     /// A call wants a unit more than a day.
     PastDay(u64),
-    /// A call has talked so many units.
+    /// A call reports the time that was talked, in 100 ms.
     Settle(u64, u32),
     Return(u64),
     /// An amount, and the last moment from then on.

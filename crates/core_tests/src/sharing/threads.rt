@@ -7,11 +7,11 @@ use crate::answers::{Answer, Want, answer_of};
 use crate::looking::gives;
 use account_core::{AccountFault, Op};
 use locked_account::SharedAccount;
-use shared_account::{Gate, OpenGate, Shared};
+use shared_account::{Gate, Shared};
 use std::alloc::Global;
 use std::process::Abort;
 use std::sync::Wait;
-use std::sync::atomic::{AtomicBool, Ordering};
+use std::sync::atomic::{AtomicBool, AtomicU64, Ordering};
 use std::thread;
 use std::thread::Threads;
 use turn_account::TurnAccount;
@@ -62,6 +62,58 @@ impl Gate for Holds {
             self.answered.store(true, Ordering::SeqCst);
         }
     }
+}
+
+/// Holds a call inside until both threads ask, and a little longer. It is shut for a call that
+/// comes inside meanwhile.
+#[derive(Drop)]
+struct OneInside {
+    asking: AtomicU64,
+    busy: AtomicBool,
+}
+
+impl OneInside {
+    fn new() -> OneInside {
+        OneInside {
+            asking: AtomicU64::new(0),
+            busy: AtomicBool::new(false),
+        }
+    }
+
+    fn waits(&self) {
+        wait_for_two(&self.asking);
+        for _ in 0..2000u32 {
+            thread::yield_now();
+        }
+    }
+}
+
+/// Waits until two threads were counted, for at most 1,000,000,000 turns.
+pub(crate) fn wait_for_two(count: &AtomicU64) {
+    for _ in 0..1_000_000_000u32 {
+        if count.load(Ordering::SeqCst) == 2 {
+            return;
+        }
+        thread::yield_now();
+    }
+}
+
+impl Gate for OneInside {
+    ghost may_shut = { λ _. Unit {0} };
+
+    fn before(&self, _worker: u32, _call: u64) -> bool {
+        self.asking.fetch_add(1, Ordering::SeqCst);
+        true
+    }
+
+    fn inside(&self, _account: u32) -> bool {
+        let is_alone = !self.busy.swap(true, Ordering::SeqCst);
+        self.waits();
+        self.busy.store(false, Ordering::SeqCst);
+        is_alone
+    }
+
+    fn after(&self, _worker: u32, _call: u64) {}
 }
 
 /// What one asks, and what it gets.
@@ -154,13 +206,14 @@ fn ask_one_account<S: Shared, R: Abort + Threads + Wait + Sync, G: Gate + Sync>(
     (one, other, book.history().len())
 }
 
-/// Two threads are granted what there is, whoever comes first.
+/// Two threads are granted what there is, one after the other, whoever comes first.
 fn grants_what_there_is<S: Shared, R: Abort + Threads + Wait + Sync>(rt: &R, alloc: Global) {
     let ops = (
         (op_of(Ask::Reserve(1, 0)), None),
         (op_of(Ask::Reserve(2, 0)), None),
     );
-    let ((one, _), (other, _), entries) = ask_one_account::<S, R, _>(rt, alloc, ops, &OpenGate);
+    let gate = OneInside::new();
+    let ((one, _), (other, _), entries) = ask_one_account::<S, R, _>(rt, alloc, ops, &gate);
     let whole = answer_of(Want::Granted(600, false, 450));
     let rest = answer_of(Want::Granted(240, true, 0));
     assert!(rt; (one == whole && other == rest) || (one == rest && other == whole));

@@ -1,17 +1,13 @@
-//! Accounts that are handed on by turns: seats that meet, and seats that wait at the door.
-
-ghost use Rattle.std.specs.Prelude.{◌≡◌};
+//! Accounts that are handed on by turns: seats that meet.
 
 use super::forms::{Ask, close, entries_of_each, op_of, says, two_seats};
 use crate::answers::Want;
 use crate::looking::gives;
-use shared_account::{Book, Gate, OpenGate};
+use shared_account::{Book, OpenGate};
 use std::alloc::Global;
 use std::process::Abort;
 use std::sync::Wait;
-use std::thread;
-use std::thread::Threads;
-use turn_account::{TurnAccount, TurnSeat};
+use turn_account::TurnAccount;
 
 /// The book of an account whose two seats met, and credited once more or not.
 fn book_of_met<R: Abort + Wait>(rt: &R, alloc: Global, more: bool) -> Book {
@@ -39,84 +35,4 @@ fn meets_share_one_history(rt: HostRuntime) {
         let book = book_of_met(&rt, rt.alloc(), more);
         gives(&rt, &more, &entries_of_each(&book), &entries);
     }
-}
-
-/// Lets each operation in, but only after a while.
-#[derive(Clone, Copy)]
-struct SlowGate;
-
-impl Gate for SlowGate {
-    ghost may_shut = { λ _. ⊥ };
-
-    fn before(&self, _worker: u32, _call: u64) -> bool {
-        true
-    }
-
-    fn inside(&self, _account: u32) -> bool {
-        for _ in 0..2000u32 {
-            thread::yield_now();
-        }
-        true
-    }
-
-    fn after(&self, _worker: u32, _call: u64) {}
-}
-
-/// Credits 1 so many times, and gives the seat back.
-fn credit_often<R: Wait, G: Gate>(
-    rt: &R,
-    account: &TurnAccount,
-    mut seat: TurnSeat,
-    times: u32,
-    gate: &G,
-) -> TurnSeat
-    requires { seat.table ≡ account.now.table }
-    ensures { result.table ≡ account.now.table }
-{
-    for _ in 0..times {
-        let _ = account.call(rt, &mut seat, op_of(Ask::Credit(1, None)), gate);
-    }
-    seat
-}
-
-/// Credits 1 so many times from two seats, in two threads at the same time.
-fn credit_both<R: Threads + Wait + Sync, G: Gate + Sync>(
-    rt: &R,
-    account: &TurnAccount,
-    first: TurnSeat,
-    second: TurnSeat,
-    times: u32,
-    gate: &G,
-) -> (TurnSeat, TurnSeat)
-    requires first { first.table ≡ account.now.table }
-    requires second { second.table ≡ account.now.table }
-    ensures first { result.0.table ≡ account.now.table }
-    ensures second { result.1.table ≡ account.now.table }
-{
-    thread::join(
-        rt,
-        move || -> TurnSeat
-            requires { first.table ≡ account.now.table }
-            ensures { result.table ≡ first.table }
-        { credit_often(rt, account, first, times, gate) },
-        move || -> TurnSeat
-            requires { second.table ≡ account.now.table }
-            ensures { result.table ≡ second.table }
-        { credit_often(rt, account, second, times, gate) },
-    )
-}
-
-/// Compares the book of an account that was credited 50 times from each seat.
-fn expect_credited(rt: &impl Abort, alloc: Global, book: &Book) {
-    let summary = book.summary(alloc).expect(rt, "memory");
-    let found = (entries_of_each(book), summary.entries, summary.available);
-    gives(rt, &"credited", &found, &((50, 50), 100, 100));
-}
-
-#[test]
-fn lets_one_thread_in_at_a_time(rt: HostRuntime) {
-    let (account, first, second) = two_seats::<TurnAccount, _>(&rt, rt.alloc(), 1, 0, None);
-    let (first, second) = credit_both(&rt, &account, first, second, 50, &SlowGate);
-    let book = close(&rt, rt.alloc(), account, first, second).expect(&rt, "a book");
-    expect_credited(&rt, rt.alloc(), &book);
 }
