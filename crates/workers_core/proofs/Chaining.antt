@@ -1,5 +1,5 @@
 -- Posts are answered one after another.
-use Rattle.std.proofs.Common.{◌++◌, ℕ, List, [], ◌∷◌, refl, sym, subst}
+use Rattle.std.proofs.Common.{◌++◌, ℕ, List, [], ◌∷◌, sym, subst}
 use Rattle.std.specs.Prelude.{slice_index_or}
 use Rattle.account_core.specs.Asked.{Asked, Credits}
 use Rattle.account_core.specs.Entries.{EntryData}
@@ -9,22 +9,11 @@ use Rattle.dialogue_core.specs.Rules.{on_begin}
 use Rattle.shared_account.specs.Refusals.{IsRefusedAt, Knowing, Refusal}
 use Rattle.workers_core.proofs.Talking.{all_right_still, refused_still, right_still}
 use Rattle.workers_core.specs.Chains.{AreAnswered}
-use Rattle.workers_core.specs.Handled.{AnswerView, AreRefusedRightly, Holding, IsDone, IsRightlyHandled}
+use Rattle.workers_core.specs.Handled.{AnswerView, AreRefusedRightly, Holding, IsDone}
 use Rattle.workers_core.specs.Talks.{Showing}
 use Rattle.workers_core.specs.Verdicts.{Begins, GoesOn, Recharges, Rejects, Strays, Verdict, verdict}
 use Rattle.run_values.specs.Setups.{Setup}
 use Rattle.run_values.specs.declared.post.Post.{Post}
-
--- one post more
-pub one_more : (Shows : ℕ → Showing) (setup : Setup) (numbers : List ℕ) (posts : List Post) (answers : List AnswerView) (post : Post) (answer : AnswerView) (old between new : Holding)
-    → AreAnswered Shows setup numbers posts answers old between → IsRightlyHandled Shows setup numbers post between new answer
-    → AreAnswered Shows setup numbers (posts ++ post ∷ []) (answers ++ answer ∷ []) old new
-one_more Shows setup numbers [] [] post answer old between new are is =
-    let P : Holding → Type 0 = λ h. IsRightlyHandled Shows setup numbers post h new answer in (new, subst P (sym are) is, refl)
-one_more Shows setup numbers [] (t ∷ answers) post answer old between new are is = absurd are
-one_more Shows setup numbers (p ∷ posts) [] post answer old between new are is = absurd are
-one_more Shows setup numbers (p ∷ posts) (t ∷ answers) post answer old between new are is =
-    (are.0, are.1, one_more Shows setup numbers posts answers post answer are.0 between new are.2 is)
 
 -- posts after posts
 pub more_after : (Shows : ℕ → Showing) (setup : Setup) (numbers : List ℕ) (posts later : List Post) (answers answer : List AnswerView) (old between new : Holding)
