@@ -1,3 +1,1 @@
-pub mod AskCounts
 pub mod Asking
-pub mod Honest

@@ -2,7 +2,6 @@ pub mod Configs
 pub mod Faults
 pub mod Phases
 pub mod Rules
-pub mod Runs
 pub mod ServiceArms
 pub mod Talks
 pub mod Views

@@ -9,7 +9,6 @@
 mod config;
 mod dialogue;
 mod fault;
-mod laws;
 mod operations;
 mod state;
 mod talk;
@@ -17,5 +16,4 @@ mod talk;
 pub use config::ServiceConfig;
 pub use dialogue::{Dialogue, Turn};
 pub use fault::DialogueFault;
-pub use laws::{honest_replies_are_expected, one_return_if_granted, one_settle_a_grant};
 pub use talk::{Asker, converse};

@@ -11,14 +11,15 @@ use Rattle.account_core.specs.Known.{CallFacts, deed_of, known, known_after}
 use Rattle.account_core.specs.Ledger.{entry_by}
 use Rattle.account_core.specs.declared.entry.Reply.{Reply}
 use Rattle.dialogue_core.specs.Phases.{Phase, Says, Asks, Sends, Finished}
-use Rattle.dialogue_core.specs.Runs.{IsHonest}
+use Rattle.held_calls.specs.Dialogues.{IsHonest}
 use Rattle.dialogue_core.specs.Talks.{Got, after_got, is_ask, talked}
 use Rattle.held_calls.proofs.Rules.{Stands, facts_after, got_stands}
 use Rattle.held_calls.specs.Held.{entries_at, facts_at}
 use Rattle.shared_account.proofs.Knowing.{known_here}
 use Rattle.shared_account.proofs.Owning.{known_alike}
 use Rattle.shared_account.specs.Own.{asks_of_call, of_call}
-use Rattle.workers_core.proofs.OwnCalls.{SaysOf, says_of_call}
+use Rattle.workers_core.proofs.OwnCalls.{SaysOf}
+use Rattle.held_calls.proofs.Talked.{says_of_call}
 use Rattle.workers_core.specs.Handled.{grown}
 use Rattle.workers_core.specs.Talks.{AllAsk, entries_of, entry_of}
 use Rattle.workers_core.specs.Workers.{IsAbout}

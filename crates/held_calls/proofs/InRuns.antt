@@ -15,7 +15,7 @@ use Rattle.account_core.specs.Standing.{FitsCall}
 use Rattle.account_core.specs.declared.entry.Reply.{Reply}
 use Rattle.account_core.specs.declared.entry.Reply.TheVariants.{Granted, Denied, Settled, Forfeit, Returned}
 use Rattle.account_core.specs.declared.fault.AccountFault.TheVariants as fault
-use Rattle.dialogue_core.specs.Runs.{IsHonest}
+use Rattle.held_calls.specs.Dialogues.{IsHonest}
 use Rattle.held_calls.proofs.Entries.{IsHonestEntry}
 use Rattle.held_calls.proofs.Going.{other_report, worked_left, worked_returned, worked_settled}
 use Rattle.held_calls.proofs.Steps.{left_same, none_either}
@@ -28,7 +28,7 @@ use Rattle.run_values.specs.declared.post.Body.{Body}
 use Rattle.run_values.specs.declared.post.Body.TheVariants.{Ssf, Recharge}
 use Rattle.runs_core.proofs.Listed.{all_first, all_later}
 use Rattle.runs_core.specs.Closing.{lists_of, refuses_in}
-use Rattle.runs_core.specs.Entered.{IsBookAt, RunCallsAreOfOneWorker, RunOwedIsNeverRefused}
+use Rattle.held_calls.specs.Entered.{IsBookAt, RunCallsAreOfOneWorker, RunOwedIsNeverRefused}
 use Rattle.runs_core.specs.Hearing.{answers_to}
 use Rattle.runs_core.specs.Shares.{Item, item_at, item_of, numbered, share_from, worker_of}
 use Rattle.shared_account.proofs.Beginnings.{begins_itself}
@@ -40,7 +40,7 @@ use Rattle.turn_account.specs.Seen.{CallsOfOneSeatAreAlone, IsBySeat, StoodIn}
 use Rattle.price_core.specs.declared.plan.TheConstants.{MAX_MONEY}
 use Rattle.workers_core.proofs.Handling.{same_number}
 use Rattle.workers_core.specs.Handled.{AnswerView, answer_view}
-use Rattle.workers_core.specs.Laws.{ends_call}
+use Rattle.held_calls.specs.Workers.{ends_call}
 use Rattle.workers_core.specs.Served.{Report, reported_in, returns_of, settles_of}
 
 -- ---- an item of another worker is of no message of the call

@@ -14,7 +14,7 @@ use Rattle.account_core.specs.declared.fault.AccountFault.{AccountFault}
 use Rattle.cap_values.specs.Orders.{Pay}
 use Rattle.dialogue_core.specs.Phases as phase
 use Rattle.dialogue_core.specs.Phases.{Conditions, Phase, Says, Sequel, FirstAsk, Running, Settling, MoreAsk, Returning, Ending, Closed, Asks, Sends, Finished}
-use Rattle.dialogue_core.specs.Runs.{IsHonest}
+use Rattle.held_calls.specs.Dialogues.{IsHonest}
 use Rattle.dialogue_core.specs.Rules.{are_units, on_reply, sequel}
 use Rattle.dialogue_core.specs.Talks.{Got, after_got, is_ask, or_done, talked}
 use Rattle.dialogue_core.specs.declared.fault.DialogueFault.TheVariants.{Unexpected}
@@ -24,8 +24,9 @@ use Rattle.held_calls.proofs.Rules.{Awaits, Fits, Stands}
 use Rattle.held_calls.specs.Held.{IsShown}
 use Rattle.runs_core.proofs.Listed.{all_first, all_later}
 use Rattle.price_core.specs.declared.times.TheConstants.{DAY}
-use Rattle.workers_core.proofs.OwnCalls.{SaysOf, says_of_call}
-use Rattle.workers_core.specs.Refusals.{NeverRefusesOwed}
+use Rattle.workers_core.proofs.OwnCalls.{SaysOf}
+use Rattle.held_calls.proofs.Talked.{says_of_call}
+use Rattle.held_calls.specs.Owed.{NeverRefusesOwed}
 use Rattle.workers_core.specs.Served.{returned_in, returns_of}
 use Rattle.workers_core.specs.Talks.{AllAsk, AreRightlyGot, IsRightlyGot, Showing, entries_of, entry_of}
 use Rattle.workers_core.specs.Workers.{IsAbout}

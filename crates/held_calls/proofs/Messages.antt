@@ -14,7 +14,7 @@ use Rattle.dialogue_core.specs.Rules.{are_units, conditions, says_first_period, 
 use Rattle.dialogue_core.specs.Talks.{Got, after_got, is_ask, or_done, orders_sent_by, talked}
 use Rattle.dialogue_core.specs.declared.fault.DialogueFault.TheVariants.{Unexpected}
 use Rattle.held_calls.proofs.Closing.{one_got, ending_asked, ending_returned, its_call, report_asked, report_settled}
-use Rattle.workers_core.proofs.ReturnedOnce.{sequel_to}
+use Rattle.held_calls.proofs.ReturnedOnce.{sequel_to}
 use Rattle.held_calls.proofs.Entries.{IsHonestEntry}
 use Rattle.held_calls.proofs.Holding.{AreKept, IsBound, IsKept, apart_from, begins_bound, goes_bound, same_lists, talk_said}
 use Rattle.held_calls.proofs.Leaving.{talk_leaves}
@@ -27,18 +27,18 @@ use Rattle.run_values.specs.declared.post.Body.TheVariants.{Ssf}
 use Rattle.run_values.specs.declared.post.Post.{Post}
 use Rattle.runs_core.proofs.Listed.{all_later}
 use Rattle.price_core.specs.declared.route.Route.{Route}
-use Rattle.workers_core.proofs.OwnCalls.{begun_settles}
-use Rattle.workers_core.proofs.AtRest.{nothing_asked}
-use Rattle.workers_core.proofs.Growing.{place_within}
+use Rattle.held_calls.proofs.Talked.{begun_settles}
+use Rattle.held_calls.proofs.AtRest.{nothing_asked}
+use Rattle.held_calls.proofs.Growing.{place_within}
 use Rattle.workers_core.proofs.Handling.{home_within, same_number}
-use Rattle.workers_core.proofs.Through.{is_through, returns_none, through_still}
+use Rattle.held_calls.proofs.Through.{is_through, returns_none, through_still}
 use Rattle.workers_core.specs.Handled.{AnswerView, Holding, IsDone, IsRightlyHandled, IsTalked}
-use Rattle.workers_core.specs.Laws.{IsRunning, ends_call}
-use Rattle.workers_core.specs.Refusals.{NeverRefusesOwed}
+use Rattle.held_calls.specs.Workers.{IsRunning, ends_call}
+use Rattle.held_calls.specs.Owed.{NeverRefusesOwed}
 use Rattle.workers_core.specs.Served.{report_in, returned_in, returns_of, settled_in, settles_of}
 use Rattle.workers_core.specs.Talks.{AllAsk, Showing, entries_of}
 use Rattle.workers_core.specs.Verdicts.{DialogueAt, begins, fresh_call, goes_on, home_of, spoken, verdict_on}
-use Rattle.workers_core.specs.Workers.{IsSoundHolding}
+use Rattle.held_calls.specs.Sound.{IsSoundHolding}
 
 -- ---- the first message of a call
 

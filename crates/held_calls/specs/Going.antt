@@ -11,7 +11,7 @@ use Rattle.run_values.specs.declared.post.Post.{Post}
 use Rattle.runs_core.specs.Shares.{Item, item_of}
 use Rattle.workers_core.specs.Chains.{AreAnswered, at_first, seat_numbers}
 use Rattle.workers_core.specs.Handled.{AnswerView, Holding}
-use Rattle.workers_core.specs.Laws.{IsRunning, ends_call}
+use Rattle.held_calls.specs.Workers.{IsRunning, ends_call}
 use Rattle.workers_core.specs.Served.{Report, reported_in}
 use Rattle.workers_core.specs.Talks.{Showing}
 use Rattle.workers_core.specs.Verdicts.{home_of}

@@ -12,8 +12,8 @@ use Rattle.runs_core.specs.Shares.{item_of}
 use Rattle.price_core.specs.declared.times.TimeInfo.{TimeInfo}
 use Rattle.workers_core.specs.Chains.{AreAnswered, AnswersItsPosts, at_first, seat_numbers}
 use Rattle.workers_core.specs.Handled.{AnswerView, Holding, IsRightlyHandled}
-use Rattle.workers_core.specs.Laws.{IsRunning, ends_call}
-use Rattle.workers_core.specs.Refusals.{NeverRefusesOwed}
+use Rattle.held_calls.specs.Workers.{IsRunning, ends_call}
+use Rattle.held_calls.specs.Owed.{NeverRefusesOwed}
 use Rattle.workers_core.specs.Served.{returns_of, settles_of}
 use Rattle.workers_core.specs.Talks.{Showing}
 

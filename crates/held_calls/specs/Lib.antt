@@ -1,4 +1,10 @@
+pub mod Chains
+pub mod Dialogues
+pub mod Entered
 pub mod Going
 pub mod Held
 pub mod Laws
+pub mod Owed
 pub mod Runs
+pub mod Sound
+pub mod Workers

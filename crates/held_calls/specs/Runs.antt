@@ -4,7 +4,7 @@ use Rattle.held_calls.specs.Going.{ended_at, left_at, taken_at}
 use Rattle.run_values.specs.Setups.{Setup}
 use Rattle.run_values.specs.declared.post.Answer.{Answer}
 use Rattle.run_values.specs.declared.post.Body.{Body}
-use Rattle.runs_core.specs.Entered.{IsBookAt}
+use Rattle.held_calls.specs.Entered.{IsBookAt}
 use Rattle.runs_core.specs.Runs.{IsRun}
 use Rattle.runs_core.specs.Shares.{numbered}
 use Rattle.shared_account.specs.Closed.{Closed}

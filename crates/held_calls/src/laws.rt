@@ -1,4 +1,4 @@
-//! Laws of workers and of runs, each the contract of a function that does nothing.
+//! Laws of the calls that a worker holds, and of the books of a run, whatever else is refused.
 
 ghost use Rattle.std.specs.Prelude.{List};
 ghost use Rattle.held_calls.specs.Going.{PaidCallsGoOn};
@@ -7,8 +7,8 @@ ghost use Rattle.held_calls.specs.Laws.{EndedCallsAreReturned, TakenReportsAreSe
 ghost use Rattle.held_calls.specs.Runs.{RunCallsAreReturned, RunCallsThatEndAreReturned, RunReportsAreSettled};
 ghost use Rattle.workers_core.specs.Refusals.{RefusesAt};
 
+use crate::runs::{run_calls_are_of_one_worker, run_owed_is_never_refused};
 use account_core::answers_fit_their_operations;
-use runs_core::{run_calls_are_of_one_worker, run_owed_is_never_refused};
 use shared_account::Shared;
 use turn_account::{TurnAccount, calls_of_one_seat_are_alone};
 
@@ -24,7 +24,7 @@ pub fn calls_are_held()
 /// the number of its post, and no other report is settled for it.
 ///
 /// It takes that what the call is owed is never refused (`NeverRefusesOwed`), which
-/// `workers_core::owed_is_never_refused` gives where the call is the worker's alone. What else
+/// `owed_is_never_refused` gives where the call is the worker's alone. What else
 /// is asked for the report, such as a further Reserve, may be refused.
 pub fn taken_reports_are_settled<S: Shared>()
     ensures { (seats : List S.Seat) → TakenReportsAreSettled (RefusesAt S.was seats) }

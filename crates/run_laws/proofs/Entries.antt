@@ -14,7 +14,7 @@ use Rattle.run_laws.specs.Timely.{AreTimely, IsTimely}
 use Rattle.run_values.specs.Setups.{Setup}
 use Rattle.run_values.specs.declared.post.Answer.{Answer}
 use Rattle.run_values.specs.declared.post.Body.{Body}
-use Rattle.runs_core.specs.Entered.{IsBookAt, ReservesAreInTheBooks, RunEntriesAreServed}
+use Rattle.held_calls.specs.Entered.{IsBookAt, ReservesAreInTheBooks, RunEntriesAreServed}
 use Rattle.runs_core.specs.Runs.{IsRun}
 use Rattle.shared_account.specs.Closed.{Closed}
 use Rattle.shared_account.specs.Own.{own}

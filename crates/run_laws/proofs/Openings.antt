@@ -15,7 +15,7 @@ use Rattle.run_values.specs.Openings.{expires_in_time, opening_is_in_range}
 use Rattle.run_values.specs.Setups.{Setup}
 use Rattle.run_values.specs.declared.directory.OpeningCredit.{OpeningCredit}
 use Rattle.runs_core.specs.Closing.{terms_shown}
-use Rattle.runs_core.specs.Entered.{IsBookAt}
+use Rattle.held_calls.specs.Entered.{IsBookAt}
 use Rattle.runs_core.specs.Teams.{are_workers, terms_of, terms_with}
 use Rattle.shared_account.specs.Closed.{Closed}
 use Rattle.shared_account.specs.Terms.{Terms}

@@ -14,7 +14,7 @@ use Rattle.run_laws.specs.Books.{AuditableBooksHaveFewRows, AuditableBooksPass, 
 use Rattle.run_laws.specs.Runs.{IsRecorded, IsTimelyRun}
 use Rattle.run_values.specs.Setups.{Setup}
 use Rattle.run_values.specs.declared.post.Body.{Body}
-use Rattle.runs_core.specs.Entered.{ReservesAreInTheBooks, RunEntriesAreServed}
+use Rattle.held_calls.specs.Entered.{ReservesAreInTheBooks, RunEntriesAreServed}
 use Rattle.shared_account.specs.Closed.{Closed}
 use Rattle.shared_account.specs.Refusals.{Knowing}
 

@@ -18,7 +18,7 @@ use Rattle.run_laws.specs.Starts.{HasItsParties}
 use Rattle.run_values.specs.declared.post.Body.{Body}
 use Rattle.run_values.specs.declared.post.Body.TheVariants.{Ssf}
 use Rattle.run_values.specs.declared.post.Post.{Post}
-use Rattle.runs_core.specs.Entered.{ReservesAreInTheBooks}
+use Rattle.held_calls.specs.Entered.{ReservesAreInTheBooks}
 use Rattle.shared_account.specs.Closed.{Closed}
 use Rattle.shared_account.specs.Own.{own}
 use Rattle.shared_account.specs.Refusals.{Knowing}
@@ -26,7 +26,7 @@ use Rattle.price_core.specs.Rates.{Rates}
 use Rattle.price_core.specs.RatesOf.{rates_of}
 use Rattle.tariff_core.specs.Routes.{IsRoute}
 use Rattle.price_core.specs.declared.route.Route.{Route}
-use Rattle.workers_core.specs.Laws.{IsOnTerms}
+use Rattle.held_calls.specs.Workers.{IsOnTerms}
 use Rattle.workers_core.specs.Verdicts.{home_of}
 
 -- a call has an InitialDP at a moment, from a subscriber of the account at a place, and this plan is that of the called number's route at the moment

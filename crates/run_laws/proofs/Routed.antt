@@ -22,7 +22,7 @@ use Rattle.run_laws.specs.Records.{CallsPayTheirRoute, IsServedRun, IsUntalked, 
 use Rattle.run_laws.specs.Starts.{HasItsStart, HaveTheirStarts, begins_with}
 use Rattle.run_values.specs.declared.post.Body.{Body}
 use Rattle.run_values.specs.declared.post.Body.TheVariants.{Ssf}
-use Rattle.runs_core.specs.Entered.{ReservesAreInTheBooks}
+use Rattle.held_calls.specs.Entered.{ReservesAreInTheBooks}
 use Rattle.shared_account.specs.Closed.{Closed}
 use Rattle.shared_account.specs.Refusals.{Knowing}
 use Rattle.price_core.specs.Price.{price_at}

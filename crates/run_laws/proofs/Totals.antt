@@ -25,7 +25,7 @@ use Rattle.run_laws.proofs.Sums.{no_value, nothing_in, only_one, rising_once, sa
 use Rattle.run_laws.proofs.Unrouted.{reversed}
 use Rattle.run_laws.specs.Records.{IsServedRun, RecordsSumUp, paid_by_calls, paid_in}
 use Rattle.run_values.specs.Setups.{place_of}
-use Rattle.runs_core.specs.Entered.{ReservesAreInTheBooks}
+use Rattle.held_calls.specs.Entered.{ReservesAreInTheBooks}
 use Rattle.shared_account.specs.Closed.{Closed}
 use Rattle.shared_account.specs.Refusals.{Knowing}
 use Rattle.price_core.specs.Rates.{Rates}

@@ -14,7 +14,7 @@ use Rattle.cap_values.specs.declared.number.Number.{Number}
 use Rattle.run_laws.proofs.Grants.{IfReserves, granted_has}
 use Rattle.run_laws.proofs.Reserves.{IsBegun, begun_parties, book_begun, there}
 use Rattle.run_laws.specs.Records.{IsServedRun, UnroutedCallsPayNothing}
-use Rattle.runs_core.specs.Entered.{ReservesAreInTheBooks}
+use Rattle.held_calls.specs.Entered.{ReservesAreInTheBooks}
 use Rattle.shared_account.specs.Closed.{Closed}
 use Rattle.shared_account.specs.Refusals.{Knowing}
 use Rattle.tariff_core.specs.Bands.{Band}

@@ -4,7 +4,7 @@ ghost use Rattle.run_laws.specs.Books.{AuditableBooksHaveFewRows, AuditableBooks
 
 use crate::printed::printed_books_are_read;
 use account_core::entries_are_in_range;
-use runs_core::{reserves_are_in_the_books, run_entries_are_served};
+use held_calls::{reserves_are_in_the_books, run_entries_are_served};
 use shared_account::Shared;
 
 /// The table that `book_table` prints of the books of a run is read back to their openings and

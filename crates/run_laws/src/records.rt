@@ -3,8 +3,8 @@
 ghost use Rattle.account_core.specs.TariffLaws.{TariffLaws};
 ghost use Rattle.run_laws.specs.Records.{CallsPayTheirRoute, RecordsAreInRange, RecordsSumUp, UnroutedCallsPayNothing};
 
+use held_calls::reserves_are_in_the_books;
 use price_core::{afforded_is_greatest, ceiling_is_greatest, lawful_times_follow};
-use runs_core::reserves_are_in_the_books;
 use shared_account::Shared;
 
 /// A call to a number without a route has paid nothing.

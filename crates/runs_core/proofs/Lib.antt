@@ -1,4 +1,3 @@
-pub mod Alone
 pub mod Booking
 pub mod Columns
 pub mod LayingOut
@@ -6,7 +5,6 @@ pub mod Finishing
 pub mod FirstFaults
 pub mod WorkerLemmas
 pub mod HearingLemmas
-pub mod InBooks
 pub mod Joins
 pub mod Leaving
 pub mod Listed

@@ -1,7 +1,6 @@
 pub mod Closing
 pub mod Crews
 pub mod LaidOut
-pub mod Entered
 pub mod Goings
 pub mod Headline
 pub mod Hearing

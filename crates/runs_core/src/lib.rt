@@ -11,10 +11,6 @@ mod shares;
 mod threads;
 mod worker_link;
 
-pub use laws::{
-    books_are_right, recharges_are_in_the_books, reserves_are_in_the_books,
-    run_calls_are_of_one_worker, run_entries_are_served, run_lists_are_worked,
-    run_owed_is_never_refused,
-};
+pub use laws::books_are_right;
 pub use serving::{serve, serve_over};
 pub use shares::{handled, refusals};

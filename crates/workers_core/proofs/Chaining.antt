@@ -1,7 +1,5 @@
--- Posts are handled one after another, and what a worker holds stays in order.
-use Rattle.std.proofs.Common.{◌++◌, ℕ, Option, List, [], ◌∷◌, map, refl, sym, subst, append_assoc, append-nil}
-use Rattle.std.specs.Map.{keys_of}
-use Rattle.std.proofs.lemmas.List.Elements.{All-nil}
+-- Posts are answered one after another.
+use Rattle.std.proofs.Common.{◌++◌, ℕ, List, [], ◌∷◌, sym, subst}
 use Rattle.std.specs.Prelude.{slice_index_or}
 use Rattle.account_core.specs.Asked.{Asked, Credits}
 use Rattle.account_core.specs.Entries.{EntryData}
@@ -9,29 +7,13 @@ use Rattle.account_core.specs.declared.fault.AccountFault.{AccountFault}
 use Rattle.dialogue_core.specs.Phases.{Asks}
 use Rattle.dialogue_core.specs.Rules.{on_begin}
 use Rattle.shared_account.specs.Refusals.{IsRefusedAt, Knowing, Refusal}
-use Rattle.workers_core.proofs.Handling.{sound_after}
 use Rattle.workers_core.proofs.Talking.{all_right_still, refused_still, right_still}
-use Rattle.workers_core.specs.Chains.{AreAnswered, AreHandled, AnswersItsPosts, IsHandledOnce, IsWorked, at_first, refusals_in, seat_numbers}
-use Rattle.workers_core.specs.Handled.{AnswerView, AreRefusedRightly, Holding, IsDone, IsRightlyHandled}
-use Rattle.workers_core.specs.Laws.{EntriesComeFromPosts}
-use Rattle.workers_core.specs.Served.{AreServed}
+use Rattle.workers_core.specs.Chains.{AreAnswered}
+use Rattle.workers_core.specs.Handled.{AnswerView, AreRefusedRightly, Holding, IsDone}
 use Rattle.workers_core.specs.Talks.{Showing}
 use Rattle.workers_core.specs.Verdicts.{Begins, GoesOn, Recharges, Rejects, Strays, Verdict, verdict}
-use Rattle.workers_core.specs.Workers.{IsSoundHolding}
 use Rattle.run_values.specs.Setups.{Setup}
-use Rattle.run_values.specs.declared.directory.OpeningCredit.{OpeningCredit}
 use Rattle.run_values.specs.declared.post.Post.{Post}
-
--- one post more
-pub one_more : (Shows : ℕ → Showing) (setup : Setup) (numbers : List ℕ) (posts : List Post) (answers : List AnswerView) (post : Post) (answer : AnswerView) (old between new : Holding)
-    → AreAnswered Shows setup numbers posts answers old between → IsRightlyHandled Shows setup numbers post between new answer
-    → AreAnswered Shows setup numbers (posts ++ post ∷ []) (answers ++ answer ∷ []) old new
-one_more Shows setup numbers [] [] post answer old between new are is =
-    let P : Holding → Type 0 = λ h. IsRightlyHandled Shows setup numbers post h new answer in (new, subst P (sym are) is, refl)
-one_more Shows setup numbers [] (t ∷ answers) post answer old between new are is = absurd are
-one_more Shows setup numbers (p ∷ posts) [] post answer old between new are is = absurd are
-one_more Shows setup numbers (p ∷ posts) (t ∷ answers) post answer old between new are is =
-    (are.0, are.1, one_more Shows setup numbers posts answers post answer are.0 between new are.2 is)
 
 -- posts after posts
 pub more_after : (Shows : ℕ → Showing) (setup : Setup) (numbers : List ℕ) (posts later : List Post) (answers answer : List AnswerView) (old between new : Holding)
@@ -80,43 +62,3 @@ pub answered_still : (Was Later : ℕ → Knowing) → ((place : ℕ) (mine : Li
     → AreAnswered (λ place. IsRefusedAt (Later place)) setup numbers posts answers old new
 answered_still Was Later still =
     still_answered (λ place. IsRefusedAt (Was place)) (λ place. IsRefusedAt (Later place)) (λ place. refused_still (Was place) (Later place) (still place))
-
--- ---- posts that were answered were handled, and those were refused of which the answers say it
-
-pub handled_so : (Shows : ℕ → Showing) (setup : Setup) (numbers : List ℕ) (posts : List Post) (answers : List AnswerView) (old new : Holding) → AreAnswered Shows setup numbers posts answers old new
-    → AreHandled setup numbers posts (refusals_in answers) old new
-handled_so Shows setup numbers [] [] old new are = are
-handled_so Shows setup numbers [] (t ∷ answers) old new are = absurd are
-handled_so Shows setup numbers (p ∷ posts) [] old new are = absurd are
-handled_so Shows setup numbers (p ∷ posts) (t ∷ answers) old new are =
-    (are.0, record { answer = t; handled = are.1.handled; refused = refl }, handled_so Shows setup numbers posts answers are.0 new are.2)
-
-pub worked_so : (Shows : ℕ → Showing) (setup : Setup) (number : ℕ) (posts : List Post) (answers : List AnswerView) (lists : List (List EntryData)) → AnswersItsPosts Shows setup number posts answers lists
-    → IsWorked setup number posts (refusals_in answers) lists
-worked_so Shows setup number posts answers lists is = record { talks = is.talks; chain = handled_so Shows setup _ posts answers _ _ is.chain }
-
--- ---- what a worker holds is in order, from the first post on
-
-none_served : (accounts : List (ℕ × OpeningCredit)) → AreServed (keys_of accounts) [] (map (λ account. []) accounts)
-none_served [] = tt
-none_served (account ∷ accounts) = (record { settles = tt; credits = tt; calls = All-nil _ }, none_served accounts)
-
-pub first_sound : (setup : Setup) → IsSoundHolding (keys_of setup.accounts) [] (at_first setup)
-first_sound setup = record { served = none_served setup.accounts; talks = λ call. tt }
-
-pub once_sound : (setup : Setup) (numbers : List ℕ) (done : List Post) (post : Post) (refusal : Option AccountFault) (old new : Holding) → IsSoundHolding (keys_of setup.accounts) done old
-    → IsHandledOnce setup numbers post refusal old new → IsSoundHolding (keys_of setup.accounts) (done ++ post ∷ []) new
-once_sound setup numbers done post refusal old new sound is = sound_after setup numbers done post old new is.answer sound is.handled.done
-
-pub all_sound : (setup : Setup) (numbers : List ℕ) (done posts : List Post) (refusals : List (Option AccountFault)) (old new : Holding) → IsSoundHolding (keys_of setup.accounts) done old
-    → AreHandled setup numbers posts refusals old new → IsSoundHolding (keys_of setup.accounts) (done ++ posts) new
-all_sound setup numbers done [] [] old new sound are = rw (append-nil done) (subst (λ h. IsSoundHolding (keys_of setup.accounts) done h) are sound)
-all_sound setup numbers done [] (refusal ∷ refusals) old new sound are = absurd are
-all_sound setup numbers done (post ∷ posts) [] old new sound are = absurd are
-all_sound setup numbers done (post ∷ posts) (refusal ∷ refusals) old new sound are =
-    let P : List Post → Type 0 = λ all. IsSoundHolding (keys_of setup.accounts) all new in
-    subst P (append_assoc done (post ∷ []) posts) (all_sound setup numbers (done ++ post ∷ []) posts refusals are.0 new (once_sound setup numbers done post refusal old are.0 sound are.1) are.2)
-
-pub come_from_posts : EntriesComeFromPosts
-come_from_posts setup number posts refusals lists is =
-    (all_sound setup (seat_numbers number setup) [] posts refusals (at_first setup) (record { lists = lists; talks = is.talks }) (first_sound setup) is.chain).served

@@ -3,7 +3,6 @@ pub mod Cases
 pub mod Chains
 pub mod Ends
 pub mod Handled
-pub mod Laws
 pub mod Logs
 pub mod Refusals
 pub mod Served

@@ -1,5 +1,5 @@
 -- Workers, as their callers see them.
-use Rattle.std.specs.Prelude.{◌≡◌, ◌<◌, ℕ, Option, List, All, Contains, IfSome, length, map, option_map}
+use Rattle.std.specs.Prelude.{◌≡◌, ◌<◌, ℕ, Option, List, All, IfSome, length, map, option_map}
 use Rattle.std.specs.BTreeMap.{is_at}
 use Rattle.std.specs.Map.{keys_of, lookup}
 use Rattle.std.specs.Ordering.{nat_cmp}
@@ -9,10 +9,8 @@ use Rattle.shared_account.specs.Terms.{Terms}
 use Rattle.dialogue_core.specs.Phases.{Phase, FirstAsk, Running, Settling, MoreAsk, Returning, Ending, Closed}
 use Rattle.dialogue_core.specs.Views.{phase_of}
 use Rattle.workers_core.specs.Handled.{Holding}
-use Rattle.workers_core.specs.Served.{AreServed, begun_of}
 use Rattle.run_values.specs.Setups.{Setup}
 use Rattle.workers_core.specs.Verdicts.{DialogueAt}
-use Rattle.run_values.specs.declared.post.Post.{Post}
 use Rattle.workers_core.specs.declared.worker.Talk.{Talk}
 use Rattle.workers_core.specs.declared.worker.Worker.{Worker}
 
@@ -70,16 +68,6 @@ pub record IsPlaced (count call : ℕ) (standing : DialogueAt) : Type 0 where
 -- each dialogue is so
 abbrev pub ArePlaced : ℕ → (ℕ → Option DialogueAt) → Type 0
 ArePlaced count talks = (call : ℕ) → IfSome (talks call) (λ standing. IsPlaced count call standing)
-
--- and its call had an InitialDp among the posts
-pub record IsOwn (count : ℕ) (posts : List Post) (call : ℕ) (standing : DialogueAt) : Type 0 where
-  pub is : IsPlaced count call standing
-  pub begun : Contains (begun_of posts) call
-
--- what a worker holds is in order, where the accounts have these numbers
-pub record IsSoundHolding (accounts : List ℕ) (posts : List Post) (h : Holding) : Type 0 where
-  pub served : AreServed accounts posts h.lists
-  pub talks : (call : ℕ) → IfSome (h.talks call) (λ standing. IsOwn (length accounts) posts call standing)
 
 -- a worker can handle a post: the accounts are those of the setup, each seat is of its account and has the worker's number, and each dialogue is about its call
 -- and has its account among them

@@ -6,10 +6,8 @@ use crate::plans::CHEAPER;
 use account_core::{AccountFault, Op, Reply};
 use arrayvec::ArrayVec;
 use cap_values::{Cause, Event, Leg, Mode, ScfOp, SsfMsg};
-use dialogue_core::{
-    Dialogue, DialogueFault, ServiceConfig, Turn, honest_replies_are_expected,
-    one_return_if_granted, one_settle_a_grant,
-};
+use dialogue_core::{Dialogue, DialogueFault, ServiceConfig, Turn};
+use held_calls::{honest_replies_are_expected, one_return_if_granted, one_settle_a_grant};
 use price_core::{Route, TimeInfo};
 use std::process::Abort;
 

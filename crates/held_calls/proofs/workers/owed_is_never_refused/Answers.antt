@@ -1,0 +1,6 @@
+use Rattle.held_calls.proofs.Refusing.{never_refused}
+use Rattle.workers_core.specs.Refusals.{WasAt}
+use Rattle.held_calls.proofs.workers.owed_is_never_refused.Goals as goal
+
+pub returns : goal.returns
+returns g c = λ seats call alone. never_refused (WasAt g.S.Shared.was seats) call alone

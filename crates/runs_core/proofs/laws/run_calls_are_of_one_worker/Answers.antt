@@ -1,5 +1,0 @@
-use Rattle.runs_core.proofs.Alone.{calls_of_one}
-use Rattle.runs_core.proofs.laws.run_calls_are_of_one_worker.Goals as goal
-
-pub returns : goal.returns
-returns g c = calls_of_one g.S.Shared.stood c.entries_come_from_posts.ensures

@@ -1,5 +1,0 @@
-use Rattle.runs_core.proofs.Alone.{owed_never}
-use Rattle.runs_core.proofs.laws.run_owed_is_never_refused.Goals as goal
-
-pub returns : goal.returns
-returns c = owed_never c.entries_come_from_posts.ensures c.calls_of_one_seat_are_alone.ensures

@@ -1,5 +1,0 @@
-use Rattle.workers_core.proofs.Asking as asking
-use Rattle.workers_core.proofs.laws.calls_are_reserved.Goals as goal
-
-pub returns : goal.returns
-returns c = asking.calls_are_reserved

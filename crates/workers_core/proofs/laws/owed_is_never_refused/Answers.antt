@@ -1,6 +1,0 @@
-use Rattle.workers_core.proofs.Refusing.{never_refused}
-use Rattle.workers_core.specs.Refusals.{WasAt}
-use Rattle.workers_core.proofs.laws.owed_is_never_refused.Goals as goal
-
-pub returns : goal.returns
-returns g c = λ seats call alone. never_refused (WasAt g.S.Shared.was seats) call alone
