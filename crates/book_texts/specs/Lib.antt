@@ -3,7 +3,6 @@ pub mod BookRows
 pub mod BookTexts
 pub mod Books
 pub mod Checks
-pub mod Printable
 pub mod RunTexts
 pub mod SaidOf
 pub mod Sizes

@@ -19,7 +19,7 @@ use Rattle.held_calls.proofs.Refusing.{never_refused}
 use Rattle.held_calls.specs.Workers.{EntriesComeFromPosts}
 use Rattle.workers_core.specs.Served.{AreServed, IsServed, Report, begun_by, begun_of, held_in, held_calls_of, reported_in, reports_of, settled_in, settles_of}
 use Rattle.held_calls.proofs.InBooks.{lists_worked}
-use Rattle.runs_core.proofs.Listed.{all_joined, all_part, all_passing, all_pieces, all_unmapped}
+use Rattle.held_calls.proofs.Listed.{all_joined, all_part, all_passing, all_pieces, all_unmapped}
 use Rattle.runs_core.proofs.HandOuts.{agrees}
 use Rattle.runs_core.specs.Closing.{StoodAt, lists_of}
 use Rattle.held_calls.specs.Entered.{RunCallsAreOfOneWorker, RunOwedIsNeverRefused}

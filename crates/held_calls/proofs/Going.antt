@@ -21,7 +21,7 @@ use Rattle.run_values.specs.Setups.{Setup}
 use Rattle.run_values.specs.declared.post.Body.{Body}
 use Rattle.run_values.specs.declared.post.Body.TheVariants.{Ssf, Recharge}
 use Rattle.run_values.specs.declared.post.Post.{Post}
-use Rattle.runs_core.proofs.Listed.{all_first}
+use Rattle.held_calls.proofs.Listed.{all_first}
 use Rattle.runs_core.specs.Shares.{item_of}
 use Rattle.shared_account.proofs.Beginnings.{begins_further}
 use Rattle.shared_account.specs.Own.{of_call}

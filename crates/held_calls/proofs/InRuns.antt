@@ -26,7 +26,7 @@ use Rattle.run_values.specs.Setups.{Setup}
 use Rattle.run_values.specs.declared.post.Answer.{Answer}
 use Rattle.run_values.specs.declared.post.Body.{Body}
 use Rattle.run_values.specs.declared.post.Body.TheVariants.{Ssf, Recharge}
-use Rattle.runs_core.proofs.Listed.{all_first, all_later}
+use Rattle.held_calls.proofs.Listed.{all_first, all_later}
 use Rattle.runs_core.specs.Closing.{lists_of, refuses_in}
 use Rattle.held_calls.specs.Entered.{IsBookAt, RunCallsAreOfOneWorker, RunOwedIsNeverRefused}
 use Rattle.runs_core.specs.Hearing.{answers_to}

@@ -22,7 +22,7 @@ use Rattle.held_calls.proofs.Entries.{IsHonestEntry, talk_stands}
 use Rattle.held_calls.proofs.Steps.{is_running}
 use Rattle.held_calls.proofs.Rules.{Awaits, Fits, Stands}
 use Rattle.held_calls.specs.Held.{IsShown}
-use Rattle.runs_core.proofs.Listed.{all_first, all_later}
+use Rattle.held_calls.proofs.Listed.{all_first, all_later}
 use Rattle.price_core.specs.declared.times.TheConstants.{DAY}
 use Rattle.workers_core.proofs.OwnCalls.{SaysOf}
 use Rattle.held_calls.proofs.Talked.{says_of_call}

@@ -24,3 +24,4 @@ pub mod Sound
 pub mod Steps
 pub mod Talked
 pub mod Through
+pub mod Listed

@@ -25,7 +25,7 @@ use Rattle.run_values.specs.Setups.{Setup, account_of}
 use Rattle.run_values.specs.declared.post.Body.{Body}
 use Rattle.run_values.specs.declared.post.Body.TheVariants.{Ssf}
 use Rattle.run_values.specs.declared.post.Post.{Post}
-use Rattle.runs_core.proofs.Listed.{all_later}
+use Rattle.held_calls.proofs.Listed.{all_later}
 use Rattle.price_core.specs.declared.route.Route.{Route}
 use Rattle.held_calls.proofs.Talked.{begun_settles}
 use Rattle.held_calls.proofs.AtRest.{nothing_asked}

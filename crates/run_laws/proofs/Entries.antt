@@ -7,7 +7,7 @@ use Rattle.account_core.specs.Entries.{EntryData}
 use Rattle.account_core.specs.Laws.{EntriesAreInRange, EntryIsInRange}
 use Rattle.book_texts.specs.Typed.{IsTyped, IsTypedAsked}
 use Rattle.entry_rows.specs.Fits.{FitsAsked, FitsEntry}
-use Rattle.runs_core.proofs.Listed.{all_passing}
+use Rattle.held_calls.proofs.Listed.{all_passing}
 use Rattle.run_laws.proofs.Openings.{IsOpenedWithin}
 use Rattle.run_laws.proofs.Posts.{IsTimelyAsked, handled_all, mine_timely}
 use Rattle.run_laws.specs.Timely.{AreTimely, IsTimely}

@@ -7,7 +7,7 @@ use Rattle.std.specs.Map.{keys_of}
 use Rattle.std.specs.Ordering.{nat_cmp}
 use Rattle.std.proofs.lemmas.List.{length-map}
 use Rattle.std.proofs.lemmas.List.Elements.{All-filter}
-use Rattle.book_texts.specs.Printable.{row_count}
+use Rattle.run_laws.specs.Printable.{row_count}
 use Rattle.book_texts.specs.Typed.{IsTyped}
 use Rattle.run_laws.specs.Books.{AuditableBooksHaveFewRows, AuditableBooksPass, IsAuditable, RunBooksAreAuditable, RunBooksHaveTheirAccounts}
 use Rattle.run_laws.specs.Runs.{IsTimelyRun}

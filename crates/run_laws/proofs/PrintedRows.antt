@@ -21,7 +21,7 @@ use Rattle.table_core.specs.Rows.{Fields}
 use Rattle.price_core.specs.declared.times.TimeInfo.TheVariants as info
 use Rattle.book_texts.specs.BookTexts.{book_rows, book_text, entry_row, book_header, book_row}
 use Rattle.book_texts.specs.Books.{fourth_header, third_header}
-use Rattle.book_texts.specs.Printable.{FitsBook}
+use Rattle.run_laws.specs.Printable.{FitsBook}
 
 -- ---- fields
 

@@ -6,7 +6,7 @@ use Rattle.std.specs.Ordering.{nat_cmp}
 use Rattle.account_core.specs.Answers.{IsLegal}
 use Rattle.account_core.specs.Laws.{EntriesAreInRange}
 use Rattle.run_laws.specs.PrintedBooks.{BooksAreRead, PrintedBooksHaveTheirLines, PrintedBooksPass}
-use Rattle.book_texts.specs.Printable.{ArePrintable, row_count}
+use Rattle.run_laws.specs.Printable.{ArePrintable, row_count}
 use Rattle.run_laws.proofs.Entries.{history_fits}
 use Rattle.run_laws.proofs.Openings.{IsOpenedWithin, accounts_are, accounts_rise, as_many, book_of, opened_within}
 use Rattle.run_laws.proofs.RowCounts.{counted, limits_are}

@@ -36,7 +36,7 @@ use Rattle.book_texts.specs.BookRows.{Enters, Opens, book_account_in, columns_in
 use Rattle.book_texts.specs.BookTexts.{asks_steps, book_text, history_has_steps, version_of}
 use Rattle.book_texts.specs.Books.{Books, Booked, books_form, book_row_at}
 use Rattle.run_laws.specs.PrintedBooks.{BooksAreRead, PrintedBooksHaveTheirLines, PrintedBooksPass}
-use Rattle.book_texts.specs.Printable.{ArePrintable, FitsBook, row_count, account_of_book}
+use Rattle.run_laws.specs.Printable.{ArePrintable, FitsBook, row_count, account_of_book}
 use Rattle.book_texts.specs.RunTexts.{account_line, call_line, line_in}
 use Rattle.run_laws.proofs.PrintedRows.{book_fields, entry_fields, opening_fields, row_fields, table_fields, table_plain, text_lines, unmarked}
 

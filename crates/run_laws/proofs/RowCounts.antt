@@ -1,8 +1,8 @@
 -- The books of a run have no more rows than the accounts and the limit of its setup allow.
 use Rattle.std.proofs.Common.{◌≡◌, ◌≤◌, ◌+◌, ◌*◌, ℕ, List, [], ◌∷◌, length, map, refl, arith, All}
 use Rattle.std.proofs.lemmas.List.Elements.{All-head, All-map, All-same, All-tail}
-use Rattle.book_texts.specs.Printable.{row_count}
-use Rattle.runs_core.proofs.Listed.{all_unmapped}
+use Rattle.run_laws.specs.Printable.{row_count}
+use Rattle.held_calls.proofs.Listed.{all_unmapped}
 use Rattle.run_values.specs.Setups.{Setup}
 use Rattle.runs_core.specs.Closing.{terms_shown}
 use Rattle.runs_core.specs.Teams.{terms_of, terms_with}

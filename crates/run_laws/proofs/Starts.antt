@@ -8,7 +8,7 @@ use Rattle.call_records.specs.Calls.{first_said, start_by, start_of}
 use Rattle.cap_values.specs.declared.message.SsfMsg.{SsfMsg}
 use Rattle.cap_values.specs.declared.message.SsfMsg.TheVariants as message
 use Rattle.cap_values.specs.declared.number.Number.{Number}
-use Rattle.runs_core.proofs.Listed.{all_passing}
+use Rattle.held_calls.proofs.Listed.{all_passing}
 use Rattle.run_laws.specs.Starts.{HasItsParties, HasItsStart, HaveTheirParties, HaveTheirStarts, begins_with}
 use Rattle.run_values.specs.declared.post.Body.{Body}
 use Rattle.run_values.specs.declared.post.Body.TheVariants as body

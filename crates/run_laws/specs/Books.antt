@@ -8,7 +8,7 @@ use Rattle.account_core.specs.Answers.{IsLegal}
 use Rattle.book_texts.specs.Audits.{Audited, GivesAudit, audited}
 use Rattle.book_texts.specs.BookTexts.{book_text, version_of}
 use Rattle.book_texts.specs.Books.{books_of}
-use Rattle.book_texts.specs.Printable.{ArePrintable, FitsBook, row_count, account_of_book}
+use Rattle.run_laws.specs.Printable.{ArePrintable, FitsBook, row_count, account_of_book}
 use Rattle.book_texts.specs.RunTexts.{IsRunText}
 use Rattle.book_texts.specs.Typed.{IsTyped}
 use Rattle.run_laws.specs.Runs.{IsRecorded, IsTimelyRun}

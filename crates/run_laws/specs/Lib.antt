@@ -2,6 +2,7 @@ pub mod Answered
 pub mod Books
 pub mod Joined
 pub mod Played
+pub mod Printable
 pub mod PrintedBooks
 pub mod ReadBack
 pub mod Records

@@ -1,6 +1,6 @@
 -- What an audit says of the books of a run over an input, and what its calls have paid.
 use Rattle.std.specs.Prelude.{◌≡◌, ◌≢◌, ◌⊎◌, ◌≤◌, ℕ, true, List, All, sum_by}
-use Rattle.book_texts.specs.Printable.{row_count}
+use Rattle.run_laws.specs.Printable.{row_count}
 use Rattle.book_texts.specs.Sizes.{most_rows}
 use Rattle.book_texts.specs.Typed.{IsTyped}
 use Rattle.book_texts.specs.declared.size.BookSize.TheVariants as size

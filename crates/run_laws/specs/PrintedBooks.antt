@@ -7,7 +7,7 @@ use Rattle.table_core.specs.Rows.{rows_of}
 use Rattle.book_texts.specs.Audits.{Audited, GivesAudit, audited}
 use Rattle.book_texts.specs.BookTexts.{book_text, version_of}
 use Rattle.book_texts.specs.Books.{books_of}
-use Rattle.book_texts.specs.Printable.{ArePrintable, account_of_book}
+use Rattle.run_laws.specs.Printable.{ArePrintable, account_of_book}
 use Rattle.book_texts.specs.RunTexts.{IsRunText}
 
 -- the table that is printed of books is read back to the opening and the history of each

@@ -7,7 +7,6 @@ pub mod WorkerLemmas
 pub mod HearingLemmas
 pub mod Joins
 pub mod Leaving
-pub mod Listed
 pub mod Mailing
 pub mod Numbers
 pub mod Refusing

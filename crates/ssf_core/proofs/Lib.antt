@@ -4,7 +4,6 @@ pub mod InitialLemmas
 pub mod InputLemmas
 pub mod LawLemmas
 pub mod MeterLemmas
-pub mod ModeLemmas
 pub mod RangeLemmas
 pub mod StayLemmas
 pub mod TimerLemmas
