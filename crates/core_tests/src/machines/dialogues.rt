@@ -7,7 +7,6 @@ use account_core::{AccountFault, Op, Reply};
 use arrayvec::ArrayVec;
 use cap_values::{Cause, Event, Leg, Mode, ScfOp, SsfMsg};
 use dialogue_core::{Dialogue, DialogueFault, ServiceConfig, Turn};
-use held_calls::{honest_replies_are_expected, one_return_if_granted, one_settle_a_grant};
 use price_core::{Route, TimeInfo};
 use std::process::Abort;
 
@@ -377,9 +376,6 @@ fn plays(rt: &impl Abort, name: &str, rows: &[(Input, Want)]) {
 
 #[test]
 fn dialogues_play_every_row(rt: HostRuntime) {
-    one_settle_a_grant();
-    one_return_if_granted();
-    honest_replies_are_expected();
     for &(name, rows) in &DIALOGUES {
         plays(&rt, name, rows);
     }
