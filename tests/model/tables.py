@@ -29,6 +29,8 @@ class Fault(Exception):
 def records(text):
     """The records of a text: fields may be quoted, and a row ends with LF, CR or CR LF."""
     text = text.removeprefix(b"\xef\xbb\xbf")
+    if b'"' not in text:
+        return [row.split(b",") for row in re.split(rb"[\r\n]+", text) if row]
     found, fields, field, state, at = [], [], bytearray(), "start", 0
     while True:
         if state == "start":
@@ -309,30 +311,26 @@ def read_script(text, accounts):
     return read
 
 
-def separators(lines):
-    """Which of some lines are %% alone. A CR before the end of the input is none of a line's end."""
-    return [i for i, line in enumerate(lines) if line == b"%%" or line == b"%%\r" and i + 1 < len(lines)]
+def dividers(text):
+    """Where each line that is %% alone begins, and where it ends. A CR before the end of the input is none of a line's end."""
+    return [it.span() for it in re.finditer(rb"(?m)^%%(?:\r?\n|\Z)", text)]
 
 
 def first_section(text):
     """What stands before the first line that is %% alone, and what stands behind it."""
-    lines = text.split(b"\n")
-    ends = separators(lines)
-    at = ends[0] + 1 if ends else len(lines)
-    behind = b"\n".join(lines[at:])
-    if len(text) - len(behind) > MAX_SECTION:
+    found = dividers(text)
+    start, end = found[0] if found else (len(text), len(text))
+    if end > MAX_SECTION:
         raise Fault("prepaid: input: TooLong")
-    if not ends:
+    if not found:
         raise Fault("prepaid: input: Parts")
-    return b"\n".join(lines[: at - 1]), behind
+    return text[: max(start - 1, 0)], text[end:]
 
 
 def divide(text):
     """The three sections of the input of a run."""
-    lines = text.split(b"\n")
-    ends = separators(lines)
-    if len(ends) != 2:
+    found = dividers(text)
+    if len(found) != 2:
         raise Fault("prepaid: input: Parts")
-    first, second = ends
-    sections = lines[:first], lines[first + 1 : second], lines[second + 1 :]
-    return [b"\n".join(it) for it in sections]
+    (first, second), (third, fourth) = found
+    return [text[: max(first - 1, 0)], text[second : max(third - 1, second)], text[fourth:]]

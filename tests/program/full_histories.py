@@ -61,6 +61,31 @@ def played():
     return Row("run --workers 1", text, line, "prepaid: refused: 1 HistoryFull\n")
 
 
+def traced():
+    """A call that is released, since its account has only room for what it owes the call, and one that has no room to
+    begin. The script has as many rows as it may have."""
+    setup, recharges = "account,7,2100\nsubscriber,491700001,7\n", MOST - 4
+    behind = "100,1,answer,,\n800,,recharge,7,1\n900,2,start,491700001,4930\n"
+    script = "0,1,start,491700001,4930\n" + "9,,recharge,7,1\n" * recharges + behind
+    said = [f"9,{number},,{RECHARGE}\n" for number in range(1, recharges + 1)]
+    number = recharges + 1
+    late = f"""\
+100,{number},1,switch,EventReportBCSM,answer,,notify,
+700,{number + 1},1,switch,ApplyChargingReport,active,n,600,
+700,{number + 1},1,service,ReleaseCall,41,,,
+700,{number + 1},1,service,refused,HistoryFull,,,
+702,{number + 2},1,switch,Ended,,,,
+800,{number + 3},,{RECHARGE}
+900,{number + 4},2,switch,InitialDP,491700001,4930,,
+900,{number + 4},2,service,ReleaseCall,41,,,
+900,{number + 4},2,service,refused,HistoryFull,,,
+902,{number + 5},2,switch,Ended,,,,
+"""
+    trace = f"{HEADER}{GRANTED}{''.join(said)}{late}"
+    return Row("run --workers 1 --trace", run_input(BAND, setup, script), trace, "prepaid: refused: 2 HistoryFull\n")
+
+
 def rows():
     yield served()
     yield played()
+    yield traced()
