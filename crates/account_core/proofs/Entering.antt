@@ -21,7 +21,7 @@ use Rattle.account_core.specs.Sound.{AnswersFit, GrantsWithinDay, IsSoundPast}
 use Rattle.account_core.specs.Tallied.{IsTallied, tally_of}
 use Rattle.account_core.specs.Tellers.{IsAnsweredByTeller, IsTellerOf, entered}
 use Rattle.account_core.specs.declared.tally.Tally.{Tally}
-use Rattle.account_core.specs.declared.account.Teller.{Teller}
+use Rattle.account_core.specs.declared.teller.Teller.{Teller}
 use Rattle.account_core.specs.declared.entry.Entry.{Entry}
 use Rattle.account_core.specs.declared.entry.Reply.{Reply}
 use Rattle.account_core.specs.declared.entry.Reply.TheVariants as reply

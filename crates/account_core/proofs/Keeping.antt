@@ -16,7 +16,7 @@ use Rattle.account_core.specs.Tellers.{Admits, IsKeptTeller, IsTellerOf, entered
 use Rattle.account_core.specs.declared.admitted.Admitted.{Admitted}
 use Rattle.account_core.specs.declared.account.Account.TheInside.{Inside}
 use Rattle.account_core.specs.declared.entry.Entry.{Entry}
-use Rattle.account_core.specs.declared.account.Teller.{Teller}
+use Rattle.account_core.specs.declared.teller.Teller.{Teller}
 use Rattle.account_core.proofs.Asking.{needed_asked}
 use Rattle.account_core.proofs.Entering.{answered_by, nothing_owed_yet, places_after}
 

@@ -7,7 +7,7 @@ use Rattle.account_core.specs.Places.{owed}
 use Rattle.account_core.specs.Tallied.{IsTallied}
 use Rattle.account_core.specs.declared.admitted.Admitted.{Admitted}
 use Rattle.account_core.specs.declared.entry.Entry.{Entry}
-use Rattle.account_core.specs.declared.account.Teller.{Teller}
+use Rattle.account_core.specs.declared.teller.Teller.{Teller}
 
 -- a ledger with one entry more
 abbrev pub entered : Ledger → EntryData → Ledger

@@ -18,8 +18,9 @@ mod kept_plan;
 mod laws;
 mod limits;
 mod tally;
+mod teller;
 
-pub use account::{Account, Teller};
+pub use account::Account;
 pub use account_port::{AccountPort, Port};
 pub use account_sum::AccountSum;
 pub use admitted::Admitted;
@@ -34,3 +35,4 @@ pub use laws::{
     places_go_with_entries, settles_keep_the_credit,
 };
 pub use limits::{MAX_LIMIT, MIN_LIMIT};
+pub use teller::Teller;

@@ -6,7 +6,7 @@ use Rattle.account_core.specs.Asked.{Asked}
 use Rattle.account_core.specs.Entries.{EntryData}
 use Rattle.account_core.specs.Ledger.{IsRefusal, Ledger, answer_of, entry_by, refusal_of}
 use Rattle.account_core.specs.Tellers.{IsTellerOf, entered}
-use Rattle.account_core.specs.declared.account.Teller.{Teller}
+use Rattle.account_core.specs.declared.teller.Teller.{Teller}
 use Rattle.account_core.specs.declared.entry.Reply.{Reply}
 use Rattle.account_core.specs.declared.fault.AccountFault.{AccountFault}
 use Rattle.account_core.specs.declared.fault.AccountFault.TheVariants as fault

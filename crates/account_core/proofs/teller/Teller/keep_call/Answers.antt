@@ -2,7 +2,7 @@ use Rattle.std.proofs.Common.{arith, refl, reverse}
 use Rattle.account_core.specs.Entries.{entry_data}
 use Rattle.account_core.specs.Kept.{known_of}
 use Rattle.account_core.proofs.Entering.{call_entered, owed_enough, placed_known, room_known, teller_entered}
-use Rattle.account_core.proofs.account.Teller.keep_call.Goals as goal
+use Rattle.account_core.proofs.teller.Teller.keep_call.Goals as goal
 
 pub after-after-requires-clause-room : goal.after-after-requires-clause-room
 after-after-requires-clause-room c =

@@ -2,7 +2,7 @@ use Rattle.std.proofs.Common.{◌≡◌, Some, ap, reverse, sym, ◌∙◌}
 use Rattle.account_core.specs.Entries.{asked_of}
 use Rattle.account_core.specs.declared.fault.AccountFault.TheVariants as fault
 use Rattle.account_core.proofs.Entering.{never_gated}
-use Rattle.account_core.proofs.account.Teller.admit.Goals as goal
+use Rattle.account_core.proofs.teller.Teller.admit.Goals as goal
 
 pub returns-in-Some-clause-ungated : goal.returns-in-Some-clause-ungated
 returns-in-Some-clause-ungated c = λ gated.

@@ -2,7 +2,7 @@ use Rattle.std.proofs.Common.{◌∙◌}
 use Rattle.account_core.specs.Entries.{asked_of}
 use Rattle.account_core.specs.Kept.{known_of}
 use Rattle.account_core.proofs.Entering.{refusal_response}
-use Rattle.account_core.proofs.account.Teller.judge.Goals as goal
+use Rattle.account_core.proofs.teller.Teller.judge.Goals as goal
 
 pub returns-clause-value : goal.returns-clause-value
 returns-clause-value c = λ ledger is known_is.

@@ -7,7 +7,7 @@ use Rattle.account_core.proofs.Answering.{funds_kept, reply_is_answer}
 use Rattle.account_core.proofs.Asking.{money_asked, replied_asked, sound_asked}
 use Rattle.account_core.proofs.Entering.{admitted}
 use Rattle.account_core.proofs.Verdicts.{in_place}
-use Rattle.account_core.proofs.account.Teller.reply_to.Goals as goal
+use Rattle.account_core.proofs.teller.Teller.reply_to.Goals as goal
 
 pub reply-requires : goal.reply-requires
 reply-requires c =

@@ -3,7 +3,7 @@ use Rattle.account_core.specs.Entries.{asked_of, entry_data}
 use Rattle.account_core.specs.Tellers.{IsTellerOf, entered}
 use Rattle.account_core.specs.declared.tally.Tally.{Tally}
 use Rattle.account_core.proofs.Entering.{answered_by, credit_entered, funds_fit, teller_entered}
-use Rattle.account_core.proofs.account.Teller.keep_credit.Goals as goal
+use Rattle.account_core.proofs.teller.Teller.keep_credit.Goals as goal
 
 pub count-requires : goal.count-requires
 count-requires c =
