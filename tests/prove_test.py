@@ -2,7 +2,8 @@
 """Tries prove.py on a repository of three libraries: it proves those that changed and those above them, and no other.
 
 A library of which a body, or that of a library below, has changed isn't taken for proved; nor is one without a stamp, or
-one that was proved before a library below it. One that the prover refuses has none, and the status is 1.
+one that was proved before a library below it. One that the prover refuses has none, and the status is 1. What the
+toolchain says is tried of two libraries; else a program is in its place, which refuses the false clause alone.
 """
 import os
 import re
@@ -26,6 +27,17 @@ pub fn {name}(x: u32) -> u32
 }}
 """
 OPPOSITE = ("    x + 1", "    1 + x")
+# In place of the toolchain: it refuses a false clause, and makes the folder that it is to write.
+PLAYED = """#!/usr/bin/env python3
+import os, sys
+with open("src/lib.rt", encoding="utf-8") as it:
+    if "x + 2" in it.read():
+        sys.exit("logic=not-proved")
+os.mkdir(sys.argv[sys.argv.index("-o") + 1])
+print("logic=proved functions=1")
+"""
+# Calls prove.py with the toolchain that the last word names.
+CALL = "import sys, prove; prove.rtlib.RATTLE = sys.argv.pop() or prove.rtlib.RATTLE; sys.exit(prove.main())"
 
 
 def write(path, text):
@@ -35,13 +47,14 @@ def write(path, text):
 
 
 class Sample:
-    """A repository of the libraries `low`, `middle` above it and `side`, all below `top`."""
+    """A repository of these libraries, and of `top` above them."""
 
-    def __init__(self, root):
-        self.root = root
-        write(f"{root}/crates.txt", "low:\nmiddle: low\nside:\ntop: middle side\n")
+    def __init__(self, root, libraries, toolchain=""):
+        self.root, self.toolchain = root, toolchain
+        listed = "".join(f"{name}: {below}\n" for name, below in libraries.items())
+        write(f"{root}/crates.txt", f"{listed}top: {' '.join(libraries)}\n")
         write(f"{root}/HANDLES", "Handles allowed: none.\n")
-        for name in ("low", "middle", "side", "top"):
+        for name in (*libraries, "top"):
             self.lay(name)
         os.mkdir(f"{root}/tests")
         shutil.copy(f"{TESTS}/prove.py", f"{root}/tests")
@@ -57,7 +70,8 @@ class Sample:
 
     def proved(self):
         """Runs prove.py, and returns the libraries that it has proved, in order of their names, and its status."""
-        ran = subprocess.run([f"{self.root}/tests/prove.py", "top"], stdout=subprocess.PIPE, stderr=subprocess.STDOUT, text=True)
+        how = {"cwd": f"{self.root}/tests", "stdout": subprocess.PIPE, "stderr": subprocess.STDOUT, "text": True}
+        ran = subprocess.run([sys.executable, "-c", CALL, "top", self.toolchain], **how)
         return sorted(re.findall(r"^(\w+): logic=proved ", ran.stdout, re.M)), ran.returncode
 
 
@@ -67,7 +81,7 @@ def later(sample):
     os.utime(sample.stamp("low"), ns=(at, at))
 
 
-# What is done to the sample, one after the other, and what prove.py proves then, with which status.
+# What is done to a sample, one after the other, and what prove.py proves then, with which status.
 STEPS = [
     ("all is new", lambda it: None, ["low", "middle", "side"], 0),
     ("nothing has changed", lambda it: None, [], 0),
@@ -78,18 +92,30 @@ STEPS = [
     ("it has it still", lambda it: None, [], 1),
     ("side is as it was", lambda it: it.lay("side"), ["side"], 0),
 ]
+# The same of the toolchain itself.
+PROVED_STEPS = [
+    ("all is new", lambda it: None, ["low", "side"], 0),
+    ("side has a false clause", lambda it: it.lay("side", more=2), [], 1),
+]
+
+
+def tried(sample, steps):
+    """Does all this to a sample."""
+    for what, change, libraries, status in steps:
+        change(sample)
+        if (found := sample.proved()) != (libraries, status):
+            sys.exit(f"prove: FAILED: where {what}: {found}, and not {(libraries, status)}")
+        if os.path.exists(sample.stamp("side")) != (status == 0):
+            sys.exit(f"prove: FAILED: where {what}: the stamp of side")
 
 
 def main():
     with tempfile.TemporaryDirectory(prefix="prove-test-") as root:
-        sample = Sample(root)
-        for what, change, libraries, status in STEPS:
-            change(sample)
-            if (found := sample.proved()) != (libraries, status):
-                sys.exit(f"prove: FAILED: where {what}: {found}, and not {(libraries, status)}")
-            if os.path.exists(sample.stamp("side")) != (status == 0):
-                sys.exit(f"prove: FAILED: where {what}: the stamp of side")
-    print(f"prove: what is proved where {len(STEPS)} things have happened: ok")
+        write(f"{root}/played", PLAYED)
+        os.chmod(f"{root}/played", 0o755)
+        tried(Sample(f"{root}/large", {"low": "", "middle": "low", "side": ""}, f"{root}/played"), STEPS)
+        tried(Sample(f"{root}/small", {"low": "", "side": "low"}), PROVED_STEPS)
+    print(f"prove: what is proved where {len(STEPS)} things have happened, and {len(PROVED_STEPS)} by the toolchain: ok")
 
 
 if __name__ == "__main__":
