@@ -7,17 +7,19 @@ the input, and where the row is at the end of an input of 16 MB. Behind the answ
 subscriber makes, and a further one which events had no place, in parts or not, with the word alone, and the output stays as
 it is. Of an output that fails, nothing is said without the word,
 and with it why it failed, at each command. On a pseudo-terminal a fault is explained without the word,
-but not behind `--plain`, and a command says that it waits for its input; and a run of more than two seconds shows there how far it
-is, and takes that away at its end.
+but not behind `--plain`, and a command says that it waits for its input; and a run of more than two seconds, as one that is paused now
+and then, shows there how far it is, and takes that away at its end.
 """
 import argparse
 import os
 import pty
 import re
+import signal
 import subprocess
 import sys
 import tempfile
 import threading
+import time
 
 ROOT = os.path.dirname(os.path.dirname(os.path.abspath(__file__)))
 MAX_INPUT = 16_777_216
@@ -268,7 +270,20 @@ def failing(program, words, text, output):
     return done.stderr.decode(), done.returncode
 
 
-def on_terminal(program, words, text=None):
+# How long a process that is paused now and then runs, and how long it doesn't, in seconds.
+AT_WORK, PAUSED = 0.05, 0.55
+
+
+def pause(process):
+    """Pauses a process now and then until it ends, so that a short run takes long."""
+    while process.poll() is None:
+        time.sleep(AT_WORK)
+        process.send_signal(signal.SIGSTOP)
+        time.sleep(PAUSED)
+        process.send_signal(signal.SIGCONT)
+
+
+def on_terminal(program, words, text=None, pauses=False):
     """What a terminal shows of the error writer, where the input is a text, or else what is typed there: one Ctrl-D."""
     outer, inner = pty.openpty()
     shown = []
@@ -285,6 +300,8 @@ def on_terminal(program, words, text=None):
         os.close(inner)
         reader = threading.Thread(target=read)
         reader.start()
+        if pauses:
+            threading.Thread(target=pause, args=[it]).start()
         if text is None:
             os.write(outer, b"\x04")
             output = it.stdout.read()
@@ -331,10 +348,9 @@ LONG_RUNS = [("run --workers 1", 1, True), ("run --parts 4", 4, True), ("run --p
 
 
 def long_input(program):
-    """An input whose run takes a processor five to eight seconds or so, with a call of a number that no subscriber has, its
-    lines, and what is said of it. So two threads at a time still take two seconds, after which it is first shown how far they
-    are, and half a second more."""
-    calls = 20000
+    """An input whose run takes a processor half a second or so, and with pauses some five seconds, with a call of a number that
+    no subscriber has, its lines, and what is said of it."""
+    calls = 4000
     for _ in range(TRIES):
         words = [sys.executable, f"{ROOT}/examples/generate.py", "--calls", str(calls), "--rate", "60000", "--hold", "1200"]
         text = subprocess.run(words, capture_output=True, check=True).stdout.decode()
@@ -345,10 +361,10 @@ def long_input(program):
             sys.exit(f"explain: a long run: {said[:300]!r} {status}")
         after = os.times()
         taken = after.children_user + after.children_system - before.children_user - before.children_system
-        if taken > 5:
+        if taken > 0.4:
             return text, lines, said
-        calls = int(calls * 6.5 / max(taken, 0.5))
-    sys.exit("explain: no input takes five seconds")
+        calls = int(calls * 0.55 / max(taken, 0.05))
+    sys.exit("explain: no input takes half a second")
 
 
 def progress(program):
@@ -357,7 +373,7 @@ def progress(program):
     text, lines, said = long_input(program)
     script = text.split("%%\n")[2].splitlines()
     for words, parts_of_all, in_order in LONG_RUNS:
-        shown, output, status = on_terminal(program, words, text)
+        shown, output, status = on_terminal(program, words, text, pauses=True)
         if status or words != "run --workers 2" and output != lines or not output:
             return f"{words} on a terminal: another output, status {status}"
         *steps, end = shown.split(TAKEN)
@@ -374,7 +390,7 @@ def progress(program):
             rows.append(int(part or row))
         if in_order and rows != sorted(rows) or len(rows) < 3:
             return f"{words} shows {rows}"
-    if (found := on_terminal(program, "--plain run --workers 1", text)) != ("", lines, 0):
+    if (found := on_terminal(program, "--plain run --workers 1", text, pauses=True)) != ("", lines, 0):
         return f"--plain run on a terminal: {found[0]!r} {found[2]}"
     return None
 
