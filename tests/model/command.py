@@ -13,6 +13,7 @@ from .tables import (
     band_at,
     dated,
     divide,
+    dividers,
     moment,
     read_book,
     read_ops,
@@ -83,10 +84,10 @@ def explained(words, text, line):
     found = re.fullmatch(r"prepaid: (\w+) row (\d+): \w+", line)
     if not found or words[0] in ("rate", "serve") or "--long" in words:
         return ""
-    sections = {"tariff": 0, "setup": 1, "script": 2} if words[0] == "run" else {}
-    starts = [0] + [it.end() for it in re.finditer(rb"^%%(\r?\n|\r?\Z)", text, re.M)]
-    start = starts[sections.get(found[1], 0)]
-    end = starts[sections[found[1]] + 1] if sections and sections[found[1]] < 2 else len(text)
+    place = {"tariff": 0, "setup": 1, "script": 2}[found[1]] if words[0] == "run" else 0
+    spans = dividers(text) if words[0] == "run" else []
+    start = [0, *(end for _, end in spans)][place]
+    end = [*(begins for begins, _ in spans), len(text)][place]
     begins = row_starts(text[start:end], int(found[2]))
     if begins is None:
         return ""

@@ -91,6 +91,21 @@ RUNS = [
     ),
 ]
 
+# Inputs of a run of which a section has no row, and what is said of its header: no line of the input is shown.
+EMPTY = [
+    (
+        "%%\nkind,key,value\n%%\n",
+        "tariff row 1: Header\n"
+        "wanted: prefix,from,fee,rate,free,first,step,days, or without days, first to days, or free to days\n"
+        "found: no row\n",
+    ),
+    (
+        "prefix,from,fee,rate\n49,00:00,50,1000\n%%\n\n%%\nmoment,call,what,x,y\n",
+        "setup row 1: Header\nwanted: kind,key,value,until or kind,key,value\nfound: no row\n",
+    ),
+    (ACCOUNT + "%%\n", "script row 1: Header\nwanted: moment,call,what,x,y,z or moment,call,what,x,y\nfound: no row\n"),
+]
+
 # Tariffs, and what `quote` says of them.
 TARIFFS = [
     (
@@ -133,5 +148,7 @@ def rows():
         yield explained(PRICE, text, line + more)
     for setup, script, slip in RUNS:
         yield explained("run", ACCOUNT + setup + SCRIPT + script, slip)
+    for text, slip in EMPTY:
+        yield explained("run", text, slip)
     for text, line, more in TARIFFS:
         yield explained("quote --called 4930 --at 0", text, line + more)
