@@ -135,6 +135,9 @@ def options_in(name, words):
             raise ARGUMENTS
         if word not in TAKEN[name] or word in given or word not in FLAGS and not left:
             raise ARGUMENTS
+        # a word that begins with - is an option, where more is behind that
+        if word not in FLAGS and not is_joined and re.match("-.", left[0]):
+            raise ARGUMENTS
         given[word] = True if word in FLAGS else left.pop(0)
     if max(sum(it in given for it in words) for words in (TABLES, ENDS)) > 1 or name == "rate" and not are_times(given):
         raise ARGUMENTS

@@ -10,6 +10,18 @@ TARIFF = "prefix,from,fee,rate,free\n49,00:00,50,1000,0\n49,08:00,50,400,0\n4915
 # Words, records, the status and what is printed.
 RATED = [
     (
+        "rate --paid=-1",
+        "called,answer,time,-1\n4930,0,600,1050\n",
+        0,
+        "called,answer,time,-1,prefix,before,after,price,difference,fault\n4930,0,600,1050,49,600,0,1050,0,\n",
+    ),
+    (
+        "rate --paid -",
+        "called,answer,time,-\n4930,0,600,1050\n",
+        0,
+        "called,answer,time,-,prefix,before,after,price,difference,fault\n4930,0,600,1050,49,600,0,1050,0,\n",
+    ),
+    (
         "rate",
         "called,answer,time,paid\n4930,0,600,1050\n",
         0,
@@ -224,7 +236,15 @@ BYTES = [(65_524, b"49,600,0,1050,,\n", 0), (65_525, b",,,,,TooLong\n", 3), (70_
 NO_PARTS = ["", "prefix,from,fee,rate\n", "%%%\n", " %%\ncalled,answer,time\n"]
 
 # Words that are refused whatever the input.
-NO_WORDS = ["rate --time a --end b", "rate --before a", "rate --after a", "rate --called a --called b"]
+NO_WORDS = [
+    "rate --time a --end b",
+    "rate --before a",
+    "rate --after a",
+    "rate --called a --called b",
+    "rate --paid -1",
+    "rate --paid --",
+    "rate --paid --",
+]
 
 
 def input_of(records):
