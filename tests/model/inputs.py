@@ -521,6 +521,11 @@ def broken(it, text):
             lines[at], lines[other] = lines[other], lines[at]
         elif what == 9 and it.random() < 0.1 and len(lines) > 2:
             lines[at:at] = [lines[at]] * 10_001
+        elif what == 9:
+            # a section without its rows, or a table
+            start = it.choice([0, *(place + 1 for place, line in enumerate(lines) if line == b"%%")])
+            rest = lines[start:]
+            del lines[start : start + (rest.index(b"%%") if b"%%" in rest else len(rest))]
         text = b"\n".join(lines)
         if what == 10 and text:
             at = it.randrange(len(text))
