@@ -5,10 +5,11 @@ Each slip of a table is told by its line alone, and with `--explain` in front of
 the table behind it; the output stays empty. The same holds with CR LF at the end of each line, without an LF at the end of
 the input, and where the row is at the end of an input of 16 MB. Behind the answer of a run a line says which calls no
 subscriber makes, and a further one which events had no place, in parts or not, with the word alone, and the output stays as
-it is. Of an output that fails, nothing is said without the word,
-and with it why it failed, at each command. On a pseudo-terminal a fault is explained without the word,
-but not behind `--plain`, and a command says that it waits for its input; and a run of more than two seconds, as one that is paused now
-and then, shows there how far it is, and takes that away at its end.
+it is. Of an output that fails, nothing is said without the word, and with it why it failed, at each command.
+
+On a pseudo-terminal a fault is explained without the word, but not behind `--plain`, and a command says that it waits for its
+input. A run of more than two seconds shows there how far it is, and takes that away at its end; one that is paused now and then
+takes as long with less work.
 """
 import argparse
 import os

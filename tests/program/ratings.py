@@ -243,7 +243,6 @@ NO_WORDS = [
     "rate --called a --called b",
     "rate --paid -1",
     "rate --paid --",
-    "rate --paid --",
 ]
 
 
