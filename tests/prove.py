@@ -4,9 +4,9 @@
 The crate is prepaid where none is named, and its program comes into crates/prepaid/out.
 
 `rt` proves the libraries below a crate one after another, and keeps their proofs, which each crate above loads again.
-This gives each crate one processor, the longest chain of crates two, and shares those that no crate waits for. It keeps
-of a library what crates above can name, its statements, as the gate does. A library is proved from nothing where its files
-or those of a library below have changed. `rt` finds each where it keeps its own. JOBS says how many processors there are.
+This proves as many at once as there are processors, and those first that most is behind. It keeps of a library what
+crates above can name, its statements, as the gate does. A library is proved from nothing where its files or those of a
+library below have changed. `rt` finds each where it keeps its own. JOBS says how many processors there are.
 """
 import copy
 import os
@@ -16,19 +16,16 @@ import sys
 import tempfile
 import threading
 from concurrent.futures import FIRST_COMPLETED, ThreadPoolExecutor, wait
+from contextlib import contextmanager
 
 ROOT = os.path.dirname(os.path.dirname(os.path.abspath(__file__)))
-# More jobs on one crate than these take more time of the processors and end hardly sooner. A second job takes some 20 %
-# more of it, so where crates wait it is for the longest chain alone.
+# More jobs on one crate than these take more time of the processors and end hardly sooner.
 MOST_JOBS = 4
-CHAIN_JOBS = 2
 # As many lines of code take as long as what is done of a library before its first function, as a type of a function that
 # is generic over what a trait promises, and as a `?`. So it was measured of the libraries below prepaid.
 FIRST_LINES = 230
 BOUND_LINES = 50
 RETURN_LINES = 33
-# The niceness of a crate with nothing behind it; those of the longest chain have none.
-NICENESS = 19
 sys.path.insert(0, os.path.dirname(os.path.realpath(shutil.which("rt") or sys.exit("rt isn't there"))))
 import rtlib
 
@@ -91,14 +88,14 @@ def is_proved(library):
     return all(os.path.exists(stamp_of(it)) and os.stat(stamp_of(it)).st_mtime_ns <= proved for it in library.below())
 
 
-def prove_alone(library, jobs, niceness):
+def prove_alone(library, jobs):
     """Proves a library over those below. The status of the toolchain, 0 where it is proved."""
     stamp = library.stamp()
     folder = os.path.dirname(stamp_of(library))
     shutil.rmtree(folder, ignore_errors=True)
     os.makedirs(folder)
     words = library.words(["--jobs", str(jobs)], keeps=False)
-    status = library.call("nice", "-n", str(niceness), rtlib.RATTLE, "build", *words, "--statements", "-o", library.rlib)
+    status = library.call(rtlib.RATTLE, "build", *words, "--statements", "-o", library.rlib)
     # What was changed meanwhile is proved the next time.
     if status == 0 and stamp == library.stamp():
         with open(stamp_of(library), "w", encoding="utf-8") as it:
@@ -106,11 +103,11 @@ def prove_alone(library, jobs, niceness):
     return status
 
 
-def build(library, jobs, niceness):
+def build(library, jobs):
     """Proves a library, and prints what the toolchain says, all or its last line. Whether it is proved."""
     library = copy.copy(library)
     with tempfile.TemporaryFile("w+", errors="replace") as library.out:
-        status = prove_alone(library, jobs, niceness)
+        status = prove_alone(library, jobs)
         library.out.seek(0)
         said = library.out.read().splitlines()
     for line in said if status else said[-1:]:
@@ -128,26 +125,31 @@ def proved_of(libraries):
     return proved
 
 
-def prove(libraries, processors):
-    """Proves the libraries, each once those that it uses are proved. Whether all are."""
-    proved = proved_of(libraries)
-    behind, left, running = work_behind(libraries), [it for it in libraries if it not in proved], {}
-    most = min(MOST_JOBS, processors)
-    with ThreadPoolExecutor(len(libraries) or 1) as pool:
+def processors():
+    return int(os.environ.get("JOBS") or os.cpu_count())
+
+
+def jobs_of_each(count):
+    """How many jobs at most a crate gets where so many libraries are to be proved: one if these are more than processors.
+
+    A second job takes a quarter more time of the processors.
+    """
+    return 1 if count > processors() else min(MOST_JOBS, processors())
+
+
+def prove(libraries, proved, most):
+    """Proves the others of the libraries, each once those that it uses are proved. Whether all are."""
+    proved, left, running = {*proved}, [it for it in libraries if it not in proved], {}
+    behind = work_behind(libraries)
+    with ThreadPoolExecutor(processors()) as pool:
         while left or running:
             ready = sorted((it for it in left if proved.issuperset(it.below())), key=behind.get, reverse=True)
-            longest = max(behind[it] for it in [*left, *(it for it, _ in running.values())])
             for place, it in enumerate(ready):
-                idle = processors - sum(jobs for _, jobs in running.values())
-                waiting = len(ready) - place
-                # The longest chain waits for no processor.
-                is_next = behind[it] == longest
-                if idle <= 0 and not is_next:
+                idle = processors() - sum(jobs for _, jobs in running.values())
+                if not idle:
                     break
-                jobs = max(CHAIN_JOBS, idle - waiting + 1) if is_next else -(-idle // waiting)
-                jobs = min(jobs, most)
-                niceness = 0 if is_next else NICENESS * (longest - behind[it]) // longest
-                running[pool.submit(build, it, jobs, niceness)] = it, jobs
+                jobs = min(most, -(-idle // (len(ready) - place)))
+                running[pool.submit(build, it, jobs)] = it, jobs
                 left.remove(it)
             for ended in wait(running, return_when=FIRST_COMPLETED).done:
                 library, _ = running.pop(ended)
@@ -159,26 +161,22 @@ def prove(libraries, processors):
     return len(proved) == len(libraries)
 
 
-def processors():
-    return int(os.environ.get("JOBS") or os.cpu_count())
-
-
-def prove_all(libraries):
-    """Proves the libraries while no other command works in them. Whether all are proved."""
+@contextmanager
+def alone_in(libraries):
+    """While no other command works in the libraries."""
     # The first call sets what ends the toolchain's processes, which only the main thread may.
     rtlib.guarded()
     held = rtlib.lock(libraries)
-    is_whole = prove(libraries, processors())
+    yield
     for it in held:
         os.close(it)
-    return is_whole
 
 
-def build_program(crate):
+def build_program(crate, jobs):
     """Proves a program over its libraries and builds it, as `rt run` does. The status of the toolchain."""
     crate, program, stamp = copy.copy(crate), f"out/{crate.name}", crate.stamp()
     with tempfile.TemporaryFile("w+", errors="replace") as crate.out:
-        status = crate.compile(["--jobs", str(processors())], f"{program}.o")
+        status = crate.compile(["--jobs", str(jobs)], f"{program}.o")
         if not status:
             words = ["--target", "x86_64-unknown-linux-gnu", "--toolchain", f"{rtlib.KIT}/toolchain", "-o", program, f"{program}.o"]
             archives = [f"{rtlib.KIT}/c/{it}" for it in ("libos_c.a", "liblibc_c.a")]
@@ -197,9 +195,14 @@ def build_program(crate):
 def main():
     name = sys.argv[1] if sys.argv[1:] else "prepaid"
     crate = rtlib.Crate(f"{ROOT}/crates/{name}", ROOT, {})
-    if not prove_all(crate.below()):
+    libraries = crate.below()
+    with alone_in(libraries):
+        proved = proved_of(libraries)
+        jobs = jobs_of_each(len(libraries) - len(proved))
+        is_whole = prove(libraries, proved, jobs)
+    if not is_whole:
         return 1
-    return build_program(crate) if crate.is_program else 0
+    return build_program(crate, jobs) if crate.is_program else 0
 
 
 if __name__ == "__main__":
