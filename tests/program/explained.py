@@ -106,6 +106,44 @@ EMPTY = [
     (ACCOUNT + "%%\n", "script row 1: Header\nwanted: moment,call,what,x,y,z or moment,call,what,x,y\nfound: no row\n"),
 ]
 
+# Headers of operations and of books, of which the last has no column for a last moment.
+OPS = "seat,op,call,x1,x2,x3,x4,x5,x6,x7\n"
+BOOK = "account,seat,op,call,x1,x2,x3,x4,x5,x6,x7,reply,y1,y2,y3\n"
+OLD_BOOK = "account,seat,op,call,x1,x2,x3,x4,x5,reply,y1,y2,y3\n"
+OPENED = "7,,opening,,5,,,,,,,,,,\n"
+
+# Words, a table up to a row, that row, its fault, and what is said of it.
+ENTRIES = [
+    ("replay --opening 9", OPS, "0,credit,1,5,,,,,,", "ops row 2: Empty", "column call: 1, where credit takes nothing"),
+    ("replay --opening 9", OPS, "0,settle,1,0,n,5,7,,,", "ops row 2: Empty", "column x4: 7, where settle takes nothing"),
+    ("replay --opening 9", OPS, "0,settle,1,0,s,5,7,,,1", "ops row 2: Empty", "column x7: 1, where settle takes nothing"),
+    ("replay --opening 9", OPS, "0,return,1,,,,,,,5", "ops row 2: Empty", "column x7: 5, where return takes nothing"),
+    ("replay --opening 9", OPS, "16,return,1,,,,,,,", "ops row 2: Number", "column seat: 16 is above 15"),
+    ("audit", BOOK, "7,0,opening,,5,,,,,,,,,,", "book row 2: Empty", "column seat: 0, where opening takes nothing"),
+    ("audit", BOOK, "7,,opening,,5,,,,,,,over,,,", "book row 2: Empty", "column reply: over, where opening takes nothing"),
+    (
+        "audit",
+        BOOK + OPENED,
+        "7,0,credit,,1,,,,,,,credited,1,,6",
+        "book row 3: Empty",
+        "column y1: 1, where credited takes nothing",
+    ),
+    (
+        "audit",
+        BOOK + OPENED,
+        "7,0,return,1,,,,,,,,returned,0,more,5",
+        "book row 3: Empty",
+        "column y2: more, where returned takes nothing",
+    ),
+    (
+        "audit",
+        OLD_BOOK,
+        "7,0,credit,,1,n,,,,credited,,,x",
+        "book row 2: Number",
+        "column y3: x is no decimal of 1 to 20 digits",
+    ),
+]
+
 # Tariffs, and what `quote` says of them.
 TARIFFS = [
     (
@@ -150,5 +188,8 @@ def rows():
         yield explained("run", ACCOUNT + setup + SCRIPT + script, slip)
     for text, slip in EMPTY:
         yield explained("run", text, slip)
+    for words, table, row, fault, more in ENTRIES:
+        line = (table + row).count("\n") + 1
+        yield explained(words, table + row, f"{fault}\nline {line} of the input: {row}\n{more}\n")
     for text, line, more in TARIFFS:
         yield explained("quote --called 4930 --at 0", text, line + more)

@@ -1,17 +1,11 @@
 //! The forms of the tables: their headers, their words, and what their columns take.
 
 use crate::Slip;
-use crate::empties::is_money;
 use crate::found_rows::{field_at, is_word_at};
-use crate::wants::{Column, Wants, first_refused};
+use crate::wants::Wants;
 use csv::ByteRecord;
 use price_core::{DAY, HORIZON, MAX_MOMENT, MAX_MONEY, MAX_RATE};
 use table_core::is_word;
-
-/// Where the columns of an operation begin in a table of operations, and in one of books.
-const OP_OF_OPS: usize = 1;
-
-const OP_OF_BOOK: usize = 2;
 
 /// The words of the column `what` of a script.
 pub(crate) const SCRIPT_WORDS: &[&str] = &[
@@ -38,7 +32,7 @@ const ACCOUNT: Wants = Wants::Number(0, u32::MAX as u64);
 const MONEY: Wants = Wants::Number(0, MAX_MONEY);
 
 /// What a column takes that has a fee or a rate.
-pub(crate) const RATE: Wants = Wants::Number(0, MAX_RATE);
+const RATE: Wants = Wants::Number(0, MAX_RATE);
 
 /// What a column takes that has digits of a subscriber.
 const PARTY: Wants = Wants::Digits(1, 15);
@@ -55,90 +49,148 @@ const UNTIL_MOMENT: Wants = Wants::OptionalMoment(MAX_MOMENT);
 /// What a column takes that has the end of an account as a decimal, or nothing.
 const UNTIL: Wants = Wants::Optional(0, HORIZON);
 
-/// The column of a row of a script whose field the reader refuses.
-pub(crate) fn refused_in_script(row: &ByteRecord) -> Option<Column> {
-    first_refused(row, 0, row.len(), columns_of_script(field_at(row, 2)))
+/// A part of a row, of which some columns take something and the others nothing.
+#[derive(Clone, Copy)]
+pub(crate) struct Part {
+    /// Its first column.
+    pub start: usize,
+    /// The column behind its last one.
+    pub end: usize,
+    /// The column of the word that says which take something.
+    pub word: usize,
+    /// These, counted from the first one on, in the order in which the reader judges them.
+    pub columns: &'static [(usize, Wants)],
 }
 
-/// The columns of a row of a script with this word, as the reader judges them.
-fn columns_of_script(what: &[u8]) -> &'static [(usize, Wants)] {
-    if is_word(what, "start") {
-        &[(0, MOMENT), (1, CALL), (3, PARTY), (4, PARTY)]
-    } else if is_word(what, "disconnect") {
-        &[(0, MOMENT), (1, CALL), (3, Wants::Number(1, 2))]
-    } else if is_word(what, "recharge") {
-        &[(0, MOMENT), (3, ACCOUNT), (4, MONEY), (5, UNTIL_MOMENT)]
-    } else {
-        &[(0, MOMENT), (1, CALL)]
+impl Part {
+    /// A part from a column to before another.
+    fn new(start: usize, end: usize, word: usize, columns: &'static [(usize, Wants)]) -> Part {
+        Part {
+            start,
+            end,
+            word,
+            columns,
+        }
     }
 }
 
-/// The column of a row of a setup whose field the reader refuses.
-pub(crate) fn refused_in_setup(row: &ByteRecord) -> Option<Column> {
-    let columns: &[(usize, Wants)] = if is_word_at(row, 0, "account") {
-        &[(1, ACCOUNT), (2, MONEY), (3, UNTIL_MOMENT)]
-    } else {
-        &[(1, PARTY), (2, ACCOUNT)]
-    };
-    first_refused(row, 0, row.len(), columns)
-}
-
-/// The column of a row of reports whose field the reader refuses.
-pub(crate) fn refused_in_reports(row: &ByteRecord) -> Option<Column> {
-    first_refused(row, 0, row.len(), &[(0, TIME), (1, TIME)])
-}
-
-/// The column of a row of operations whose field the reader refuses.
-pub(crate) fn refused_in_ops(row: &ByteRecord) -> Option<Column> {
+/// The parts of a row of the table of a slip.
+pub(crate) fn parts_of(slip: Slip, row: &ByteRecord) -> [Part; 3] {
     let end = row.len();
-    first_refused(row, 0, end, &[(0, SEAT)]).or(refused_operation(row, OP_OF_OPS, end))
-}
-
-/// The column of a row of a book whose field the reader refuses.
-pub(crate) fn refused_in_book(row: &ByteRecord) -> Option<Column> {
-    let reply = row.len().saturating_sub(4);
-    if is_word_at(row, OP_OF_BOOK, "opening") {
-        return first_refused(row, 0, reply, &[(0, ACCOUNT), (4, MONEY), (5, UNTIL)]);
+    match slip {
+        Slip::Script(_) => alone(end, 2, columns_of_script(field_at(row, 2))),
+        Slip::Setup(_) => alone(end, 0, columns_of_setup(field_at(row, 0))),
+        Slip::Reports(_) => alone(end, 0, &[(0, TIME), (1, TIME)]),
+        Slip::Tariff(_) | Slip::RunTariff(_) => alone(end, 0, &[(2, RATE), (3, RATE)]),
+        Slip::Ops(_) => parts_of_operation(row),
+        Slip::Book(_) => parts_of_entry(row),
     }
-    first_refused(row, 0, reply, &[(0, ACCOUNT), (1, SEAT)])
-        .or(refused_operation(row, OP_OF_BOOK, reply))
-        .or(refused_reply(row, reply))
 }
 
-/// The column of an operation whose field the reader refuses, its columns from one place on to
-/// before another.
-fn refused_operation(row: &ByteRecord, op: usize, end: usize) -> Option<Column> {
-    let has_before = is_word_at(row, op.saturating_add(3), "s");
-    first_refused(
-        row,
-        op,
-        end,
-        columns_of_operation(field_at(row, op), has_before),
-    )
+/// A row that is one part.
+fn alone(end: usize, word: usize, columns: &'static [(usize, Wants)]) -> [Part; 3] {
+    let none = Part::new(end, end, word, &[]);
+    [Part::new(0, end, word, columns), none, none]
 }
 
-/// The columns of an operation with this word, counted from it on, as the reader judges them.
-fn columns_of_operation(word: &[u8], has_before: bool) -> &'static [(usize, Wants)] {
-    if is_word(word, "credit") {
-        &[(2, MONEY), (3, UNTIL)]
-    } else if is_word(word, "reserve") {
-        RESERVE
-    } else if !is_word(word, "settle") {
-        &[(1, CALL)]
-    } else if has_before {
-        &[
-            (4, TIME),
-            (5, Wants::Optional(1, DAY as u64)),
-            (1, CALL),
-            (2, CALL),
+/// The parts of a row of operations.
+fn parts_of_operation(row: &ByteRecord) -> [Part; 3] {
+    let end = row.len();
+    [
+        Part::new(0, 1, 1, &[(0, SEAT)]),
+        Part::new(1, end, 1, columns_of_operation(row, 1, end)),
+        Part::new(end, end, 1, &[]),
+    ]
+}
+
+/// The parts of a row of a book: an opening has no seat, and no reply.
+fn parts_of_entry(row: &ByteRecord) -> [Part; 3] {
+    let end = row.len();
+    let reply = end.saturating_sub(4);
+    let operation = Part::new(2, reply, 2, columns_of_operation(row, 2, reply));
+    if is_word_at(row, 2, "opening") {
+        [
+            Part::new(0, 2, 2, &[(0, ACCOUNT)]),
+            operation,
+            Part::new(reply, end, 2, &[]),
         ]
     } else {
-        &[(4, TIME), (1, CALL), (2, CALL)]
+        [
+            Part::new(0, 2, 2, &[(0, ACCOUNT), (1, SEAT)]),
+            operation,
+            Part::new(reply, end, reply, columns_of_reply(field_at(row, reply))),
+        ]
     }
 }
 
-/// The columns of a reserve, counted from its word on, as the reader judges them.
+/// The columns of a row of a script with this word.
+fn columns_of_script(what: &[u8]) -> &'static [(usize, Wants)] {
+    if is_word(what, "start") {
+        &[
+            (0, MOMENT),
+            (1, CALL),
+            (2, Wants::Word),
+            (3, PARTY),
+            (4, PARTY),
+        ]
+    } else if is_word(what, "disconnect") {
+        &[
+            (0, MOMENT),
+            (1, CALL),
+            (2, Wants::Word),
+            (3, Wants::Number(1, 2)),
+        ]
+    } else if is_word(what, "recharge") {
+        &[
+            (0, MOMENT),
+            (2, Wants::Word),
+            (3, ACCOUNT),
+            (4, MONEY),
+            (5, UNTIL_MOMENT),
+        ]
+    } else {
+        &[(0, MOMENT), (1, CALL), (2, Wants::Word)]
+    }
+}
+
+/// The columns of a row of a setup with this word.
+fn columns_of_setup(kind: &[u8]) -> &'static [(usize, Wants)] {
+    if is_word(kind, "account") {
+        &[
+            (0, Wants::Word),
+            (1, ACCOUNT),
+            (2, MONEY),
+            (3, UNTIL_MOMENT),
+        ]
+    } else {
+        &[(0, Wants::Word), (1, PARTY), (2, ACCOUNT)]
+    }
+}
+
+/// The columns of an operation, or of an opening, counted from its word on. Older tables have none
+/// for a last moment.
+fn columns_of_operation(row: &ByteRecord, op: usize, end: usize) -> &'static [(usize, Wants)] {
+    let word = field_at(row, op);
+    if is_word(word, "reserve") {
+        RESERVE
+    } else if is_word(word, "return") {
+        &[(0, Wants::Word), (1, CALL)]
+    } else if !is_word(word, "settle") {
+        if end.saturating_sub(op) > 8 {
+            &[(0, Wants::Word), (2, MONEY), (3, UNTIL)]
+        } else {
+            &[(0, Wants::Word), (2, MONEY)]
+        }
+    } else if is_word_at(row, op.saturating_add(3), "s") {
+        SETTLE_SWITCHED
+    } else {
+        SETTLE
+    }
+}
+
+/// The columns of a reserve.
 const RESERVE: &[(usize, Wants)] = &[
+    (0, Wants::Word),
     (1, CALL),
     (2, RATE),
     (3, RATE),
@@ -151,30 +203,34 @@ const RESERVE: &[(usize, Wants)] = &[
     (8, Wants::Number(0, HORIZON)),
 ];
 
-/// The column of a reply whose field the reader refuses, its columns from a place on.
-fn refused_reply(row: &ByteRecord, reply: usize) -> Option<Column> {
-    first_refused(
-        row,
-        reply,
-        row.len(),
-        columns_of_reply(field_at(row, reply)),
-    )
-}
+/// The columns of a settle without a switch.
+const SETTLE: &[(usize, Wants)] = &[
+    (0, Wants::Word),
+    (3, Wants::Word),
+    (4, TIME),
+    (1, CALL),
+    (2, CALL),
+];
 
-/// The columns of a reply with this word, counted from it on, as the reader judges them.
+/// The columns of a settle with a switch.
+const SETTLE_SWITCHED: &[(usize, Wants)] = &[
+    (0, Wants::Word),
+    (3, Wants::Word),
+    (4, TIME),
+    (5, Wants::Optional(1, DAY as u64)),
+    (1, CALL),
+    (2, CALL),
+];
+
+/// The columns of a reply with this word, counted from it on.
 fn columns_of_reply(word: &[u8]) -> &'static [(usize, Wants)] {
     if is_word(word, "granted") {
-        &[(1, TIME), (3, MONEY)]
-    } else if is_money(word) {
-        &[(3, MONEY)]
+        &[(0, Wants::Word), (1, TIME), (2, Wants::Word), (3, MONEY)]
+    } else if is_word(word, "credited") || is_word(word, "over") || is_word(word, "denied") {
+        &[(0, Wants::Word), (3, MONEY)]
     } else {
-        &[(1, MONEY), (3, MONEY)]
+        &[(0, Wants::Word), (1, MONEY), (3, MONEY)]
     }
-}
-
-/// A column, and what it takes.
-pub(crate) fn column(place: usize, wants: Wants) -> Column {
-    Column { place, wants }
 }
 
 /// The headers of the table of a slip.

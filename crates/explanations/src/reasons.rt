@@ -3,10 +3,7 @@
 use crate::Slip;
 use crate::earlier::{push_order, push_repeated, push_unknown};
 use crate::empties::push_not_empty;
-use crate::forms::{
-    RATE, TIME, column, headers_of, most_rows_of, refused_in_book, refused_in_ops,
-    refused_in_reports, refused_in_script, refused_in_setup,
-};
+use crate::forms::{TIME, headers_of, most_rows_of, parts_of};
 use crate::found_rows::{field_at, rows_at, shown_at};
 use crate::midnight::{push_no_midnight, push_repeated_band};
 use crate::unknown_words::push_unknown_word;
@@ -77,7 +74,7 @@ fn push_row_reason(
         RowKind::Header => push_header(text, table.slip, Some(row)),
         RowKind::TooManyRows => push_most_rows(text, table.slip),
         RowKind::What => push_unknown_word(text, table.slip, names, row),
-        RowKind::Number => match refused_in(table.slip, row) {
+        RowKind::Number => match first_refused(row, parts_of(table.slip, row)) {
             Some(column) => push_refusal(text, names, row, column),
             None => Ok(()),
         },
@@ -104,37 +101,25 @@ fn push_tariff_reason(
         TariffKind::Repeated => push_repeated_band(text, alloc, table, row),
         TariffKind::NoMidnightBand => push_no_midnight(text, alloc, table, row),
         TariffKind::OutOfMemory | TariffKind::Device => Ok(()),
-        kind => match refused_in_tariff(kind, row) {
+        kind => match refused_in_tariff(kind, table.slip, row) {
             Some(column) => push_refusal(text, names, row, column),
             None => Ok(()),
         },
     }
 }
 
-/// The column whose field is refused of a row that has the fault `Number`.
-fn refused_in(slip: Slip, row: &ByteRecord) -> Option<Column> {
-    match slip {
-        Slip::Reports(_) => refused_in_reports(row),
-        Slip::Ops(_) => refused_in_ops(row),
-        Slip::Book(_) => refused_in_book(row),
-        Slip::Setup(_) => refused_in_setup(row),
-        Slip::Script(_) => refused_in_script(row),
-        Slip::Tariff(_) | Slip::RunTariff(_) => None,
-    }
-}
-
 /// The column whose field is refused of a row of a tariff.
-fn refused_in_tariff(kind: TariffKind, row: &ByteRecord) -> Option<Column> {
-    let column = match kind {
-        TariffKind::Digits => column(0, Wants::Digits(0, 15)),
-        TariffKind::From => column(1, Wants::TimeOfDay),
-        TariffKind::Free => column(4, TIME),
-        TariffKind::First => column(5, TIME),
-        TariffKind::Step => column(6, Wants::Number(1, u64::from(DAY))),
-        TariffKind::Days => column(7, Wants::Days),
-        _ => return first_refused(row, 0, row.len(), &[(2, RATE), (3, RATE)]),
+fn refused_in_tariff(kind: TariffKind, slip: Slip, row: &ByteRecord) -> Option<Column> {
+    let (place, wants) = match kind {
+        TariffKind::Digits => (0, Wants::Digits(0, 15)),
+        TariffKind::From => (1, Wants::TimeOfDay),
+        TariffKind::Free => (4, TIME),
+        TariffKind::First => (5, TIME),
+        TariffKind::Step => (6, Wants::Number(1, u64::from(DAY))),
+        TariffKind::Days => (7, Wants::Days),
+        _ => return first_refused(row, parts_of(slip, row)),
     };
-    Some(column)
+    Some(Column { place, wants })
 }
 
 /// Adds how many fields a row has, and how many its header.

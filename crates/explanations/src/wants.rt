@@ -1,5 +1,6 @@
 //! What a column of a row takes.
 
+use crate::forms::Part;
 use crate::found_rows::{field_at, push_column};
 use csv::ByteRecord;
 use moment_texts::moment;
@@ -10,6 +11,8 @@ use tariff_core::time_of_day;
 /// What a column of a row takes.
 #[derive(Clone, Copy)]
 pub(crate) enum Wants {
+    /// A word that says what the row is, which isn't judged here.
+    Word,
     /// A decimal from the first to the second of these.
     Number(u64, u64),
     /// The same, or nothing.
@@ -35,17 +38,19 @@ pub(crate) struct Column {
     pub wants: Wants,
 }
 
-/// The first of these columns whose field isn't what it takes, among the first `end` of the row;
-/// their places are counted from `start` on.
-pub(crate) fn first_refused(
-    row: &ByteRecord,
-    start: usize,
-    end: usize,
-    columns: &[(usize, Wants)],
-) -> Option<Column> {
-    for &(column, wants) in columns {
-        let place = start.saturating_add(column);
-        if place < end && !takes(wants, field_at(row, place)) {
+/// The first column of a row whose field isn't what it takes, in the order of its parts.
+pub(crate) fn first_refused(row: &ByteRecord, parts: [Part; 3]) -> Option<Column> {
+    let [first, second, third] = parts;
+    refused_in(row, first)
+        .or(refused_in(row, second))
+        .or(refused_in(row, third))
+}
+
+/// The first column of a part of a row whose field isn't what it takes.
+fn refused_in(row: &ByteRecord, part: Part) -> Option<Column> {
+    for &(column, wants) in part.columns {
+        let place = part.start.saturating_add(column);
+        if place < part.end && !takes(wants, field_at(row, place)) {
             return Some(Column { place, wants });
         }
     }
@@ -55,6 +60,7 @@ pub(crate) fn first_refused(
 /// Whether a field is what a column takes.
 fn takes(wants: Wants, field: &[u8]) -> bool {
     match wants {
+        Wants::Word => true,
         Wants::Number(least, most) => is_within(field, least, most),
         Wants::Optional(least, most) => field.is_empty() || is_within(field, least, most),
         Wants::Moment(most) => moment(field, most).is_some(),
@@ -97,6 +103,7 @@ pub(crate) fn push_refusal(
 /// Adds what is wanted in place of a field.
 fn push_wanted(text: &mut String, field: &[u8], wants: Wants) -> Result<(), AllocError> {
     match wants {
+        Wants::Word => Ok(()),
         Wants::Number(least, most) | Wants::Optional(least, most) => {
             push_range(text, field, least, most)
         }
