@@ -16,7 +16,6 @@ import sys
 import tempfile
 import threading
 from concurrent.futures import FIRST_COMPLETED, ThreadPoolExecutor, wait
-from contextlib import contextmanager
 
 ROOT = os.path.dirname(os.path.dirname(os.path.abspath(__file__)))
 # More jobs on one crate than these take more time of the processors and end hardly sooner.
@@ -161,15 +160,17 @@ def prove(libraries, proved, most):
     return len(proved) == len(libraries)
 
 
-@contextmanager
-def alone_in(libraries):
-    """While no other command works in the libraries."""
+def prove_all(libraries):
+    """Proves the libraries while no other command works in them. How many jobs each got at most; 0 where not all are proved."""
     # The first call sets what ends the toolchain's processes, which only the main thread may.
     rtlib.guarded()
     held = rtlib.lock(libraries)
-    yield
+    proved = proved_of(libraries)
+    most = jobs_of_each(len(libraries) - len(proved))
+    is_whole = prove(libraries, proved, most)
     for it in held:
         os.close(it)
+    return most if is_whole else 0
 
 
 def build_program(crate, jobs):
@@ -195,12 +196,8 @@ def build_program(crate, jobs):
 def main():
     name = sys.argv[1] if sys.argv[1:] else "prepaid"
     crate = rtlib.Crate(f"{ROOT}/crates/{name}", ROOT, {})
-    libraries = crate.below()
-    with alone_in(libraries):
-        proved = proved_of(libraries)
-        jobs = jobs_of_each(len(libraries) - len(proved))
-        is_whole = prove(libraries, proved, jobs)
-    if not is_whole:
+    jobs = prove_all(crate.below())
+    if not jobs:
         return 1
     return build_program(crate, jobs) if crate.is_program else 0
 

@@ -2,8 +2,9 @@
 """Tries prove.py on a repository of three libraries: it proves those that changed and those above them, and no other.
 
 A library of which a body, or that of a library below, has changed isn't taken for proved; nor is one without a stamp, or
-one that was proved before a library below it. One that the prover refuses has none, and the status is 1. What the
-toolchain says is tried of two libraries; else a program is in its place, which refuses the false clause alone.
+one that was proved before a library below it. One that the prover refuses has none, and the status is 1. What tries the
+edits of the gate proves the same. What the toolchain says is tried of two libraries; else a program is in its place, which
+refuses the false clause alone.
 """
 import os
 import re
@@ -38,6 +39,13 @@ print("logic=proved functions=1")
 """
 # Calls prove.py with the toolchain that the last word names.
 CALL = "import sys, prove; prove.rtlib.RATTLE = sys.argv.pop() or prove.rtlib.RATTLE; sys.exit(prove.main())"
+# The same of what tries the edits of the gate, up to where it tries them.
+GATE_CALL = """
+import sys, gate_edits
+gate_edits.rtlib.RATTLE = sys.argv.pop() or gate_edits.rtlib.RATTLE
+top = gate_edits.rtlib.Crate(f"{gate_edits.prove.ROOT}/crates/top", gate_edits.prove.ROOT, {})
+sys.exit(not gate_edits.are_proved(top.below()))
+"""
 
 
 def write(path, text):
@@ -57,7 +65,8 @@ class Sample:
         for name in (*libraries, "top"):
             self.lay(name)
         os.mkdir(f"{root}/tests")
-        shutil.copy(f"{TESTS}/prove.py", f"{root}/tests")
+        for name in ("prove.py", "gate_edits.py", "edits.py", "functions.py"):
+            shutil.copy(f"{TESTS}/{name}", f"{root}/tests")
 
     def source(self, name):
         return f"{self.root}/crates/{name}/src/lib.rt"
@@ -68,10 +77,10 @@ class Sample:
     def lay(self, name, more=1, change=("", "")):
         write(self.source(name), LIBRARY.format(name=f"of_{name}", more=more).replace(*change))
 
-    def proved(self):
+    def proved(self, call=CALL):
         """Runs prove.py, and returns the libraries that it has proved, in order of their names, and its status."""
         how = {"cwd": f"{self.root}/tests", "stdout": subprocess.PIPE, "stderr": subprocess.STDOUT, "text": True}
-        ran = subprocess.run([sys.executable, "-c", CALL, "top", self.toolchain], **how)
+        ran = subprocess.run([sys.executable, "-c", call, "top", self.toolchain], **how)
         return sorted(re.findall(r"^(\w+): logic=proved ", ran.stdout, re.M)), ran.returncode
 
 
@@ -99,11 +108,19 @@ PROVED_STEPS = [
 ]
 
 
-def tried(sample, steps):
+# The same of what tries the edits of the gate: where no library has a stamp, all are as rt ci left them.
+GATE_STEPS = [
+    ("a body of low has changed", lambda it: it.lay("low"), ["low", "middle"], 0),
+    ("side has a false clause", lambda it: it.lay("side", more=2), [], 1),
+    ("side is as it was", lambda it: it.lay("side"), ["side"], 0),
+]
+
+
+def tried(sample, steps, call=CALL):
     """Does all this to a sample."""
     for what, change, libraries, status in steps:
         change(sample)
-        if (found := sample.proved()) != (libraries, status):
+        if (found := sample.proved(call)) != (libraries, status):
             sys.exit(f"prove: FAILED: where {what}: {found}, and not {(libraries, status)}")
         if os.path.exists(sample.stamp("side")) != (status == 0):
             sys.exit(f"prove: FAILED: where {what}: the stamp of side")
@@ -113,9 +130,12 @@ def main():
     with tempfile.TemporaryDirectory(prefix="prove-test-") as root:
         write(f"{root}/played", PLAYED)
         os.chmod(f"{root}/played", 0o755)
-        tried(Sample(f"{root}/large", {"low": "", "middle": "low", "side": ""}, f"{root}/played"), STEPS)
+        large = Sample(f"{root}/large", {"low": "", "middle": "low", "side": ""}, f"{root}/played")
+        tried(large, STEPS)
+        tried(large, GATE_STEPS, GATE_CALL)
         tried(Sample(f"{root}/small", {"low": "", "side": "low"}), PROVED_STEPS)
-    print(f"prove: what is proved where {len(STEPS)} things have happened, and {len(PROVED_STEPS)} by the toolchain: ok")
+    count = len(STEPS) + len(GATE_STEPS)
+    print(f"prove: what is proved where {count} things have happened, and {len(PROVED_STEPS)} by the toolchain: ok")
 
 
 if __name__ == "__main__":
