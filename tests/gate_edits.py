@@ -70,7 +70,7 @@ def main():
     if not are_proved(libraries):
         return 1
     # Those that take longest first.
-    crates.sort(key=prove.lines_of, reverse=True)
+    crates.sort(key=prove.size_of, reverse=True)
     with ThreadPoolExecutor(lanes()) as pool:
         return edits.ended(list(pool.map(lambda it: try_crate(it, words.root), crates)))
 

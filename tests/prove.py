@@ -10,7 +10,6 @@ library below have changed. `rt` finds each where it keeps its own. JOBS says ho
 """
 import copy
 import os
-import re
 import shutil
 import sys
 import tempfile
@@ -20,11 +19,6 @@ from concurrent.futures import FIRST_COMPLETED, ThreadPoolExecutor, wait
 ROOT = os.path.dirname(os.path.dirname(os.path.abspath(__file__)))
 # More jobs on one crate than these take more time of the processors and end hardly sooner.
 MOST_JOBS = 4
-# As many lines of code take as long as what is done of a library before its first function, as a type of a function that
-# is generic over what a trait promises, and as a `?`. So it was measured of the libraries below prepaid.
-FIRST_LINES = 230
-BOUND_LINES = 50
-RETURN_LINES = 33
 sys.path.insert(0, os.path.dirname(os.path.realpath(shutil.which("rt") or sys.exit("rt isn't there"))))
 import rtlib
 
@@ -51,26 +45,17 @@ def stamp(library):
 rtlib.Crate.stamp = stamp
 
 
-def lines_of(library):
-    """How long a library takes, in lines of code. Definitions and proofs say less of that."""
-    count = FIRST_LINES
-    for file in rtlib.files_of(library.folder):
-        if file.endswith(".rt"):
-            with open(file, encoding="utf-8") as it:
-                text = it.read()
-            bounds = sum(len(re.findall(r"\b[A-Z]\w*: ", it)) for it in re.findall(r"fn \w+<([^>(]*)", text))
-            returns = len(re.findall(r"\?[;)]", text))
-            count += text.count("\n") + BOUND_LINES * bounds + RETURN_LINES * returns
-    return count
+def size_of(library):
+    """How much there is to prove of a library, more or less: the bytes of its files."""
+    return sum(os.path.getsize(it) for it in rtlib.files_of(library.folder))
 
 
-def work_behind(libraries):
-    """How long each library and the longest chain of libraries above it take."""
+def size_behind(libraries):
+    """How much there is to prove of each library and of the longest chain of libraries above it."""
     behind = {}
     # Each library is behind those that it uses.
     for it in reversed(libraries):
-        above = [behind[other] for other in libraries if it in other.deps]
-        behind[it] = lines_of(it) + max(above, default=0)
+        behind[it] = size_of(it) + max((behind[other] for other in libraries if it in other.deps), default=0)
     return behind
 
 
@@ -139,7 +124,7 @@ def jobs_of_each(count):
 def prove(libraries, proved, most):
     """Proves the others of the libraries, each once those that it uses are proved. Whether all are."""
     proved, left, running = {*proved}, [it for it in libraries if it not in proved], {}
-    behind = work_behind(libraries)
+    behind = size_behind(libraries)
     with ThreadPoolExecutor(processors()) as pool:
         while left or running:
             ready = sorted((it for it in left if proved.issuperset(it.below())), key=behind.get, reverse=True)
