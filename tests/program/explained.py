@@ -64,6 +64,21 @@ RUNS = [
         "20,1,answer,5,\n",
         "script row 3: Empty\nline 9 of the input: 20,1,answer,5,\ncolumn x: 5, where answer takes nothing\n",
     ),
+    (
+        "",
+        "20,1,recharge,7,1\n",
+        "script row 3: Empty\nline 9 of the input: 20,1,recharge,7,1\ncolumn call: 1, where recharge takes nothing\n",
+    ),
+    (
+        "",
+        "20,1,disconnect,1,5\n",
+        "script row 3: Empty\nline 9 of the input: 20,1,disconnect,1,5\ncolumn y: 5, where disconnect takes nothing\n",
+    ),
+    (
+        "",
+        "20,1,disconnect,3,\n",
+        "script row 3: Number\nline 9 of the input: 20,1,disconnect,3,\ncolumn x: 3 is above 2\n",
+    ),
     ("", "5,1,answer,,\n", "script row 3: Order\nline 9 of the input: 5,1,answer,,\nmoment 5 lies below 10 in row 2\n"),
     (
         "",
@@ -106,19 +121,22 @@ EMPTY = [
     (ACCOUNT + "%%\n", "script row 1: Header\nwanted: moment,call,what,x,y,z or moment,call,what,x,y\nfound: no row\n"),
 ]
 
-# Headers of operations and of books, of which the last has no column for a last moment.
+# Headers of operations and of books; the last has no column for a last moment.
 OPS = "seat,op,call,x1,x2,x3,x4,x5,x6,x7\n"
 BOOK = "account,seat,op,call,x1,x2,x3,x4,x5,x6,x7,reply,y1,y2,y3\n"
 OLD_BOOK = "account,seat,op,call,x1,x2,x3,x4,x5,reply,y1,y2,y3\n"
 OPENED = "7,,opening,,5,,,,,,,,,,\n"
+# A tariff, and a setup whose accounts may have a last moment.
+DATED = "prefix,from,fee,rate\n49,00:00,50,1000\n%%\nkind,key,value,until\naccount,7,5000,\n"
 
-# Words, a table up to a row, that row, its fault, and what is said of it.
+# Words, an input up to a row, that row with what is behind it, its fault, and what is said of it.
 ENTRIES = [
     ("replay --opening 9", OPS, "0,credit,1,5,,,,,,", "ops row 2: Empty", "column call: 1, where credit takes nothing"),
     ("replay --opening 9", OPS, "0,settle,1,0,n,5,7,,,", "ops row 2: Empty", "column x4: 7, where settle takes nothing"),
     ("replay --opening 9", OPS, "0,settle,1,0,s,5,7,,,1", "ops row 2: Empty", "column x7: 1, where settle takes nothing"),
     ("replay --opening 9", OPS, "0,return,1,,,,,,,5", "ops row 2: Empty", "column x7: 5, where return takes nothing"),
     ("replay --opening 9", OPS, "16,return,1,,,,,,,", "ops row 2: Number", "column seat: 16 is above 15"),
+    ("replay --opening 9", OPS, "0,reserve,1,9,9,,864001,,0,0", "ops row 2: Number", "column x4: 864001 is above 864000"),
     ("audit", BOOK, "7,0,opening,,5,,,,,,,,,,", "book row 2: Empty", "column seat: 0, where opening takes nothing"),
     ("audit", BOOK, "7,,opening,,5,,,,,,,over,,,", "book row 2: Empty", "column reply: over, where opening takes nothing"),
     (
@@ -134,6 +152,27 @@ ENTRIES = [
         "7,0,return,1,,,,,,,,returned,0,more,5",
         "book row 3: Empty",
         "column y2: more, where returned takes nothing",
+    ),
+    (
+        "audit",
+        BOOK + OPENED,
+        "7,0,return,1,,,,,,,,returned,x,,5",
+        "book row 3: Number",
+        "column y1: x is no decimal of 1 to 20 digits",
+    ),
+    (
+        "run",
+        DATED,
+        "subscriber,491700001,7,9\n%%\nmoment,call,what,x,y,z\n",
+        "setup row 3: Empty",
+        "column until: 9, where subscriber takes nothing",
+    ),
+    (
+        "run",
+        DATED + "subscriber,491700001,7,\n%%\nmoment,call,what,x,y,z\n",
+        "10,1,start,491700001,4930,1\n",
+        "script row 2: Empty",
+        "column z: 1, where start takes nothing",
     ),
     (
         "audit",
@@ -189,7 +228,7 @@ def rows():
     for text, slip in EMPTY:
         yield explained("run", text, slip)
     for words, table, row, fault, more in ENTRIES:
-        line = (table + row).count("\n") + 1
-        yield explained(words, table + row, f"{fault}\nline {line} of the input: {row}\n{more}\n")
+        line, shown = table.count("\n") + 1, row.splitlines()[0]
+        yield explained(words, table + row, f"{fault}\nline {line} of the input: {shown}\n{more}\n")
     for text, line, more in TARIFFS:
         yield explained("quote --called 4930 --at 0", text, line + more)
