@@ -15,7 +15,7 @@ rustc --edition 2021 -O -o "$work/plain" bench/plain_contend.rs
 
 # The proved program is built in a repository of its own, so that the gate needn't prove it. Its
 # source has another ending, since the gate refuses a .rt file that is in no crate.
-below="rising_map price_core account_core shared_account turn_board turn_account locked_account"
+below="rising_map price_core account_core shared_account turn_account locked_account"
 repository="$work/repository"
 program="$repository/crates/contend"
 mkdir -p "$program/src" "$program/proofs/seat_all"

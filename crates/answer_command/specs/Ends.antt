@@ -8,8 +8,8 @@ use Rattle.live_answers.specs.declared.stage.LiveFault.{LiveFault}
 use Rattle.live_answers.specs.declared.stage.LiveFault.TheVariants as fault
 use Rattle.moment_texts.specs.declared.clock.Clock.TheVariants as clock
 use Rattle.rating.specs.Fronts.{AppendsFront}
-use Rattle.run_options.specs.declared.live.LiveOutput.{LiveOutput}
-use Rattle.run_options.specs.declared.live.LiveOutput.TheVariants as output
+use Rattle.run_values.specs.declared.live.LiveOutput.{LiveOutput}
+use Rattle.run_values.specs.declared.live.LiveOutput.TheVariants as output
 use Rattle.tariff_core.specs.Bands.{have_steps}
 use Rattle.run_values.specs.declared.run_fault.RunFault.TheVariants as run
 use Rattle.answer_command.specs.declared.error.ServeError.{ServeError}

@@ -5,7 +5,7 @@ use Rattle.live_answers.specs.Runs.{MayEndLive}
 use Rattle.live_answers.specs.declared.checking.ReplayFault.{ReplayFault}
 use Rattle.live_answers.specs.declared.checking.ReplayFault.TheVariants as replay
 use Rattle.live_log.specs.declared.fault.LogFault.TheVariants as log
-use Rattle.run_options.specs.declared.live.LiveAsk.{LiveAsk}
+use Rattle.run_values.specs.declared.live.LiveAsk.{LiveAsk}
 use Rattle.run_texts.specs.FirstSections.{FirstSection, first_section}
 use Rattle.run_texts.specs.InputFaults.{RefusesInput}
 use Rattle.run_texts.specs.Inputs.{tariff_in, as_input_fault}

@@ -3,7 +3,7 @@ use Rattle.std.specs.Prelude.{◌≡◌, ℕ, List, [], Option, Some, None, Ok, 
 use Rattle.live_answers.specs.Checks.{IsChecked}
 use Rattle.live_answers.specs.Live.{heard_in}
 use Rattle.live_answers.specs.declared.replay.Replay.{Replay}
-use Rattle.run_options.specs.Logs.{LogWish}
+use Rattle.run_values.specs.Logs.{LogWish}
 
 -- how many messages are heard in silence: all of the log, or those before the first that is printed again
 abbrev pub quiet_of : Option ℕ → ℕ → ℕ

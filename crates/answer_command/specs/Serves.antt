@@ -8,9 +8,9 @@ use Rattle.live_answers.specs.declared.replay.Replay.{Replay}
 use Rattle.live_answers.specs.declared.stage.LiveFault.{LiveFault}
 use Rattle.live_answers.specs.declared.stage.LiveFault.TheVariants as fault
 use Rattle.rating.specs.Fronts.{AppendsFront}
-use Rattle.run_options.specs.Logs.{LogWish}
-use Rattle.run_options.specs.declared.live.LiveAsk.{LiveAsk}
-use Rattle.run_options.specs.declared.live.LiveOutput.{LiveOutput}
+use Rattle.run_values.specs.Logs.{LogWish}
+use Rattle.run_values.specs.declared.live.LiveAsk.{LiveAsk}
+use Rattle.run_values.specs.declared.live.LiveOutput.{LiveOutput}
 use Rattle.run_texts.specs.Views.{with_digits}
 use Rattle.run_texts.specs.declared.input_fault.InputFault.TheVariants as input
 use Rattle.message_rows.specs.Tables.{trace_header}

@@ -2,15 +2,14 @@
 
 ghost use Rattle.std.specs.Prelude.{◌≡◌, IfErr, IfOk, IfSome};
 ghost use Rattle.run_values.specs.Setups.{ListingIsWithin};
-ghost use Rattle.run_options.specs.Options.{live_ask_of};
+ghost use Rattle.run_values.specs.Options.{live_ask_of};
 ghost use Rattle.answer_command.specs.Inputs.{is_message_header};
 ghost use Rattle.answer_command.specs.Heads.{IsOfHead, ReadsHead, ReadsSetup, SaysHead, TakesHeader};
 
 use crate::ServeError;
 use account_core::MAX_LIMIT;
-use run_options::LiveOptions;
 use run_texts::{InputFault, read_directory, read_line, read_section, read_tariff};
-use run_values::{Directory, RunSetup};
+use run_values::{Directory, LiveOptions, RunSetup};
 use std::alloc::Global;
 use std::io::Read;
 use tariff_core::Tariff;

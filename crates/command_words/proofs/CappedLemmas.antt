@@ -4,9 +4,9 @@ use Rattle.std.specs.Prelude.{option_map, unwrap_or, nat_le, if◌then◌else◌
 use Rattle.std.proofs.lemmas.Bool.Decides.{nat_tests}
 use Rattle.std.specs.Str.Parse.{digits_value}
 use Rattle.std.proofs.lemmas.Bool.{and_parts}
-use Rattle.run_options.specs.Configs.{is_config, is_live_config}
-use Rattle.run_options.specs.declared.live.LiveAsk.{LiveAsk}
-use Rattle.run_options.specs.declared.options.RunAsk.{RunAsk}
+use Rattle.run_values.specs.Configs.{is_config, is_live_config}
+use Rattle.run_values.specs.declared.live.LiveAsk.{LiveAsk}
+use Rattle.run_values.specs.declared.options.RunAsk.{RunAsk}
 use Rattle.table_core.specs.Decimals.{decimal_of, is_decimal}
 use Rattle.command_words.specs.Capped.{capped, capped_ask, capped_live_ask}
 use Rattle.command_words.specs.RunWords.{number_written}

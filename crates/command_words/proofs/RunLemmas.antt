@@ -2,8 +2,8 @@
 use Rattle.std.proofs.Common.{◌≡◌, ℕ, List, Option, Some, None, refl, codes}
 use Rattle.std.specs.Prelude.{option_map}
 use Rattle.clap.specs.Words.{Row}
-use Rattle.run_options.specs.declared.options.PartsAsk.{PartsAsk}
-use Rattle.run_options.specs.declared.options.RunOutput.{RunOutput}
+use Rattle.run_values.specs.declared.options.PartsAsk.{PartsAsk}
+use Rattle.run_values.specs.declared.options.RunOutput.{RunOutput}
 use Rattle.ssf_core.specs.declared.config.DefaultHandling.{DefaultHandling}
 use Rattle.command_words.specs.Capped.{capped, capped_ask}
 use Rattle.command_words.specs.RunWords.{ask_in, asked_run, handling_in, output_in, parts_in, setting_in, workers_in}

@@ -4,8 +4,8 @@ use Rattle.std.specs.Str.{bytes_eq}
 use Rattle.clap.specs.Words.{IsAmong, Row, Text}
 use Rattle.clap.specs.declared.error.kind.ErrorKind.{ErrorKind}
 use Rattle.clap.specs.declared.error.kind.ErrorKind.TheVariants as kind
-use Rattle.run_options.specs.Logs.{log_wish_of}
-use Rattle.run_options.specs.Options.{ask_of, live_ask_of}
+use Rattle.run_values.specs.Logs.{log_wish_of}
+use Rattle.run_values.specs.Options.{ask_of, live_ask_of}
 use Rattle.price_core.specs.RatesOf.{rates_of}
 use Rattle.command_words.specs.AuditWords.{audit_in}
 use Rattle.command_words.specs.CommandLine.{command_in, errors_in}

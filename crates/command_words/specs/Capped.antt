@@ -1,7 +1,7 @@
 -- Numbers as the code keeps them: 32 bits, of which the greatest stands for all above it.
 use Rattle.std.specs.Prelude.{ℕ, min}
-use Rattle.run_options.specs.declared.live.LiveAsk.{LiveAsk}
-use Rattle.run_options.specs.declared.options.RunAsk.{RunAsk}
+use Rattle.run_values.specs.declared.live.LiveAsk.{LiveAsk}
+use Rattle.run_values.specs.declared.options.RunAsk.{RunAsk}
 
 -- a number in 32 bits, of which the greatest stands for all above it
 abbrev pub capped : ℕ → ℕ

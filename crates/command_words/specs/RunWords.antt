@@ -3,12 +3,12 @@ use Rattle.std.specs.Prelude.{◌&&◌, ℕ, Bool, not, is_some, nat_le, List, O
 use Rattle.std.specs.Str.{bytes_eq}
 use Rattle.std.specs.Str.Parse.{digits_value}
 use Rattle.clap.specs.Words.{Row, Text, first_of}
-use Rattle.run_options.specs.Configs.{is_config}
-use Rattle.run_options.specs.Options.{is_trace}
-use Rattle.run_options.specs.declared.options.PartsAsk.{PartsAsk}
-use Rattle.run_options.specs.declared.options.RunAsk.{RunAsk}
-use Rattle.run_options.specs.declared.options.RunOutput.{RunOutput}
-use Rattle.run_options.specs.declared.options.RunOutput.TheVariants as output
+use Rattle.run_values.specs.Configs.{is_config}
+use Rattle.run_values.specs.Options.{is_trace}
+use Rattle.run_values.specs.declared.options.PartsAsk.{PartsAsk}
+use Rattle.run_values.specs.declared.options.RunAsk.{RunAsk}
+use Rattle.run_values.specs.declared.options.RunOutput.{RunOutput}
+use Rattle.run_values.specs.declared.options.RunOutput.TheVariants as output
 use Rattle.ssf_core.specs.declared.config.DefaultHandling.{DefaultHandling}
 use Rattle.ssf_core.specs.declared.config.DefaultHandling.TheVariants as handling
 use Rattle.table_core.specs.Decimals.{is_decimal}

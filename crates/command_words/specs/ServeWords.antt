@@ -1,11 +1,11 @@
 -- What the options of `serve` say.
 use Rattle.std.specs.Prelude.{ℕ, Bool, List, Option, Some, None, Result, Ok, Err, true, false, codes, if◌then◌else◌, option_and_then, option_map}
 use Rattle.clap.specs.Words.{Row, Text, first_of}
-use Rattle.run_options.specs.Configs.{is_live_config}
-use Rattle.run_options.specs.Logs.{LogWish}
-use Rattle.run_options.specs.declared.live.LiveAsk.{LiveAsk}
-use Rattle.run_options.specs.declared.live.LiveOutput.{LiveOutput}
-use Rattle.run_options.specs.declared.live.LiveOutput.TheVariants as output
+use Rattle.run_values.specs.Configs.{is_live_config}
+use Rattle.run_values.specs.Logs.{LogWish}
+use Rattle.run_values.specs.declared.live.LiveAsk.{LiveAsk}
+use Rattle.run_values.specs.declared.live.LiveOutput.{LiveOutput}
+use Rattle.run_values.specs.declared.live.LiveOutput.TheVariants as output
 use Rattle.command_words.specs.Options.{has_flag, optional_number_in}
 use Rattle.command_words.specs.RunWords.{setting_in}
 use Rattle.command_words.specs.Wishes.{Wish, Serves}

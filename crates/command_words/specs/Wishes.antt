@@ -1,9 +1,9 @@
 -- What a command is asked for, as plain data.
 use Rattle.std.specs.Prelude.{ℕ, List, Option}
 use Rattle.book_texts.specs.declared.size.AuditAsk.{AuditAsk}
-use Rattle.run_options.specs.Logs.{LogWish}
-use Rattle.run_options.specs.declared.live.LiveAsk.{LiveAsk}
-use Rattle.run_options.specs.declared.options.RunAsk.{RunAsk}
+use Rattle.run_values.specs.Logs.{LogWish}
+use Rattle.run_values.specs.declared.live.LiveAsk.{LiveAsk}
+use Rattle.run_values.specs.declared.options.RunAsk.{RunAsk}
 use Rattle.price_core.specs.Rates.{Rates}
 use Rattle.command_words.specs.QuoteWishes.{QuoteWish}
 use Rattle.rating.specs.Asks.{RateWish}

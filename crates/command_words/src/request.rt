@@ -9,7 +9,7 @@ use cap_values::Number;
 use moment_texts::Clock;
 use price_core::{DAY, MAX_MOMENT, MAX_MONEY, Plan};
 use rating::RateAsk;
-use run_options::{LiveOptions, LogAsk, RunOptions};
+use run_values::{LiveOptions, LogAsk, RunOptions};
 
 /// What the words ask for.
 #[derive(Drop)]

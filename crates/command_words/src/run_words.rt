@@ -10,7 +10,7 @@ use crate::fault::WordsFault;
 use crate::options::{clock_by, has_flag, option_text, optional_number};
 use crate::request::Request;
 use clap::ArgMatches;
-use run_options::{PartsAsk, RunAsk, RunOptions, RunOutput};
+use run_values::{PartsAsk, RunAsk, RunOptions, RunOutput};
 use ssf_core::DefaultHandling;
 use table_core::{decimal, is_decimal};
 

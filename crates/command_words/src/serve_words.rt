@@ -5,14 +5,14 @@ ghost use Rattle.clap.specs.Words.{found_of, rows_of};
 ghost use Rattle.command_words.specs.Arguments.{IsRequestOf};
 ghost use Rattle.command_words.specs.Capped.{capped_live_ask};
 ghost use Rattle.command_words.specs.ServeWords.{end_in, end_of, live_ask_in, log_in, serve_in};
-ghost use Rattle.run_options.specs.Logs.{log_wish_of};
+ghost use Rattle.run_values.specs.Logs.{log_wish_of};
 
 use crate::fault::WordsFault;
 use crate::options::{has_flag, option_text, optional_number};
 use crate::request::Request;
 use crate::run_words::setting;
 use clap::ArgMatches;
-use run_options::{LiveAsk, LiveOptions, LiveOutput, LogAsk};
+use run_values::{LiveAsk, LiveOptions, LiveOutput, LogAsk};
 
 /// The service that the options ask for. `Config` where a time is out of its range, however large;
 /// `Arguments` where an option has no number of its own, where messages of a log are to be printed

@@ -3,7 +3,7 @@
 use crate::options::option_text;
 use clap::ArgMatches;
 use price_core::DAY;
-use run_options::{LiveAsk, RunAsk};
+use run_values::{LiveAsk, RunAsk};
 use std::alloc::{AllocError, Global};
 
 /// A line about the first time of `run` that is out of its range; empty where none is.

@@ -1,4 +1,4 @@
-//! The tests of `shared_account`, `turn_board`, `turn_account` and `locked_account`.
+//! The tests of `shared_account`, `turn_account` and `locked_account`.
 
 mod books;
 mod forms;

@@ -34,9 +34,9 @@ use Rattle.run_command.specs.Plays.{IsPlayOf}
 use Rattle.run_outputs.specs.Refused.{none_refused}
 use Rattle.run_outputs.specs.Unplaced.{events_in_rows}
 use Rattle.run_outputs.specs.declared.unplaced.UnplacedEvent.{UnplacedEvent}
-use Rattle.run_options.specs.declared.options.RunAsk.{RunAsk}
-use Rattle.run_options.specs.declared.options.RunOutput.{RunOutput}
-use Rattle.run_options.specs.declared.options.RunOutput.TheVariants as output
+use Rattle.run_values.specs.declared.options.RunAsk.{RunAsk}
+use Rattle.run_values.specs.declared.options.RunOutput.{RunOutput}
+use Rattle.run_values.specs.declared.options.RunOutput.TheVariants as output
 use Rattle.run_outputs.specs.Parts.{part_by, part_rows}
 use Rattle.run_texts.specs.Views.{rows_are_in_order}
 use Rattle.run_texts.specs.declared.script.ScriptRow.{ScriptRow}

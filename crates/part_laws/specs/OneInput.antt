@@ -8,9 +8,9 @@ use Rattle.run_outputs.specs.Kept.{PartSaid}
 use Rattle.run_outputs.specs.Refused.{none_refused}
 use Rattle.run_outputs.specs.declared.refusals.Refusals.{Refusals}
 use Rattle.run_outputs.specs.declared.unplaced.UnplacedEvent.{UnplacedEvent}
-use Rattle.run_options.specs.declared.options.RunAsk.{RunAsk}
-use Rattle.run_options.specs.declared.options.RunOutput.{RunOutput}
-use Rattle.run_options.specs.declared.options.RunOutput.TheVariants as output
+use Rattle.run_values.specs.declared.options.RunAsk.{RunAsk}
+use Rattle.run_values.specs.declared.options.RunOutput.{RunOutput}
+use Rattle.run_values.specs.declared.options.RunOutput.TheVariants as output
 use Rattle.run_outputs.specs.Parts.{part_rows}
 use Rattle.run_texts.specs.Inputs.{RunInput}
 

@@ -15,7 +15,7 @@ use Rattle.command_words.specs.declared.fault.WordsFault.TheVariants as words_fa
 use Rattle.run_outputs.specs.Texts.{RunSaid, TablesSaid}
 use Rattle.run_command.specs.declared.error.RunError.{RunError}
 use Rattle.run_command.specs.declared.error.RunError.TheVariants as error
-use Rattle.run_options.specs.declared.options.RunAsk.{RunAsk}
+use Rattle.run_values.specs.declared.options.RunAsk.{RunAsk}
 use Rattle.run_texts.specs.Inputs.{tariff_in}
 use Rattle.run_texts.specs.declared.input_fault.InputFault.{InputFault}
 use Rattle.run_texts.specs.declared.input_fault.InputFault.TheVariants as input_fault

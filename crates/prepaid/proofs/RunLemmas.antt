@@ -5,7 +5,7 @@ use Rattle.std.specs.Result.{result_map_both}
 use Rattle.run_command.specs.Tables.{IsTablesAnswer}
 use Rattle.run_outputs.specs.Texts.{TablesSaid}
 use Rattle.run_command.specs.declared.error.RunError.{RunError}
-use Rattle.run_options.specs.declared.options.RunAsk.{RunAsk}
+use Rattle.run_values.specs.declared.options.RunAsk.{RunAsk}
 use Rattle.run_values.specs.declared.run_fault.RunFault.TheVariants as run
 use Rattle.table_commands.specs.Faults.{GivesOne}
 use Rattle.table_commands.specs.Input.{sized}

@@ -14,9 +14,9 @@ use Rattle.run_command.specs.Answers.{IsRunAnswer}
 use Rattle.run_outputs.specs.Texts.{RunSaid, TablesSaid}
 use Rattle.run_command.specs.Tables.{IsTablesAnswer}
 use Rattle.run_command.specs.declared.error.RunError.{RunError}
-use Rattle.run_options.specs.Logs.{LogWish}
-use Rattle.run_options.specs.declared.live.LiveAsk.{LiveAsk}
-use Rattle.run_options.specs.declared.options.RunAsk.{RunAsk}
+use Rattle.run_values.specs.Logs.{LogWish}
+use Rattle.run_values.specs.declared.live.LiveAsk.{LiveAsk}
+use Rattle.run_values.specs.declared.options.RunAsk.{RunAsk}
 use Rattle.run_values.specs.declared.run_fault.RunFault.TheVariants as run
 use Rattle.table_commands.specs.Answers.{IsAuditOfInput, IsQuoteOfInput, price_of_input, replay_of_input}
 use Rattle.table_commands.specs.Faults.{line_of_fault, status_of}

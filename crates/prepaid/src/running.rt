@@ -3,7 +3,7 @@
 ghost use Rattle.std.specs.Prelude.{◌≡◌, ◌⊎◌, true, None, IfErr, IfOk, IfSome, option_map, string_bytes};
 ghost use Rattle.std.specs.Result.{result_map_both};
 ghost use Rattle.run_outputs.specs.Texts.{tables_said};
-ghost use Rattle.run_options.specs.Options.{ask_of};
+ghost use Rattle.run_values.specs.Options.{ask_of};
 ghost use Rattle.run_values.specs.declared.run_fault.RunFault.TheVariants as run;
 ghost use Rattle.table_commands.specs.Explanations.{IsSaidOfAnswer};
 ghost use Rattle.table_commands.specs.Faults.{GivesOne};
@@ -17,8 +17,8 @@ use crate::ending::{files_ending, run_ending};
 use crate::faults::{fault_of_files, fault_of_run};
 use crate::files::files_of;
 use run_command::{Watch, run, run_tables};
-use run_options::RunOptions;
-use run_outputs::{Ran, RunTables};
+use run_outputs::{Ran, RunTables, write_files};
+use run_values::RunOptions;
 use std::alloc::Global;
 use std::fs::File;
 use std::io::{Error, Read};
@@ -26,7 +26,6 @@ use std::rt::Files;
 use std::sync::Wait;
 use std::thread::Threads;
 use table_commands::{Ending, Fault, read_input};
-use whole_files::write_files;
 
 /// What is printed of a run of the script in the input, or the first fault, and what is said behind
 /// that where it is asked for.

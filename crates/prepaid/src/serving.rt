@@ -2,13 +2,13 @@
 
 ghost use Rattle.std.specs.Prelude.{◌≡◌, option_map};
 ghost use Rattle.std.specs.Io.KnownBytes.{Keeps};
-ghost use Rattle.run_options.specs.Logs.{log_wish_of};
-ghost use Rattle.run_options.specs.Options.{live_ask_of};
+ghost use Rattle.run_values.specs.Logs.{log_wish_of};
+ghost use Rattle.run_values.specs.Options.{live_ask_of};
 ghost use Rattle.prepaid.specs.Answers.{IsServeEnd, IsServedInput};
 
 use crate::faults::fault_of_serve;
 use answer_command::{ServeError, serve_input};
-use run_options::{LiveOptions, LogAsk};
+use run_values::{LiveOptions, LogAsk};
 use std::fs::File;
 use std::io::{BufRead, Error, Write};
 use std::rt::Files;

@@ -8,7 +8,7 @@ use Rattle.rating.specs.declared.score.Score.{Score}
 use Rattle.run_command.specs.Answers.{IsRunOf}
 use Rattle.run_laws.specs.Answered.{run_of_answer}
 use Rattle.run_outputs.specs.Texts.{RunSaid}
-use Rattle.run_options.specs.declared.options.RunAsk.{RunAsk}
+use Rattle.run_values.specs.declared.options.RunAsk.{RunAsk}
 
 -- where an answer of `run` is the table of its calls, `rate` prints of it, behind the run's tariff, each record in its row, to just what was paid unless it has a forfeit
 abbrev pub RunsHaveNoDifference : Type 0

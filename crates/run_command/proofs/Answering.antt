@@ -13,9 +13,9 @@ use Rattle.run_command.specs.declared.error.RunError.{RunError}
 use Rattle.run_command.specs.declared.error.RunError.TheVariants as error
 use Rattle.run_outputs.specs.declared.played.Ran.{Ran}
 use Rattle.run_outputs.specs.declared.tables.RunTables.{RunTables}
-use Rattle.run_options.specs.Options.{played_parts}
-use Rattle.run_options.specs.declared.options.PartsAsk.{PartsAsk}
-use Rattle.run_options.specs.declared.options.RunAsk.{RunAsk}
+use Rattle.run_values.specs.Options.{played_parts}
+use Rattle.run_values.specs.declared.options.PartsAsk.{PartsAsk}
+use Rattle.run_values.specs.declared.options.RunAsk.{RunAsk}
 use Rattle.run_texts.specs.declared.script.ScriptRow.{ScriptRow}
 use Rattle.run_values.specs.Setups.{Setup}
 use Rattle.run_values.specs.declared.run_fault.RunFault.TheVariants as run

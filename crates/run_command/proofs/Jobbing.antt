@@ -9,7 +9,7 @@ use Rattle.run_command.specs.Jobs.{HasPlayedPart, IsInOrder}
 use Rattle.run_command.specs.declared.error.RunError.{RunError}
 use Rattle.run_outputs.specs.declared.part.Part.{Part}
 use Rattle.run_command.specs.declared.jobs.Job.{Job}
-use Rattle.run_options.specs.declared.options.RunAsk.{RunAsk}
+use Rattle.run_values.specs.declared.options.RunAsk.{RunAsk}
 use Rattle.run_texts.specs.Views.{rows_are_in_order}
 use Rattle.run_texts.specs.declared.script.ScriptRow.{ScriptRow}
 use Rattle.run_values.specs.Setups.{Setup}

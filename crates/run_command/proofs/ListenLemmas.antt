@@ -7,9 +7,9 @@ use Rattle.run_outputs.specs.Texts.{IsTextOf}
 use Rattle.run_command.specs.Listening.{Listens}
 use Rattle.run_outputs.specs.Refused.{refusals_counted_in}
 use Rattle.run_command.specs.declared.listening.Listener.{Listener}
-use Rattle.run_options.specs.Options.{is_trace}
-use Rattle.run_options.specs.declared.options.RunOutput.{RunOutput}
-use Rattle.run_options.specs.declared.options.RunOutput.TheVariants as output
+use Rattle.run_values.specs.Options.{is_trace}
+use Rattle.run_values.specs.declared.options.RunOutput.{RunOutput}
+use Rattle.run_values.specs.declared.options.RunOutput.TheVariants as output
 use Rattle.message_rows.specs.Tables.{trace_text}
 use Rattle.run_values.specs.declared.post.Answer.{Answer}
 use Rattle.runs_core.specs.Hearing.{HearsRounds, all_heard}

@@ -8,7 +8,7 @@ use Rattle.run_outputs.specs.Texts.{RunSaid, run_of}
 use Rattle.run_outputs.specs.Unplaced.{events_in_rows}
 use Rattle.run_outputs.specs.declared.part.Part.{Part}
 use Rattle.run_outputs.specs.declared.played.Played.{Played}
-use Rattle.run_options.specs.declared.options.RunAsk.{RunAsk}
+use Rattle.run_values.specs.declared.options.RunAsk.{RunAsk}
 use Rattle.run_outputs.specs.Parts.{AreParts, part_count, part_rows, payer_of}
 use Rattle.run_texts.specs.Views.{row_data, with_digits}
 use Rattle.run_texts.specs.declared.script.ScriptRow.{ScriptRow}

@@ -2,7 +2,7 @@
 use Rattle.std.proofs.Common.{◌≡◌, ℕ, true, false, List, [], ◌∷◌, ◌++◌, map, refl, sym, ◌∙◌, ap, subst}
 use Rattle.std.proofs.lemmas.List.{append-nil}
 use Rattle.run_command.specs.Plays.{HearsItsRounds, IsAskedFor, IsGivenWithout, IsPlayWithout}
-use Rattle.run_options.specs.declared.options.RunAsk.{RunAsk}
+use Rattle.run_values.specs.declared.options.RunAsk.{RunAsk}
 use Rattle.run_texts.specs.Views.{row_data}
 use Rattle.run_texts.specs.declared.script.ScriptRow.{ScriptRow}
 use Rattle.script_player.specs.Chains.{Chain}
@@ -15,7 +15,7 @@ use Rattle.run_values.specs.declared.post.Body.{Body}
 use Rattle.runs_core.specs.Hearing.{HearsRounds, all_heard}
 use Rattle.runs_core.specs.Runs.{IsRun}
 use Rattle.run_command.specs.Played.{IsPlayedRun}
-use Rattle.run_options.specs.Options.{is_trace}
+use Rattle.run_values.specs.Options.{is_trace}
 use Rattle.run_outputs.specs.declared.played.Played.{Played}
 use Rattle.run_outputs.specs.Refused.{refusals_counted_in}
 use Rattle.run_values.specs.Setups.{Setup}

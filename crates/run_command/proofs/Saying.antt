@@ -16,7 +16,7 @@ use Rattle.run_command.specs.Tables.{AreTablesOf}
 use Rattle.run_outputs.specs.Unplaced.{AreByCall, events_in_rows}
 use Rattle.run_outputs.specs.declared.refusals.Refusals.{Refusals}
 use Rattle.run_outputs.specs.declared.unplaced.UnplacedEvent.{UnplacedEvent}
-use Rattle.run_options.specs.declared.options.RunAsk.{RunAsk}
+use Rattle.run_values.specs.declared.options.RunAsk.{RunAsk}
 use Rattle.run_outputs.specs.Parts.{part_count, part_rows, part_script, payer_of}
 use Rattle.run_texts.specs.Happenings.{RowData}
 use Rattle.run_texts.specs.Inputs.{RunInput}

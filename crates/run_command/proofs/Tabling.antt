@@ -7,8 +7,8 @@ use Rattle.run_command.specs.Played.{AreWhole, IsPlayedRun}
 use Rattle.run_outputs.specs.Texts.{AreTextsOf, TablesSaid, clock_of, run_of}
 use Rattle.run_outputs.specs.Unplaced.{AreByCall, events_in_rows}
 use Rattle.run_outputs.specs.declared.played.Played.{Played}
-use Rattle.run_options.specs.declared.options.RunAsk.{RunAsk}
-use Rattle.run_options.specs.declared.options.RunOutput.TheVariants as output
+use Rattle.run_values.specs.declared.options.RunAsk.{RunAsk}
+use Rattle.run_values.specs.declared.options.RunOutput.TheVariants as output
 use Rattle.run_texts.specs.declared.script.ScriptRow.{ScriptRow}
 use Rattle.run_values.specs.Setups.{Setup}
 use Rattle.run_values.specs.declared.post.Answer.{Answer}

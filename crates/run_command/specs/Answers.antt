@@ -7,10 +7,10 @@ use Rattle.run_command.specs.Plays.{IsGivenBy}
 use Rattle.run_command.specs.Starts.{InputIsInRange}
 use Rattle.run_outputs.specs.Refused.{refusals_counted_in}
 use Rattle.run_outputs.specs.Unplaced.{AreByCall, events_in_rows}
-use Rattle.run_options.specs.Options.{played_parts}
-use Rattle.run_options.specs.declared.options.PartsAsk.{PartsAsk}
-use Rattle.run_options.specs.declared.options.RunAsk.{RunAsk}
-use Rattle.run_options.specs.declared.options.RunOutput.TheVariants as output
+use Rattle.run_values.specs.Options.{played_parts}
+use Rattle.run_values.specs.declared.options.PartsAsk.{PartsAsk}
+use Rattle.run_values.specs.declared.options.RunAsk.{RunAsk}
+use Rattle.run_values.specs.declared.options.RunOutput.TheVariants as output
 use Rattle.run_texts.specs.InputFaults.{RefusesInput}
 use Rattle.run_texts.specs.Inputs.{RunInput, input_of}
 use Rattle.run_command.specs.declared.error.RunError.{RunError}

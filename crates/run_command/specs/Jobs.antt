@@ -5,7 +5,7 @@ use Rattle.run_command.specs.InParts.{IsKeptPart}
 use Rattle.run_command.specs.declared.error.RunError.{RunError}
 use Rattle.run_outputs.specs.declared.part.Part.{Part}
 use Rattle.run_command.specs.declared.jobs.Job.{Job}
-use Rattle.run_options.specs.declared.options.RunAsk.{RunAsk}
+use Rattle.run_values.specs.declared.options.RunAsk.{RunAsk}
 use Rattle.run_texts.specs.Views.{rows_are_in_order}
 use Rattle.run_values.specs.Setups.{Setup}
 use Rattle.price_core.specs.declared.times.TheConstants.{MAX_MOMENT}

@@ -6,9 +6,9 @@ use Rattle.run_command.specs.Plays.{IsGivenBy}
 use Rattle.run_outputs.specs.Refused.{refusals_counted_in}
 use Rattle.run_outputs.specs.Unplaced.{AreByCall, events_in_rows}
 use Rattle.run_outputs.specs.declared.played.Played.{Played}
-use Rattle.run_options.specs.Options.{is_trace}
-use Rattle.run_options.specs.declared.options.RunAsk.{RunAsk}
-use Rattle.run_options.specs.declared.options.RunOutput.TheVariants as output
+use Rattle.run_values.specs.Options.{is_trace}
+use Rattle.run_values.specs.declared.options.RunAsk.{RunAsk}
+use Rattle.run_values.specs.declared.options.RunOutput.TheVariants as output
 use Rattle.run_texts.specs.Views.{row_data}
 use Rattle.run_texts.specs.declared.script.ScriptRow.{ScriptRow}
 use Rattle.run_values.specs.Setups.{Setup}

@@ -1,6 +1,6 @@
 -- What the workers of a run are given: what a script says, and what the gsmSSFs of its calls send.
 use Rattle.std.specs.Prelude.{◌≡◌, ℕ, true, List, [], map}
-use Rattle.run_options.specs.declared.options.RunAsk.{RunAsk}
+use Rattle.run_values.specs.declared.options.RunAsk.{RunAsk}
 use Rattle.run_texts.specs.Happenings.{RowData}
 use Rattle.run_texts.specs.Views.{row_data}
 use Rattle.run_texts.specs.declared.script.ScriptRow.{ScriptRow}

@@ -3,7 +3,7 @@ use Rattle.std.specs.Prelude.{◌≡◌, ◌≤◌, ℕ, true, List, All, Ok, le
 use Rattle.run_command.specs.Books.{IsSetupOf}
 use Rattle.run_command.specs.declared.error.RunError.{RunError}
 use Rattle.run_command.specs.declared.error.RunError.TheVariants as error
-use Rattle.run_options.specs.declared.options.RunAsk.{RunAsk}
+use Rattle.run_values.specs.declared.options.RunAsk.{RunAsk}
 use Rattle.run_texts.specs.InputFaults.{RefusesInput}
 use Rattle.run_texts.specs.Happenings.{is_in_time}
 use Rattle.run_texts.specs.Inputs.{RunInput, input_of}

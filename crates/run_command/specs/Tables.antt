@@ -8,7 +8,7 @@ use Rattle.run_command.specs.Starts.{InputIsInRange}
 use Rattle.run_outputs.specs.Refused.{refusals_counted_in}
 use Rattle.run_outputs.specs.Unplaced.{AreByCall, events_in_rows}
 use Rattle.run_command.specs.declared.error.RunError.{RunError}
-use Rattle.run_options.specs.declared.options.RunAsk.{RunAsk}
+use Rattle.run_values.specs.declared.options.RunAsk.{RunAsk}
 use Rattle.run_texts.specs.Inputs.{RunInput, input_of}
 use Rattle.run_values.specs.declared.post.Answer.{Answer}
 use Rattle.run_values.specs.declared.post.Body.{Body}

@@ -2,12 +2,11 @@
 
 ghost use Rattle.std.specs.Prelude.{◌≡◌, ◌++◌, [], OnOk};
 ghost use Rattle.run_outputs.specs.Refused.{none_refused};
-ghost use Rattle.run_options.specs.Options.{is_trace};
+ghost use Rattle.run_values.specs.Options.{is_trace};
 
 use arrayvec::ArrayVec;
-use run_options::RunOutput;
 use run_outputs::{Played, Refusals};
-use run_values::{Answer, Body, Driver};
+use run_values::{Answer, Body, Driver, RunOutput};
 use script_player::ScriptPlayer;
 use shared_account::Book;
 use std::alloc::{AllocError, Global};

@@ -3,7 +3,7 @@
 ghost use Rattle.std.specs.Prelude.{◌≡◌, ◌≤◌, All, IfOk, IfErr, string_bytes, true};
 ghost use Rattle.run_command.specs.Answers.{MayFail};
 ghost use Rattle.run_command.specs.InParts.{IsInParts, IsKeptPart};
-ghost use Rattle.run_options.specs.Options.{ask_of};
+ghost use Rattle.run_values.specs.Options.{ask_of};
 ghost use Rattle.run_texts.specs.Views.{rows_are_in_order};
 
 use crate::RunError;
@@ -11,10 +11,9 @@ use crate::jobs::play_all;
 use crate::playing::play;
 use crate::watching::{Watch, Watching};
 use price_core::MAX_MOMENT;
-use run_options::{PartsAsk, RunOptions};
 use run_outputs::{Division, Firsts, Part, Ran, divide, print_parts};
 use run_texts::ScriptRow;
-use run_values::RunSetup;
+use run_values::{PartsAsk, RunOptions, RunSetup};
 use std::alloc::Global;
 use std::sync::Wait;
 use std::thread::Threads;

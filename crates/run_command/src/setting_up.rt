@@ -2,15 +2,14 @@
 
 ghost use Rattle.std.specs.Prelude.{◌≡◌, ◌≤◌, All, IfErr, IfOk, true};
 ghost use Rattle.run_command.specs.Starts.{IsStartOf, MayNotStart};
-ghost use Rattle.run_options.specs.Options.{ask_of};
+ghost use Rattle.run_values.specs.Options.{ask_of};
 ghost use Rattle.run_texts.specs.Views.{rows_are_in_order};
 
 use crate::RunError;
 use account_core::MAX_LIMIT;
 use price_core::MAX_MOMENT;
-use run_options::RunOptions;
 use run_texts::{ScriptRow, read_texts};
-use run_values::RunSetup;
+use run_values::{RunOptions, RunSetup};
 use std::alloc::Global;
 
 /// What a run begins with.

@@ -7,9 +7,8 @@ ghost use Rattle.run_texts.specs.Views.{happens_of, row_data, with_digits};
 
 use crate::RunError;
 use crate::setting_up::{Start, set_up};
-use run_options::RunOptions;
 use run_texts::{Happening, ScriptRow};
-use run_values::RunSetup;
+use run_values::{RunOptions, RunSetup};
 use std::alloc::{AllocError, Global};
 
 /// The numbers of the calls of an input whose calling number no subscriber has, in the order in

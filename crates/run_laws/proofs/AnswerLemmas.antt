@@ -5,7 +5,7 @@ use Rattle.run_command.specs.InParts.{IsRunInParts}
 use Rattle.run_laws.specs.Answered.{AnsweredCallsHavePaid, CallsOfPartsHavePaid, CallsOfTablesHavePaid, PartsHaveAllAccounts, AnsweredBooksPass, AnsweredPartsPass, AnsweredTablesPass}
 use Rattle.run_laws.specs.Joined.{AreAllParts, JoinedBooksHaveAllAccounts, JoinedBooksPass}
 use Rattle.run_laws.specs.Played.{PlayedBooksPass, PlayedCallsHavePaid}
-use Rattle.run_options.specs.declared.options.RunAsk.{RunAsk}
+use Rattle.run_values.specs.declared.options.RunAsk.{RunAsk}
 use Rattle.run_outputs.specs.Parts.{part_script, payer_of}
 use Rattle.run_outputs.specs.declared.refusals.Refusals.{Refusals}
 use Rattle.run_outputs.specs.declared.unplaced.UnplacedEvent.{UnplacedEvent}

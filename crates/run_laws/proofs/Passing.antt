@@ -21,7 +21,7 @@ use Rattle.run_laws.specs.Joined.{JoinedBooksHaveAllAccounts, JoinedBooksPass, j
 use Rattle.run_command.specs.Starts.{InputIsInRange}
 use Rattle.run_laws.specs.Played.{PassTheirAudits, PlayedBooksPass}
 use Rattle.run_command.specs.Plays.{IsGivenBy}
-use Rattle.run_options.specs.declared.options.RunAsk.{RunAsk}
+use Rattle.run_values.specs.declared.options.RunAsk.{RunAsk}
 use Rattle.run_outputs.specs.Parts.{part_of, part_of_account, part_script, payer_of}
 use Rattle.run_texts.specs.Happenings.{RowData, is_in_time}
 use Rattle.run_texts.specs.Inputs.{RunInput}

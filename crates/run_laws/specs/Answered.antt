@@ -7,8 +7,8 @@ use Rattle.run_command.specs.InParts.{IsPartOf, IsRunInParts}
 use Rattle.run_command.specs.Tables.{AreTablesOf}
 use Rattle.run_laws.specs.Joined.{joined_books}
 use Rattle.run_laws.specs.Played.{CallsHavePaid, PassTheirAudits}
-use Rattle.run_options.specs.declared.options.RunAsk.{RunAsk}
-use Rattle.run_options.specs.declared.options.RunOutput.TheVariants as output
+use Rattle.run_values.specs.declared.options.RunAsk.{RunAsk}
+use Rattle.run_values.specs.declared.options.RunOutput.TheVariants as output
 use Rattle.run_outputs.specs.Kept.{PartSaid}
 use Rattle.run_outputs.specs.Texts.{RunSaid, TablesSaid}
 use Rattle.run_outputs.specs.declared.refusals.Refusals.{Refusals}

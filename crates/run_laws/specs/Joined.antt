@@ -7,7 +7,7 @@ use Rattle.run_command.specs.InParts.{IsPartOf}
 use Rattle.run_outputs.specs.Kept.{PartSaid}
 use Rattle.run_command.specs.Starts.{InputIsInRange}
 use Rattle.run_laws.specs.Played.{PassTheirAudits}
-use Rattle.run_options.specs.declared.options.RunAsk.{RunAsk}
+use Rattle.run_values.specs.declared.options.RunAsk.{RunAsk}
 use Rattle.run_texts.specs.Inputs.{RunInput}
 use Rattle.runs_core.specs.Teams.{are_workers}
 use Rattle.shared_account.specs.Closed.{Closed}

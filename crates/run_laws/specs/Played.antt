@@ -11,7 +11,7 @@ use Rattle.call_records.specs.declared.outcome.Outcome.TheVariants as outcome
 use Rattle.run_command.specs.Books.{AreBooksOf}
 use Rattle.run_command.specs.Plays.{IsGivenBy}
 use Rattle.run_command.specs.Starts.{InputIsInRange}
-use Rattle.run_options.specs.declared.options.RunAsk.{RunAsk}
+use Rattle.run_values.specs.declared.options.RunAsk.{RunAsk}
 use Rattle.run_laws.specs.Records.{IsServedRun, IsUntalked, PaysItsRoute, paid_by_calls}
 use Rattle.run_laws.specs.Starts.{HaveTheirStarts}
 use Rattle.run_texts.specs.Inputs.{RunInput}

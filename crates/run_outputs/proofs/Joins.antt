@@ -6,8 +6,8 @@ use Rattle.std.proofs.lemmas.List.Sums.{sum_by-append}
 use Rattle.std.specs.List.{flat_map, sum_by}
 use Rattle.book_texts.specs.RunTexts.{AreLinesOf, LinesSaid}
 use Rattle.book_texts.specs.Typed.{IsTyped}
-use Rattle.run_options.specs.declared.options.RunOutput.{RunOutput}
-use Rattle.run_options.specs.declared.options.RunOutput.TheVariants as output
+use Rattle.run_values.specs.declared.options.RunOutput.{RunOutput}
+use Rattle.run_values.specs.declared.options.RunOutput.TheVariants as output
 use Rattle.run_outputs.specs.Kept.{AreKept, IsPartsText, KeepsBooks, KeepsPart, PartSaid, PrintsParts, joined_parts, with_part}
 use Rattle.run_outputs.specs.Texts.{RunSaid}
 use Rattle.run_outputs.specs.declared.part.Part.{Part}

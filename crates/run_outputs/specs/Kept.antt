@@ -8,8 +8,8 @@ use Rattle.call_records.specs.Records.{AreRecords, Run}
 use Rattle.call_records.specs.Tables.{call_text}
 use Rattle.call_records.specs.declared.call_record.CallRecord.{CallRecord}
 use Rattle.moment_texts.specs.declared.clock.Clock.{Clock}
-use Rattle.run_options.specs.declared.options.RunOutput.{RunOutput}
-use Rattle.run_options.specs.declared.options.RunOutput.TheVariants as output
+use Rattle.run_values.specs.declared.options.RunOutput.{RunOutput}
+use Rattle.run_values.specs.declared.options.RunOutput.TheVariants as output
 use Rattle.run_outputs.specs.Texts.{RunSaid, run_of}
 use Rattle.run_outputs.specs.declared.part.Part.{Part}
 use Rattle.run_outputs.specs.declared.played.Played.{Played}

@@ -6,8 +6,8 @@ use Rattle.call_records.specs.Records.{Run}
 use Rattle.call_records.specs.Tables.{IsCallText}
 use Rattle.moment_texts.specs.declared.clock.Clock.{Clock}
 use Rattle.moment_texts.specs.declared.clock.Clock.TheVariants as clock
-use Rattle.run_options.specs.declared.options.RunOutput.{RunOutput}
-use Rattle.run_options.specs.declared.options.RunOutput.TheVariants as output
+use Rattle.run_values.specs.declared.options.RunOutput.{RunOutput}
+use Rattle.run_values.specs.declared.options.RunOutput.TheVariants as output
 use Rattle.run_outputs.specs.declared.played.Played.{Played}
 use Rattle.run_outputs.specs.declared.played.Ran.{Ran}
 use Rattle.run_outputs.specs.declared.tables.RunTables.{RunTables}

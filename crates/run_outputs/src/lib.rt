@@ -1,8 +1,9 @@
-//! What a run comes to, once its script was played: its texts, what is said besides them, and what
-//! is kept of its parts; and the division of a script into parts.
+//! What a run comes to, once its script was played: its texts, the files that these go into, what is
+//! said besides them, and what is kept of its parts; and the division of a script into parts.
 #![tactic(auto)]
 
 mod division;
+mod files;
 mod firsts;
 mod list_lines;
 mod part;
@@ -14,6 +15,7 @@ mod tables;
 mod unplaced;
 
 pub use division::{Division, divide};
+pub use files::write_files;
 pub use firsts::Firsts;
 pub use list_lines::{strangers_line, unplaced_line};
 pub use part::{Part, print_parts};

@@ -3,7 +3,7 @@
 ghost use Rattle.std.specs.Prelude.{◌≡◌, [], All, IfOk, List, OnOk, string_bytes};
 ghost use Rattle.book_texts.specs.RunTexts.{AreLinesOf};
 ghost use Rattle.book_texts.specs.Typed.{IsTyped};
-ghost use Rattle.run_options.specs.declared.options.RunOutput.{RunOutput};
+ghost use Rattle.run_values.specs.declared.options.RunOutput.{RunOutput};
 ghost use Rattle.run_outputs.specs.Kept.{AreKept, IsMergedText, IsPartsText, KeepsBooks, KeepsCalls, KeepsOwn, KeepsPart, PartSaid, PrintsParts, joined_parts, own_books, with_part};
 ghost use Rattle.run_outputs.specs.Texts.{run_said_of};
 
@@ -11,8 +11,7 @@ use crate::{Firsts, Played, Ran, Refusals, UnplacedEvent, by_call, events_of};
 use book_texts::{RunLines, book_table};
 use call_records::{CallRecord, call_table, records};
 use moment_texts::Clock;
-use run_options::RunOutput;
-use run_values::{Body, RunSetup};
+use run_values::{Body, RunOutput, RunSetup};
 use shared_account::Book;
 use std::alloc::{AllocError, Global};
 

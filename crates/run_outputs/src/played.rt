@@ -9,9 +9,8 @@ use crate::{Refusals, UnplacedEvent, events_by_call};
 use book_texts::{book_table, run_lines};
 use call_records::{call_table, records};
 use message_rows::trace_table;
-use run_options::RunOutput;
 use run_texts::ScriptRow;
-use run_values::{Answer, Body, RunSetup};
+use run_values::{Answer, Body, RunOutput, RunSetup};
 use shared_account::Book;
 use std::alloc::{AllocError, Global};
 

@@ -7,8 +7,7 @@ ghost use Rattle.run_outputs.specs.Unplaced.{AreByCall, events_in_rows};
 
 use crate::{Played, Refusals, UnplacedEvent, events_by_call};
 use moment_texts::Clock;
-use run_options::RunOutput;
-use run_values::RunSetup;
+use run_values::{RunOutput, RunSetup};
 use std::alloc::{AllocError, Global};
 
 /// All that one and the same run prints.

@@ -1,4 +1,7 @@
+pub mod Configs
+pub mod Logs
 pub mod Openings
+pub mod Options
 pub mod RunFaults
 pub mod SetupFaults
 pub mod Setups

@@ -10,12 +10,12 @@ use Rattle.account_core.specs.declared.entry.Reply.{Reply}
 use Rattle.account_core.specs.declared.fault.AccountFault.{AccountFault}
 use Rattle.shared_account.specs.Kinds.{IsReplyTo}
 use Rattle.shared_account.specs.Own.{own}
-use Rattle.turn_board.specs.Plays.{HasMet, IsLater, Sitter, with_entry}
+use Rattle.turn_account.specs.Plays.{HasMet, IsLater, Sitter, with_entry}
 use Rattle.shared_account.specs.Prefixes.{EndsWithEntry, IsPrefix}
 use Rattle.turn_account.specs.Sitting.{IsSitting}
-use Rattle.turn_board.specs.Views.{at_stage, hearing, seeing}
-use Rattle.turn_board.specs.declared.board.Stage.TheVariants.{Idles}
-use Rattle.turn_board.specs.declared.board.View.{View}
+use Rattle.turn_account.specs.Views.{at_stage, hearing, seeing}
+use Rattle.turn_account.specs.declared.board.Stage.TheVariants.{Idles}
+use Rattle.turn_account.specs.declared.board.View.{View}
 use Rattle.shared_account.proofs.Answering.{answer_fits}
 use Rattle.shared_account.proofs.Beginnings.{begins_further, begins_longer, own_entry}
 

@@ -4,7 +4,7 @@ use Rattle.std.specs.Prelude.{◌==◌, All, slice_index_or}
 use Rattle.std.proofs.lemmas.Bool.{and_from, eqb-true}
 use Rattle.std.proofs.lemmas.List.{get_or-map, length-map}
 use Rattle.account_core.specs.Ledger.{Ledger}
-use Rattle.turn_board.specs.Ended.{HasEnded, HaveEnded}
+use Rattle.turn_account.specs.Ended.{HasEnded, HaveEnded}
 use Rattle.shared_account.specs.Own.{IsMerged, own}
 use Rattle.shared_account.specs.Seats.{are_numbered}
 use Rattle.turn_account.specs.TurnViews.{TurnSeatView, own_of}

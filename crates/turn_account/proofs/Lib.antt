@@ -1,5 +1,12 @@
 pub mod Calls
+pub mod Ended
 pub mod Ending
+pub mod Keeping
+pub mod Longer
+pub mod MeetLemmas
 pub mod Returning
+pub mod Rosters
 pub mod Seated
+pub mod Seating
 pub mod Seeing
+pub mod Turning

@@ -2,9 +2,9 @@
 use Rattle.std.specs.Prelude.{◌≡◌, ◌≤◌, ℕ, []}
 use Rattle.atomic_table.specs.Seated.{TableId}
 use Rattle.account_core.specs.Answers.{IsLegal}
-use Rattle.turn_board.specs.Plays.{Sitter}
-use Rattle.turn_board.specs.declared.board.Stage.TheVariants.{Idles}
-use Rattle.turn_board.specs.declared.board.Start.{Start}
+use Rattle.turn_account.specs.Plays.{Sitter}
+use Rattle.turn_account.specs.declared.board.Stage.TheVariants.{Idles}
+use Rattle.turn_account.specs.declared.board.Start.{Start}
 
 -- between two calls the chair of a seat with this number rests and has nothing in hand, and has taken in no other. What it has seen is a legal history
 pub record IsSitting (chair : Sitter) (seat : ℕ) : Type 0 where

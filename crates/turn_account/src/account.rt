@@ -5,29 +5,29 @@ ghost use Rattle.shared_account.specs.Closed.{IsBookOf};
 ghost use Rattle.shared_account.specs.Refusals.{Refusal};
 ghost use Rattle.shared_account.specs.Seats.{are_all};
 ghost use Rattle.turn_account.specs.Seen.{IsOpenedAs};
-ghost use Rattle.turn_board.specs.Plays.{with_entry};
+ghost use Rattle.turn_account.specs.Plays.{with_entry};
 ghost use Rattle.shared_account.specs.Prefixes.{EndsWithEntry, IsPrefix};
 ghost use Rattle.turn_account.specs.TurnViews.{IsSameSeat, fresh_turn_seats, own_of, unused};
-ghost use Rattle.turn_board.specs.Boards.{IsAt};
-ghost use Rattle.turn_board.specs.Views.{IsServing, seeing};
+ghost use Rattle.turn_account.specs.Boards.{IsAt};
+ghost use Rattle.turn_account.specs.Views.{IsServing, seeing};
 ghost use Rattle.account_core.specs.Answers.{IsLegal};
 ghost use Rattle.account_core.specs.Entries.{EntryData, asked_of};
 ghost use Rattle.account_core.specs.Ledger.{IsRefusal, entry_by};
 ghost use Rattle.account_core.specs.Places.{IsOwed};
 ghost use Rattle.shared_account.specs.declared.fault.CloseFault.TheVariants as close;
 
-use crate::TurnSeat;
 use crate::closing::close_board;
 use crate::seat::make_seats;
+use crate::{
+    Board, Chair, Start, TurnSeat, append, ask_in_turn, compare_views, hand_on, hear, lay_board,
+    take_turn,
+};
 use account_core::{AccountFault, Entry, Op, Reply};
 use price_core::MAX_MONEY;
 use shared_account::{Book, CloseFault, Gate, Shared};
 use std::alloc::Global;
 use std::marker::Model;
 use std::sync::{Mutex, Wait};
-use turn_board::{
-    Board, Chair, Start, append, ask_in_turn, compare_views, hand_on, hear, lay_board, take_turn,
-};
 
 /// An account that its seats hand on by turns: a ticket lock.
 ///

@@ -6,14 +6,13 @@ ghost use Rattle.shared_account.specs.Prefixes.{IsPrefix};
 ghost use Rattle.shared_account.specs.Seats.{are_all, are_numbered};
 ghost use Rattle.turn_account.specs.Seen.{IsOpenedAs};
 ghost use Rattle.turn_account.specs.Sitting.{IsBoard};
-ghost use Rattle.turn_board.specs.Boards.{IsAt};
+ghost use Rattle.turn_account.specs.Boards.{IsAt};
 ghost use Rattle.turn_account.specs.TurnViews.{own_of};
-ghost use Rattle.turn_board.specs.declared.board.Stage.TheVariants.{Idles};
+ghost use Rattle.turn_account.specs.declared.board.Stage.TheVariants.{Idles};
 ghost use Rattle.shared_account.specs.declared.fault.CloseFault.TheVariants as close;
 
-use crate::TurnSeat;
+use crate::{Board, Chair, TurnSeat, clear_board, take_in};
 use shared_account::{Book, CloseFault};
-use turn_board::{Board, Chair, clear_board, take_in};
 
 /// The book of an account whose seats were all handed in, in order. One takes in the others.
 pub(crate) fn close_board(

@@ -2,13 +2,13 @@
 
 ghost use Rattle.std.specs.Prelude.{◌≡◌, ◌≤◌, [], IfOk};
 ghost use Rattle.turn_account.specs.TurnViews.{fresh_turn_seats};
-ghost use Rattle.turn_board.specs.Boards.{IsAt};
-ghost use Rattle.turn_board.specs.Views.{first_view};
-ghost use Rattle.turn_board.specs.declared.board.Stage.TheVariants.{Idles};
+ghost use Rattle.turn_account.specs.Boards.{IsAt};
+ghost use Rattle.turn_account.specs.Views.{first_view};
+ghost use Rattle.turn_account.specs.declared.board.Stage.TheVariants.{Idles};
 
+use crate::{Board, Chair, next_chair};
 use std::alloc::{AllocError, Global};
 use std::marker::Model;
-use turn_board::{Board, Chair, next_chair};
 
 /// A seat of an account that is handed on by turns: it asks under its number, which is all that it
 /// keeps.

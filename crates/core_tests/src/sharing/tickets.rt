@@ -1,7 +1,7 @@
 //! Turns without a door: two threads wait for each other's tickets.
 
 ghost use Rattle.std.specs.Prelude.{◌≡◌, []};
-ghost use Rattle.turn_board.specs.declared.board.Stage.TheVariants.{Idles};
+ghost use Rattle.turn_account.specs.declared.board.Stage.TheVariants.{Idles};
 
 use super::threads::wait_for_two;
 use crate::looking::gives;
@@ -9,7 +9,7 @@ use std::sync::Wait;
 use std::sync::atomic::{AtomicU64, Ordering};
 use std::thread;
 use std::thread::Threads;
-use turn_board::{Board, Chair, Start, hand_on, lay_board, next_chair, take_turn};
+use turn_account::{Board, Chair, Start, hand_on, lay_board, next_chair, take_turn};
 
 /// How many turns each thread takes.
 const TURNS: u32 = 200;

@@ -1,7 +1,7 @@
 use Rattle.std.proofs.Common.{[], refl, ap, ◌∙◌}
 use Rattle.std.specs.Prelude.{option_map}
-use Rattle.run_options.specs.Logs.{log_wish_of}
-use Rattle.run_options.specs.Options.{live_ask_of}
+use Rattle.run_values.specs.Logs.{log_wish_of}
+use Rattle.run_values.specs.Options.{live_ask_of}
 use Rattle.table_core.proofs.Known.{if_known}
 use Rattle.answer_command.proofs.ServeLemmas.{log_refused, serves}
 use Rattle.answer_command.specs.Inputs.{live_input_of}

@@ -6,8 +6,8 @@ use Rattle.command_words.specs.Arguments.{AsksFor}
 use Rattle.command_words.specs.QuoteWishes.{quote_wish_of}
 use Rattle.command_words.specs.Wishes.{Wish, Audits, Prices, Quotes, Replays, Runs, RunsInto}
 use Rattle.rating.specs.SaidOf.{rate_wish_of as rate_wish_of}
-use Rattle.run_options.specs.Logs.{log_wish_of}
-use Rattle.run_options.specs.Options.{ask_of, live_ask_of}
+use Rattle.run_values.specs.Logs.{log_wish_of}
+use Rattle.run_values.specs.Options.{ask_of, live_ask_of}
 use Rattle.table_commands.specs.Answers.{price_of_input, printout_of_audit, replay_of_input}
 use Rattle.table_commands.specs.Printouts.{plain}
 use Rattle.prepaid.specs.Printouts.{printout_of}

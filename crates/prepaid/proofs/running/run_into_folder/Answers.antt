@@ -1,7 +1,7 @@
 use Rattle.std.proofs.Common.{ℕ, List, Err, subst}
 use Rattle.run_command.specs.Tables.{IsTablesAnswer}
 use Rattle.run_outputs.specs.Texts.{tables_said}
-use Rattle.run_options.specs.Options.{ask_of}
+use Rattle.run_values.specs.Options.{ask_of}
 use Rattle.prepaid.specs.Printouts.{printout_of}
 use Rattle.prepaid.proofs.RunLemmas.{failed, taken}
 use Rattle.prepaid.proofs.running.run_into_folder.Goals as goal

@@ -4,7 +4,7 @@ use Rattle.std.specs.Prelude.{IfErr}
 use Rattle.run_command.proofs.Jobbing.{all_in_order, all_played, written}
 use Rattle.run_command.specs.Answers.{MayFail}
 use Rattle.run_command.specs.declared.jobs.Job.{Job}
-use Rattle.run_options.specs.Options.{ask_of}
+use Rattle.run_values.specs.Options.{ask_of}
 use Rattle.run_command.proofs.jobs.play_all.Goals as goal
 
 pub play_jobs-requires-after_bounds : goal.play_jobs-requires-after_bounds

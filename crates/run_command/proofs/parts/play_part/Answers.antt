@@ -1,5 +1,5 @@
 use Rattle.run_command.proofs.Parting.{kept_part}
-use Rattle.run_options.specs.Options.{ask_of}
+use Rattle.run_values.specs.Options.{ask_of}
 use Rattle.run_command.proofs.parts.play_part.Goals as goal
 
 pub returns-clause-part : goal.returns-clause-part

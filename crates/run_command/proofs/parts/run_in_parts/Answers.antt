@@ -1,5 +1,5 @@
 use Rattle.run_command.proofs.Parting.{in_parts}
-use Rattle.run_options.specs.Options.{ask_of}
+use Rattle.run_values.specs.Options.{ask_of}
 use Rattle.run_command.proofs.parts.run_in_parts.Goals as goal
 
 pub returns-clause-ran : goal.returns-clause-ran

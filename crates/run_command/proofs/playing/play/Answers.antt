@@ -1,7 +1,7 @@
 use Rattle.std.proofs.Common.{◌∙◌, ◌++◌, List, [], ap, refl}
 use Rattle.run_command.proofs.ListenLemmas.{counts_heard, keeps_heard, listener_hears, player_hears}
 use Rattle.run_command.proofs.PlayLemmas.{given_by, played_as, rounds_of}
-use Rattle.run_options.specs.Options.{ask_of}
+use Rattle.run_values.specs.Options.{ask_of}
 use Rattle.run_values.specs.declared.post.Answer.{Answer}
 use Rattle.runs_core.specs.Hearing.{all_heard}
 use Rattle.script_player.specs.Plays.{Play}

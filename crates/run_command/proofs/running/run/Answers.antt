@@ -1,6 +1,6 @@
 use Rattle.std.proofs.Common.{◌∙◌, sym}
 use Rattle.run_command.proofs.Answering.{parts_answer, whole_answers}
-use Rattle.run_options.specs.Options.{ask_of}
+use Rattle.run_values.specs.Options.{ask_of}
 use Rattle.run_command.proofs.running.run.Goals as goal
 
 pub returns-in-None : goal.returns-in-None

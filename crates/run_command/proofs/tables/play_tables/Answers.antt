@@ -1,5 +1,5 @@
 use Rattle.run_command.proofs.Tabling.{tables_of_play}
-use Rattle.run_options.specs.Options.{ask_of}
+use Rattle.run_values.specs.Options.{ask_of}
 use Rattle.run_command.proofs.tables.play_tables.Goals as goal
 
 pub returns-clause-tables : goal.returns-clause-tables

@@ -1,5 +1,5 @@
 use Rattle.run_command.proofs.Answering.{tables_answer}
-use Rattle.run_options.specs.Options.{ask_of}
+use Rattle.run_values.specs.Options.{ask_of}
 use Rattle.run_command.proofs.tables.run_tables.Goals as goal
 
 pub returns : goal.returns

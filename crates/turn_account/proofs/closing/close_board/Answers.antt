@@ -2,12 +2,12 @@ use Rattle.std.proofs.Common.{◌≡◌, List, length, map, sym, ◌∙◌, subs
 use Rattle.std.specs.Prelude.{◌<◌, ◌==◌, All}
 use Rattle.account_core.specs.Ledger.{Ledger}
 use Rattle.shared_account.specs.Closed.{Closed, IsBookOf}
-use Rattle.turn_board.specs.Ended.{HaveEnded}
+use Rattle.turn_account.specs.Ended.{HaveEnded}
 use Rattle.shared_account.specs.Prefixes.{IsPrefix}
 use Rattle.shared_account.specs.Seats.{are_all, are_numbered}
 use Rattle.turn_account.specs.Seen.{IsOpenedAs}
 use Rattle.turn_account.specs.TurnViews.{TurnSeatView, own_of}
-use Rattle.turn_board.specs.Views.{unopened}
+use Rattle.turn_account.specs.Views.{unopened}
 use Rattle.turn_account.proofs.Ending.{each_closed, merged_closed}
 use Rattle.shared_account.proofs.Numbering.{first_by}
 use Rattle.turn_account.proofs.closing.close_board.Goals as goal

@@ -2,7 +2,7 @@ use Rattle.std.proofs.Common.{◌≡◌, ◌∷◌, ◌++◌, [], List, length, 
 use Rattle.std.proofs.lemmas.List.{length-map}
 use Rattle.shared_account.specs.Seats.{are_numbered}
 use Rattle.turn_account.specs.TurnViews.{TurnSeatView}
-use Rattle.turn_board.specs.declared.board.View.{View}
+use Rattle.turn_account.specs.declared.board.View.{View}
 use Rattle.turn_account.proofs.Ending.{numbered_last}
 use Rattle.turn_account.proofs.closing.gather.Goals as goal
 

@@ -1,6 +1,6 @@
 use Rattle.std.proofs.Common.{◌≡◌, ◌∷◌, []}
 use Rattle.turn_account.specs.TurnViews.{fresh_turn_seats}
-use Rattle.turn_board.specs.Views.{first_view}
+use Rattle.turn_account.specs.Views.{first_view}
 use Rattle.turn_account.proofs.seat.make_seats.Given as goal
 
 abbrev pub invariant-loop-number : goal.invariant-loop-number

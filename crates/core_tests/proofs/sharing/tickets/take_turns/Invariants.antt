@@ -1,5 +1,5 @@
 use Rattle.std.proofs.Common.{◌≡◌, []}
-use Rattle.turn_board.specs.declared.board.Stage.TheVariants.{Idles}
+use Rattle.turn_account.specs.declared.board.Stage.TheVariants.{Idles}
 use Rattle.core_tests.proofs.sharing.tickets.take_turns.Given as goal
 
 -- between two turns the chair rests

@@ -3,7 +3,7 @@ use Rattle.std.specs.Prelude.{MatchResult}
 use Rattle.account_core.specs.Entries.{EntryData, asked_of}
 use Rattle.account_core.specs.Ledger.{entry_by}
 use Rattle.shared_account.specs.Own.{own}
-use Rattle.turn_board.specs.Plays.{Sitter}
+use Rattle.turn_account.specs.Plays.{Sitter}
 use Rattle.shared_account.specs.Prefixes.{IsPrefix}
 use Rattle.turn_account.specs.TurnViews.{TurnSeatView, own_of}
 use Rattle.turn_account.proofs.Calls.{HasGone, gone, owns, sits}

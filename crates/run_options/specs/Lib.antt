@@ -1,3 +1,0 @@
-pub mod Configs
-pub mod Logs
-pub mod Options

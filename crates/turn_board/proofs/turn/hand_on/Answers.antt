@@ -1,6 +1,0 @@
-use Rattle.std.proofs.Common.{rules}
-use Rattle.turn_board.proofs.Turning.{hands}
-use Rattle.turn_board.proofs.turn.hand_on.Goals as goal
-
-pub fetch_add-requires : goal.fetch_add-requires
-fetch_add-requires c = (search rules, search rules, hands _ _ _ _ c.requires.serving c.requires.hands)

@@ -1,5 +1,0 @@
-use Rattle.turn_board.proofs.Seating.{numbers}
-use Rattle.turn_board.proofs.turn.next_chair.Goals as goal
-
-pub split_seat-requires : goal.split_seat-requires
-split_seat-requires c = (c.requires.table, c.requires.words, numbers _ _ _ c.requires.idle c.requires.number c.requires.few)

@@ -1,5 +1,0 @@
-pub mod Boards
-pub mod Ended
-pub mod Plays
-pub mod Turns
-pub mod Views
