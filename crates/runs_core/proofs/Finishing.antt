@@ -16,7 +16,7 @@ use Rattle.workers_core.specs.Workers.{number_by}
 use Rattle.runs_core.specs.Sending.{AreLeftBy, ArePromised, IsFirstFault, IsLeftBy, IsPromised, MayBeShut, heard_by, promises_of, sent_by}
 use Rattle.runs_core.specs.Teams.{IsLeft, terms_of, terms_with}
 use Rattle.runs_core.specs.declared.worker_link.WorkerLink.{WorkerLink}
-use Rattle.runs_core.specs.declared.worker_link.WorkerPromise.{WorkerPromise}
+use Rattle.runs_core.specs.declared.promise.WorkerPromise.{WorkerPromise}
 use Rattle.run_values.specs.declared.run_fault.RunFault.{RunFault}
 use Rattle.run_values.specs.declared.run_fault.RunFault.TheVariants as out
 

@@ -5,7 +5,7 @@ use Rattle.shared_account.specs.Refusals.{Knowing}
 use Rattle.shared_account.specs.Seats.{Reads}
 use Rattle.runs_core.specs.Teams.{IsLeft}
 use Rattle.runs_core.specs.declared.worker_link.WorkerLink.{WorkerLink}
-use Rattle.runs_core.specs.declared.worker_link.WorkerPromise.{WorkerPromise}
+use Rattle.runs_core.specs.declared.promise.WorkerPromise.{WorkerPromise}
 use Rattle.run_values.specs.declared.run_fault.RunFault.{RunFault}
 use Rattle.run_values.specs.declared.run_fault.RunFault.TheVariants as out
 use Rattle.workers_core.specs.Ends.{sent, taken}

@@ -5,6 +5,7 @@
 mod crew;
 mod laws;
 mod opened;
+mod promise;
 mod rounds;
 mod serving;
 mod shares;

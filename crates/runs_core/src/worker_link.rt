@@ -14,12 +14,13 @@ ghost use Rattle.run_values.specs.declared.post.Answer.{Answer};
 ghost use Rattle.workers_core.specs.declared.mailboxes.Mail.TheVariants as mail;
 
 use crate::crew::answer_all;
+use crate::promise::{Desk, WorkerPromise};
 use run_values::{Answer, Post, RunFault, RunSetup};
 use shared_account::{Gate, Shared};
 use std::alloc::{AllocError, Global};
 use std::snapshot::Snapshot;
 use std::sync::Wait;
-use std::thread::{Promise, PromisedHandle, Scope, Threads};
+use std::thread::{PromisedHandle, Scope, Threads};
 use workers_core::{Gone, Inbox, Mail, Outbox, Worker, compare_ends, mailbox};
 
 /// How many mails wait in a mailbox at most: those of one round, and the last one.
@@ -35,9 +36,9 @@ pub(crate) struct WorkerLink<'s, S: Shared, G: Gate> {
     pub inbox: Inbox<Vec<Answer>>,
     /// Whether the answers to a round are on their way.
     pub awaits: bool,
-    pub child: PromisedHandle<Result<Finished<S>, RunFault>, WorkerPromise<'s, S, G>>,
-    pub ghost posts_paired: { ArePaired outbox child.promise.inbox.value },
-    pub ghost answers_paired: { ArePaired child.promise.outbox.value inbox },
+    pub child: PromisedHandle<Result<Desk<S>, RunFault>, WorkerPromise<'s, S, G>>,
+    pub ghost posts_paired: { ArePaired outbox child.promise.desk.value.inbox },
+    pub ghost answers_paired: { ArePaired child.promise.desk.value.outbox inbox },
 }
 
 /// Starts a worker in a thread of its own.
@@ -62,30 +63,30 @@ pub(crate) fn start<'s, 'e, S: Shared, R: Wait + Sync, G: Gate + Sync>(
     ensures fault { AsksNoGate result }
 {
     let ((outbox, posts), (answers, inbox)) = mailboxes(alloc)?;
+    let desk = Desk {
+        seats,
+        inbox: posts,
+        outbox: answers,
+    };
     let promise = WorkerPromise {
         number,
         setup,
         accounts,
         gate,
-        inbox: Snapshot::of(&posts),
-        outbox: Snapshot::of(&answers),
+        desk: Snapshot::of(&desk),
     };
-    let serve = move || -> Result<Finished<S>, RunFault>
+    let serve = move || -> Result<Desk<S>, RunFault>
         requires { (map (number_by S.terms) accounts.now ≡ keys_of setup.now.accounts)
-            × IsFresh S.reads (map S.key accounts.now) number seats.items
-            × (taken posts ≡ []) × (sent answers ≡ []) }
-        ensures { IfOk result (λ f. IsSameInbox posts f.inbox
-            × IsSameOutbox answers f.outbox
-            × (has_close (taken f.inbox) ≡ true)
+            × IsFresh S.reads (map S.key accounts.now) number desk.seats.items
+            × (taken desk.inbox ≡ []) × (sent desk.outbox ≡ []) }
+        ensures { IfOk result (λ left. IsSameInbox desk.inbox left.inbox
+            × IsSameOutbox desk.outbox left.outbox
+            × (has_close (taken left.inbox) ≡ true)
             × IsLeft S.reads S.was (map S.key accounts.entry.now)
-            setup.entry.now number (items_in (taken f.inbox))
-            (map answer_view (items_in (sent f.outbox))) f.seats.items)
+            setup.entry.now number (items_in (taken left.inbox))
+            (map answer_view (items_in (sent left.outbox))) left.seats.items)
             × MayAskGate (G.may_shut gate.entry.now) result }
-    {
-        work(
-            rt, alloc, number, setup, accounts, seats, posts, answers, gate,
-        )
-    };
+    { work(rt, alloc, number, setup, accounts, desk, gate) };
     match scope.spawn_with(promise, serve) {
         Ok(child) => Ok(WorkerLink {
             outbox,
@@ -177,7 +178,7 @@ impl<S: Shared, G: Gate> WorkerLink<'_, S, G> {
         let _ = outbox.send_mail(rt, Mail::Close);
         match child.join(rt) {
             Ok(finished) => {
-                let Finished {
+                let Desk {
                     seats,
                     inbox: posts,
                     outbox: answers,
@@ -229,30 +230,33 @@ fn take_last<R: Wait>(rt: &R, inbox: &mut Inbox<Vec<Answer>>) -> Result<(), RunF
     }
 }
 
-/// Handles a worker's posts up to the last mail, and gives back its seats and its ends, or a fault.
+/// Handles a worker's posts up to the last mail, and gives its desk back, or a fault.
 fn work<S: Shared, R: Wait, G: Gate>(
     rt: &R,
     alloc: Global,
     number: u32,
     setup: &RunSetup,
     accounts: &[S],
-    seats: Vec<S::Seat>,
-    mut inbox: Inbox<Vec<Post>>,
-    mut outbox: Outbox<Vec<Answer>>,
+    desk: Desk<S>,
     gate: &G,
-) -> Result<Finished<S>, RunFault>
+) -> Result<Desk<S>, RunFault>
     requires numbered { map (number_by S.terms) accounts.now ≡ keys_of setup.now.accounts }
-    requires fresh { IsFresh S.reads (map S.key accounts.now) number seats.items }
-    requires taken { taken inbox ≡ [] }
-    requires sent { sent outbox ≡ [] }
-    ensures inbox { IfOk result (λ finished. IsSameInbox inbox finished.inbox) }
-    ensures outbox { IfOk result (λ finished. IsSameOutbox outbox finished.outbox) }
-    ensures closed { IfOk result (λ finished. has_close (taken finished.inbox) ≡ true) }
-    ensures left { IfOk result (λ finished. IsLeft S.reads S.was
-        (map S.key accounts.now) setup.now number (items_in (taken finished.inbox))
-        (map answer_view (items_in (sent finished.outbox))) finished.seats.items) }
+    requires fresh { IsFresh S.reads (map S.key accounts.now) number desk.seats.items }
+    requires taken { taken desk.inbox ≡ [] }
+    requires sent { sent desk.outbox ≡ [] }
+    ensures inbox { IfOk result (λ left. IsSameInbox desk.inbox left.inbox) }
+    ensures outbox { IfOk result (λ left. IsSameOutbox desk.outbox left.outbox) }
+    ensures closed { IfOk result (λ left. has_close (taken left.inbox) ≡ true) }
+    ensures left { IfOk result (λ left. IsLeft S.reads S.was
+        (map S.key accounts.now) setup.now number (items_in (taken left.inbox))
+        (map answer_view (items_in (sent left.outbox))) left.seats.items) }
     ensures fault { MayAskGate (G.may_shut gate.now) result }
 {
+    let Desk {
+        seats,
+        mut inbox,
+        mut outbox,
+    } = desk;
     match serve_posts(
         rt,
         alloc,
@@ -264,7 +268,7 @@ fn work<S: Shared, R: Wait, G: Gate>(
         &mut outbox,
         gate,
     ) {
-        Ok(seats) => Ok(Finished {
+        Ok(seats) => Ok(Desk {
             seats,
             inbox,
             outbox,
@@ -358,43 +362,4 @@ fn answer_posts<S: Shared, R: Wait, G: Gate>(
         return Err(RunFault::Channel);
     };
     Ok(())
-}
-
-/// What a worker's thread gives back: a seat of each account, and its ends of the two mailboxes.
-#[derive(Drop)]
-pub(crate) struct Finished<S: Shared> {
-    pub seats: Vec<S::Seat>,
-    pub inbox: Inbox<Vec<Post>>,
-    pub outbox: Outbox<Vec<Answer>>,
-}
-
-/// What a worker's thread promises: it has handled just the posts that it took, up to a Close, its
-/// seats are those that it was given, with the entries of its posts, and it has sent the answers.
-#[derive(Drop)]
-pub(crate) struct WorkerPromise<'s, S: Shared, G: Gate> {
-    pub number: u32,
-    pub setup: &'s RunSetup,
-    pub accounts: &'s [S],
-    pub gate: &'s G,
-    pub inbox: Snapshot<Inbox<Vec<Post>>>,
-    pub outbox: Snapshot<Outbox<Vec<Answer>>>,
-}
-
-impl<'s, S: Shared, G: Gate> Promise<Result<Finished<S>, RunFault>> for WorkerPromise<'s, S, G> {
-    ghost use Rattle.std.specs.Prelude.{◌≡◌, ◌≢◌, true, map, IfOk, Err};
-    ghost use Rattle.runs_core.specs.Teams.{IsLeft};
-    ghost use Rattle.runs_core.specs.Mails.{items_in};
-    ghost use Rattle.run_values.specs.declared.run_fault.RunFault.TheVariants as out;
-    ghost use Rattle.workers_core.specs.Ends.{IsSameInbox, IsSameOutbox, sent, taken};
-    ghost use Rattle.workers_core.specs.Handled.{answer_view};
-    ghost use Rattle.workers_core.specs.Logs.{has_close};
-
-    ghost kept_by = { λ p r. IfOk r (λ f. IsSameInbox p.inbox.value f.inbox
-        × IsSameOutbox p.outbox.value f.outbox
-        × (has_close (taken f.inbox) ≡ true)
-        × IsLeft S.reads S.was (map S.key p.accounts.now)
-        p.setup.now p.number (items_in (taken f.inbox))
-        (map answer_view (items_in (sent f.outbox))) f.seats.items)
-        × (r ≡ Err out.GateClosed → G.may_shut p.gate.now)
-        × (r ≢ Err out.Workers) };
 }
