@@ -12,7 +12,7 @@ use csv::ByteRecord;
 use price_core::{DAY, HORIZON, TimeInfo};
 use run_texts::{account, amount, moment_field, party, until};
 use run_values::Body;
-use table_core::{RowKind, is_blank, number, optional};
+use table_core::{RowKind, field, is_blank, number, optional};
 
 /// A message of the switch of a call, or a recharge by the operator, and when.
 #[derive(Clone, Copy, Debug, PartialEq, Eq)]
@@ -37,7 +37,7 @@ pub(crate) fn read_message(row: &ByteRecord) -> Result<Message, RowKind>
     ensures in_range { IfOk result (λ message. message.at ≤ HORIZON) }
 {
     let word = read_word(row)?;
-    let at = moment_field(row, 0, HORIZON)?;
+    let at = moment_field(field(row, 0), HORIZON)?;
     let number = optional(row, 1, u64::MAX)?;
     let body = read_body(row, word)?;
     Ok(Message { at, number, body })
@@ -70,8 +70,8 @@ fn read_initial(row: &ByteRecord) -> Result<Body, RowKind>
     ensures { result_map_both speech_of (λ kind. kind) result ≡ initial_in (fields_of row.now) }
 {
     let call = read_call(row)?;
-    let calling = party(row, 5)?;
-    let called = party(row, 6)?;
+    let calling = party(field(row, 5))?;
+    let called = party(field(row, 6))?;
     let msg = SsfMsg::InitialDp {
         call,
         calling,
@@ -171,9 +171,9 @@ fn read_recharge(row: &ByteRecord) -> Result<Body, RowKind>
     ensures { result_map_both speech_of (λ kind. kind) result ≡ recharge_message_in
         (fields_of row.now) }
 {
-    let account = account(row, 5)?;
-    let amount = amount(row, 6)?;
-    let until = until(row, 7)?;
+    let account = account(field(row, 5))?;
+    let amount = amount(field(row, 6))?;
+    let until = until(field(row, 7))?;
     let recharge = Body::Recharge {
         account,
         amount,

@@ -8,12 +8,11 @@ use Rattle.std.proofs.lemmas.Bool.Decides.{nat_tests}
 use Rattle.std.proofs.lemmas.Str.{IsUtf8-from_ascii}
 use Rattle.std.proofs.lemmas.Bool.{and_parts}
 use Rattle.cap_values.specs.Numbers.{is_number}
-use Rattle.table_core.specs.Fields.{field_in}
 use Rattle.table_core.specs.declared.fault.RowKind.TheVariants as kind
 use Rattle.table_core.specs.Rows.{Fields}
 use Rattle.table_core.specs.Tables.{width_at}
 use Rattle.run_texts.specs.Scripts.{script_headers}
-use Rattle.run_texts.specs.Setups.{party_in, setup_headers}
+use Rattle.run_texts.specs.Setups.{party_in_field, setup_headers}
 
 digit_below : (c : ℕ) → is_ascii_digit c ≡ true → c < 128
 digit_below c digit = grind (arith, nat_tests)
@@ -29,8 +28,8 @@ by_test true text is not_text =
 by_test false text is not_text = refl
 
 -- what isn't text isn't the number of a party
-pub no_party : (fields : List (List ℕ)) (place : ℕ) → (IsUtf8 (field_in fields place) → ⊥) → Err kind.Number ≡ party_in fields place
-no_party fields place not_text = by_test _ (field_in fields place) refl not_text
+pub no_party : (field : List ℕ) → (IsUtf8 field → ⊥) → Err kind.Number ≡ party_in_field field
+no_party field not_text = by_test _ field refl not_text
 
 -- a row that is as wide as its header has the columns of the older one
 pub script_columns : (header : ℕ) (fields : Fields) → header < length script_headers → length fields ≡ width_at script_headers header → 5 ≤ length fields

@@ -1,19 +1,20 @@
 -- The meaning of a setup: its accounts and subscribers, or the first fault.
-use Rattle.std.specs.Prelude.{ℕ, Bool, List, [], ◌∷◌, length, Option, Result, Ok, Err, if◌then◌else◌, nat_le, codes}
+use Rattle.std.specs.Prelude.{ℕ, Bool, List, [], ◌∷◌, length, Option, Result, Ok, Err, if◌then◌else◌, nat_le, codes, ok_or}
 use Rattle.std.specs.BTreeMap.{insert_entry}
 use Rattle.std.specs.Cmp.Lexicographic.{slice_cmp}
 use Rattle.std.specs.List.{list_any}
 use Rattle.std.specs.Ordering.{nat_cmp}
 use Rattle.std.specs.Str.{bytes_eq}
 use Rattle.cap_values.specs.Numbers.{is_number}
-use Rattle.table_core.specs.Fields.{field_in, has_word, is_blank, number_in}
+use Rattle.table_core.specs.Decimals.{decimal_of}
+use Rattle.table_core.specs.Fields.{field_in, has_word, is_blank}
 use Rattle.table_core.specs.Judging.{and_then}
 use Rattle.table_core.specs.Rows.{Fields}
 use Rattle.table_core.specs.Tables.{TableForm, table_form, table_of}
 use Rattle.table_core.specs.declared.fault.RowFault.{RowFault}
 use Rattle.table_core.specs.declared.fault.RowKind.{RowKind}
 use Rattle.table_core.specs.declared.fault.RowKind.TheVariants as kind
-use Rattle.moment_texts.specs.Fields.{optional_moment_in}
+use Rattle.moment_texts.specs.Fields.{optional_moment_in_field}
 use Rattle.run_values.specs.Setups.{has_account}
 use Rattle.run_values.specs.declared.directory.OpeningCredit.{OpeningCredit}
 use Rattle.price_core.specs.declared.plan.TheConstants.{MAX_MONEY}
@@ -30,21 +31,34 @@ has_subscriber digits subscribers = list_any (λ other. bytes_eq other.0 digits)
 
 -- ---- fields
 
--- the number of a party in the field at a place: 1 to 15 digits
+-- the number of a party: 1 to 15 digits
+abbrev pub party_in_field : List ℕ → Result (List ℕ) RowKind
+party_in_field field = if is_number field then Ok field else Err kind.Number
+
+-- the number of an account
+abbrev pub account_in_field : List ℕ → Result ℕ RowKind
+account_in_field field = ok_or (decimal_of 4294967295 field) kind.Number
+
+-- money: 0 to 10^15
+abbrev pub amount_in_field : List ℕ → Result ℕ RowKind
+amount_in_field field = ok_or (decimal_of MAX_MONEY field) kind.Number
+
+-- a last moment, 0 to 10^12; none where the field is empty, or isn't there under the table's header
+abbrev pub until_in_field : List ℕ → Result (Option ℕ) RowKind
+until_in_field field = optional_moment_in_field MAX_MOMENT field
+
+-- each in the field at a place
 abbrev pub party_in : List (List ℕ) → ℕ → Result (List ℕ) RowKind
-party_in fields place = if is_number (field_in fields place) then Ok (field_in fields place) else Err kind.Number
+party_in fields place = party_in_field (field_in fields place)
 
--- the number of an account in the field at a place
 abbrev pub account_in : List (List ℕ) → ℕ → Result ℕ RowKind
-account_in fields place = number_in fields place 4294967295
+account_in fields place = account_in_field (field_in fields place)
 
--- the money in the field at a place: 0 to 10^15
 abbrev pub amount_in : List (List ℕ) → ℕ → Result ℕ RowKind
-amount_in fields place = number_in fields place MAX_MONEY
+amount_in fields place = amount_in_field (field_in fields place)
 
--- the last moment in the field at a place, 0 to 10^12; none where the field is empty, or isn't there under the table's header
 abbrev pub until_in : List (List ℕ) → ℕ → Result (Option ℕ) RowKind
-until_in fields place = optional_moment_in fields place MAX_MOMENT
+until_in fields place = until_in_field (field_in fields place)
 
 -- ---- rows; the fourth field is there under the second header alone, and empty elsewhere
 

@@ -10,7 +10,7 @@ ghost use Rattle.csv.specs.Records.{fields_of};
 ghost use Rattle.table_core.specs.Faults.{GivesTable};
 ghost use Rattle.table_core.specs.Rows.{rows_of};
 
-use crate::fields::{account, amount, is_left_out, moment_field, party, until};
+use crate::fields::{account, amount, is_left_out, last_field, moment_field, party, until};
 use cap_values::{Leg, Number};
 use csv::ByteRecord;
 use price_core::MAX_MOMENT;
@@ -19,7 +19,7 @@ use ssf_core::{BcsmEvent, Moment};
 use std::alloc::{AllocError, Global};
 use std::collections::BTreeSet;
 use std::io::Read;
-use table_core::{RowKind, Table, TableFault, has_word, is_blank, number};
+use table_core::{RowKind, Table, TableFault, field, has_word, is_blank, number};
 
 /// The most rows of a script, its header not counted.
 const MAX_ROWS: u32 = 1_000_000;
@@ -179,7 +179,7 @@ fn read_row(row: &ByteRecord) -> Result<ScriptRow, RowKind>
     ensures in_time { IfOk result (λ row. is_in_time (happens_of row.what) ≡ true) }
 {
     let word = read_word(row)?;
-    let at = moment_field(row, 0, MAX_MOMENT)?;
+    let at = moment_field(field(row, 0), MAX_MOMENT)?;
     let what = read_happening(row, word)?;
     Ok(ScriptRow { at, what })
 }
@@ -212,8 +212,8 @@ fn read_start(row: &ByteRecord) -> Result<Happening, RowKind>
     ensures in_time { IfOk result (λ what. is_in_time (happens_of what) ≡ true) }
 {
     let call = read_call(row)?;
-    let calling = party(row, 3)?;
-    let called = party(row, 4)?;
+    let calling = party(field(row, 3))?;
+    let called = party(field(row, 4))?;
     let start = Happening::Start {
         call,
         calling,
@@ -271,9 +271,9 @@ fn read_recharge(row: &ByteRecord) -> Result<Happening, RowKind>
         ≡ recharge_row_in (fields_of row.now) }
     ensures in_time { IfOk result (λ what. is_in_time (happens_of what) ≡ true) }
 {
-    let account = account(row, 3)?;
-    let amount = amount(row, 4)?;
-    let until = until(row, 5)?;
+    let account = account(field(row, 3))?;
+    let amount = amount(field(row, 4))?;
+    let until = until(last_field(row, 5))?;
     let recharge = Happening::Recharge {
         account,
         amount,

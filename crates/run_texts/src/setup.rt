@@ -10,12 +10,12 @@ ghost use Rattle.table_core.specs.Rows.{rows_of};
 ghost use Rattle.run_values.specs.Setups.{ListingIsWithin};
 ghost use Rattle.run_texts.specs.declared.setup.ListFault.TheVariants as out;
 
-use crate::fields::{account, amount, is_left_out, party, until};
+use crate::fields::{account, amount, is_left_out, last_field, party, until};
 use csv::ByteRecord;
 use run_values::{Directory, MAX_ACCOUNTS, OpeningCredit, SetupFault};
 use std::alloc::Global;
 use std::io::Read;
-use table_core::{RowKind, Table, TableFault, has_word};
+use table_core::{RowKind, Table, TableFault, field, has_word};
 
 /// The most rows of a setup, its header not counted.
 const MAX_ROWS: u32 = 10_000;
@@ -84,10 +84,10 @@ fn list_account(directory: &mut Directory, row: &ByteRecord) -> Result<(), ListF
     if directory.account_count() >= MAX_ACCOUNTS {
         return Err(ListFault::Row(RowKind::TooManyRows));
     }
-    let number = account(row, 1)?;
+    let number = account(field(row, 1))?;
     let opening = OpeningCredit {
-        amount: amount(row, 2)?,
-        until: until(row, 3)?,
+        amount: amount(field(row, 2))?,
+        until: until(last_field(row, 3))?,
     };
     directory.account(number, opening)?;
     Ok(())
@@ -102,8 +102,8 @@ fn list_subscriber(directory: &mut Directory, row: &ByteRecord) -> Result<(), Li
     ensures count { OnOk result (length directory.new.accounts + length directory.new.subscribers
         ≡ length directory.old.accounts + length directory.old.subscribers + 1) }
 {
-    let number = party(row, 1)?;
-    let account = account(row, 2)?;
+    let number = party(field(row, 1))?;
+    let account = account(field(row, 2))?;
     if !is_left_out(row, 3) {
         return Err(ListFault::Row(RowKind::Empty));
     }
