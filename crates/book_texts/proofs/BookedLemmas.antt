@@ -8,7 +8,7 @@ use Rattle.std.specs.Prelude.{◌==◌, IsSome, if◌then◌else◌}
 use Rattle.std.specs.declared.cmp.Ordering.{Ordering}
 use Rattle.std.specs.declared.cmp.Ordering.TheVariants as order
 use Rattle.account_core.specs.Entries.{EntryData}
-use Rattle.entry_rows.specs.Versions.{version_at}
+use Rattle.book_texts.specs.Versions.{version_at}
 use Rattle.table_core.specs.Rows.{Fields}
 use Rattle.table_core.specs.declared.fault.RowKind.{RowKind}
 use Rattle.table_core.proofs.TableLemmas.{table_keeps}

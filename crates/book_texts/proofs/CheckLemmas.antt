@@ -1,5 +1,5 @@
 -- The checks follow the books, row after row.
-use Rattle.std.proofs.Common.{◌≡◌, ◌<◌, ℕ, zero, suc, ◌+◌, length, arith, Bool, true, false, cond, List, [], ◌∷◌, ◌++◌, Option, Some, None, Result, Ok, Err, reverse, refl, sym, ap, subst, ◌∙◌, append-nil}
+use Rattle.std.proofs.Common.{◌≡◌, ℕ, ◌+◌, length, arith, Bool, true, false, cond, List, [], ◌∷◌, ◌++◌, Option, Some, None, Result, Ok, Err, reverse, refl, sym, ap, subst, ◌∙◌, append-nil}
 use Rattle.csv.specs.Records.{fields_of}
 use Rattle.std.specs.BTreeMap.{insert_entry}
 use Rattle.std.specs.Map.{lookup, set_value}
@@ -18,15 +18,14 @@ use Rattle.table_core.specs.Faults.{RefusesTable}
 use Rattle.table_core.specs.Judging.{and_then as after_row}
 use Rattle.table_core.specs.Reading.{IsNextRow, Opens as OpensTable, StepsRow}
 use Rattle.table_core.specs.Rows.{Fields, rows_of}
-use Rattle.table_core.specs.Tables.{width_at}
 use Rattle.table_core.specs.declared.fault.RowFault.{RowFault}
 use Rattle.table_core.specs.declared.fault.RowKind.{RowKind}
 use Rattle.table_core.specs.declared.fault.TableFault.{TableFault}
 use Rattle.table_core.specs.declared.table.Table.{Table}
 use Rattle.table_core.proofs.Known.{map_known}
-use Rattle.entry_rows.specs.Versions.{version_at}
+use Rattle.book_texts.specs.Versions.{version_at}
 use Rattle.book_texts.specs.Audits.{AreVerdicts, GivesAuditOf, IsSaidOfBooks}
-use Rattle.book_texts.specs.BookRows.{Enters, HasBookColumns, Opens, RowSaid, columns_in, row_said_in}
+use Rattle.book_texts.specs.BookRows.{Enters, Opens, RowSaid, columns_in, row_said_in}
 use Rattle.book_texts.specs.Books.{Books, Booked, books_form, books_headers, books_of, entered_in_books, judged_books, opened, book_row_at, account_so_far, books_with_entry, with_opening}
 use Rattle.book_texts.specs.Checks.{AreChecks, AreNoted, HaveVerdicts, Comes, GivesChecks, HaveChecks, HearsBy, IsOrdered, HasItsVerdict, ListComes, NotesEntry, audited_by, checks_by_account, verdicts_of, wrong_of}
 use Rattle.book_texts.specs.declared.account_checks.AccountChecks.{AccountChecks}
@@ -136,16 +135,6 @@ list_comes before None (Ok books) checks are ordered = (are, ordered)
 list_comes before None (Err why) checks are ordered = are
 list_comes before (Some kind) (Ok books) checks are ordered = are
 list_comes before (Some kind) (Err why) checks are ordered = (are.0, (are.1, ordered))
-
--- a row that is as wide as its header has the columns of the header's version
-pub has_columns : (header : ℕ) (fields : Fields) → header < length books_headers → length fields ≡ width_at books_headers header
-    → HasBookColumns (version_at header) fields
-has_columns zero fields one wide = ((omega (arith, wide), λ later. absurd (later refl), λ later. absurd (later refl), λ four. cc), omega (arith, wide))
-has_columns (suc zero) fields one wide = ((omega (arith, wide), λ two. omega (arith, wide), λ later other. absurd (other refl), λ four. cc), omega (arith, wide))
-has_columns (suc (suc zero)) fields one wide = ((omega (arith, wide), λ two. omega (arith, wide), λ later other. omega (arith, wide), λ four. cc), omega (arith, wide))
-has_columns (suc (suc (suc zero))) fields one wide =
-    ((omega (arith, wide), λ two. omega (arith, wide), λ later other. omega (arith, wide), λ four. omega (arith, wide)), omega (arith, wide))
-has_columns (suc (suc (suc (suc header)))) fields one wide = absurd (omega (arith, one))
 
 -- a fault that the table's reader passes on is that of the meaning
 pub fault_booked : (most : ℕ) (known : Option (List ℕ)) (answer : Result Checked TableFault) (why : TableFault) (P : List ℕ → Type 0) (meaning : List ℕ → Result Books RowFault)

@@ -1,15 +1,15 @@
 -- What a row of the table of books says.
-use Rattle.std.specs.Prelude.{◌&&◌, ◌<◌, ◌+◌, ℕ, Bool, List, Option, length, Result, Ok, Err, codes, if◌then◌else◌}
+use Rattle.std.specs.Prelude.{◌&&◌, ◌+◌, ℕ, Bool, List, Option, Result, Ok, Err, codes, if◌then◌else◌}
 use Rattle.std.specs.Str.{bytes_eq}
 use Rattle.account_core.specs.Entries.{EntryData}
-use Rattle.entry_rows.specs.Column.{is_empty_column, money_of, number_column, seat_of}
-use Rattle.entry_rows.specs.Columns.{Answer, HasOperation, Operation, answer_at, operation_at}
-use Rattle.entry_rows.specs.Operations.{asked_in, is_asked_blank, is_money_blank, until_of}
-use Rattle.entry_rows.specs.Replies.{is_reply_blank, reply_in}
-use Rattle.entry_rows.specs.Versions.{operation_width}
-use Rattle.entry_rows.specs.Words.{op_word_in, reply_word_in}
-use Rattle.entry_rows.specs.declared.version.Version.{Version}
-use Rattle.table_core.specs.Fields.{field_in}
+use Rattle.book_texts.specs.Column.{money_of, seat_of}
+use Rattle.book_texts.specs.Columns.{Answer, Operation, answer_at, operation_at}
+use Rattle.book_texts.specs.Operations.{asked_in, is_asked_blank, is_money_blank, until_of}
+use Rattle.book_texts.specs.Replies.{is_reply_blank, reply_in}
+use Rattle.book_texts.specs.Versions.{operation_width}
+use Rattle.book_texts.specs.Words.{op_word_in, reply_word_in}
+use Rattle.book_texts.specs.declared.version.Version.{Version}
+use Rattle.table_core.specs.Fields.{field_in, is_empty_field, number_in_field}
 use Rattle.table_core.specs.Judging.{and_then}
 use Rattle.table_core.specs.declared.fault.RowKind.{RowKind}
 use Rattle.table_core.specs.declared.fault.RowKind.TheVariants as kind
@@ -24,10 +24,6 @@ pub record Columns : Type 0 where
 -- the place of the reply, behind the operation
 abbrev pub reply_place : Version → ℕ
 reply_place version = 2 + operation_width version
-
--- a row has these columns
-abbrev pub HasBookColumns : Version → List (List ℕ) → Type 0
-HasBookColumns version fields = HasOperation version fields 2 × (reply_place version + 3 < length fields)
 
 -- the fields of a row by the columns of its version
 abbrev pub columns_in : Version → List (List ℕ) → Columns
@@ -49,7 +45,7 @@ book_when_blank blank said = if blank then Ok said else Err kind.Empty
 
 -- the number of an account
 abbrev pub book_account_in : List ℕ → Result ℕ RowKind
-book_account_in text = number_column 4294967295 text
+book_account_in text = number_in_field 4294967295 text
 
 -- ---- openings
 
@@ -59,11 +55,11 @@ is_opening columns = bytes_eq columns.operation.op (codes "opening")
 
 -- the fields of the reply are empty
 abbrev pub is_no_answer : Answer → Bool
-is_no_answer a = is_empty_column a.reply && is_empty_column a.y1 && is_empty_column a.y2 && is_empty_column a.y3
+is_no_answer a = is_empty_field a.reply && is_empty_field a.y1 && is_empty_field a.y2 && is_empty_field a.y3
 
 -- all but the account, the word, x1 and, in version 3, x2 is empty; the reply is not read as a word
 abbrev pub is_opening_blank : Columns → Bool
-is_opening_blank columns = is_empty_column columns.seat && is_money_blank columns.operation && is_no_answer columns.answer
+is_opening_blank columns = is_empty_field columns.seat && is_money_blank columns.operation && is_no_answer columns.answer
 
 -- x1 of an opening is the credit, and x2 its last moment
 unfoldable pub opening_in : Columns → Result RowSaid RowKind

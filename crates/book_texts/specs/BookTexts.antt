@@ -6,13 +6,14 @@ use Rattle.account_core.specs.Asked.{Asked, Reserves}
 use Rattle.account_core.specs.Entries.{EntryData}
 use Rattle.price_core.specs.Rates.{has_steps}
 use Rattle.shared_account.specs.Closed.{Closed}
-use Rattle.entry_rows.specs.Columns.{Answer, Operation, reply_fields, answer_text, field, no_answer, opening_columns, operation_of, operation_text}
-use Rattle.entry_rows.specs.declared.version.Version.{Version}
-use Rattle.entry_rows.specs.declared.version.Version.TheVariants as version
+use Rattle.book_texts.specs.Columns.{Answer, Operation, reply_fields, answer_text, no_answer, opening_columns, operation_of, operation_text}
+use Rattle.book_texts.specs.declared.version.Version.{Version}
+use Rattle.book_texts.specs.declared.version.Version.TheVariants as version
+use Rattle.table_core.specs.Fields.{field_then}
 
 -- a row: the account's number, the seat, what was asked and what was answered
 abbrev pub book_row : ℕ → List ℕ → Operation → Answer → List ℕ
-book_row account seat operation answer = field (decimal account) (field seat (operation_text operation ++ answer_text answer))
+book_row account seat operation answer = field_then (decimal account) (field_then seat (operation_text operation ++ answer_text answer))
 
 -- the row that opens an account
 abbrev pub opening_row : Version → Closed → List ℕ

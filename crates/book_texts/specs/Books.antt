@@ -4,8 +4,8 @@ use Rattle.std.specs.BTreeMap.{insert_entry, is_at}
 use Rattle.std.specs.Map.{lookup, set_value}
 use Rattle.std.specs.Ordering.{nat_cmp}
 use Rattle.account_core.specs.Entries.{EntryData}
-use Rattle.entry_rows.specs.Versions.{version_at}
-use Rattle.entry_rows.specs.declared.version.Version.{Version}
+use Rattle.book_texts.specs.Versions.{version_at}
+use Rattle.book_texts.specs.declared.version.Version.{Version}
 use Rattle.table_core.specs.Judging.{and_then}
 use Rattle.table_core.specs.Tables.{TableForm, table_form, table_of}
 use Rattle.table_core.specs.declared.fault.RowFault.{RowFault}

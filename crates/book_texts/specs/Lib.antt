@@ -3,8 +3,16 @@ pub mod BookRows
 pub mod BookTexts
 pub mod Books
 pub mod Checks
+pub mod Column
+pub mod Columns
+pub mod Fits
+pub mod Operations
+pub mod Replies
+pub mod Responses
 pub mod RunTexts
 pub mod SaidOf
 pub mod Sizes
 pub mod Typed
+pub mod Versions
+pub mod Words
 pub mod Wrongs

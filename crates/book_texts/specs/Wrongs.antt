@@ -4,7 +4,7 @@ use Rattle.std.specs.Fmt.{decimal}
 use Rattle.account_core.specs.Answers.{IsLegal}
 use Rattle.account_core.specs.Entries.{entry_data}
 use Rattle.account_core.specs.Wrong.{IsWrong}
-use Rattle.entry_rows.specs.Responses.{reply_text, response_text, operation_word}
+use Rattle.book_texts.specs.Responses.{reply_text, response_text, operation_word}
 use Rattle.table_core.specs.Rows.{Fields}
 use Rattle.book_texts.specs.Books.{Books, Booked, books_of, account_so_far, books_with_entry}
 use Rattle.book_texts.specs.declared.wrong_row.WrongRow.{WrongRow}

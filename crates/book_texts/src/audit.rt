@@ -4,7 +4,7 @@ ghost use Rattle.std.specs.Prelude.{◌≡◌, ◌++◌, ℕ, List, IfOk, IfSome
 ghost use Rattle.std.specs.Result.{result_map_both};
 ghost use Rattle.account_core.specs.Entries.{entry_data};
 ghost use Rattle.book_texts.specs.Audits.{AreVerdicts, GivesAudit, IsSummedUp, audited, verdict_lines, yes_or_no};
-ghost use Rattle.book_texts.specs.BookRows.{Enters, HasBookColumns, columns_in, row_said_in};
+ghost use Rattle.book_texts.specs.BookRows.{Enters, columns_in, row_said_in};
 ghost use Rattle.book_texts.specs.Books.{Books, books_of, entered_in_books, book_row_at, account_so_far};
 ghost use Rattle.book_texts.specs.Checks.{AreChecks, AreNoted, Comes, GivesChecks, HaveChecks, audited_by, verdicts_of};
 ghost use Rattle.book_texts.specs.RunTexts.{account_text, call_line_of};
@@ -16,10 +16,9 @@ use crate::account_checks::AccountChecks;
 use crate::book_row::{BookRow, read_row};
 use crate::lines::{CallLine, add_calls, write_account, write_in_order};
 use crate::wrong_row::{WrongRow, write_wrong};
-use crate::{AuditAsk, BookSize};
+use crate::{AuditAsk, BookSize, Version};
 use account_core::{AccountSum, Entry, HistoryCheck};
 use csv::ByteRecord;
-use entry_rows::Version;
 use rising_map::RisingMap;
 use std::alloc::{AllocError, Global};
 use std::io::Read;
@@ -214,8 +213,7 @@ fn take_row(
     version: Version,
     number: u32,
 ) -> Result<Option<RowKind>, AllocError>
-    requires fields { HasBookColumns version (fields_of row.now) }
-    requires have { (books : Books) × HaveChecks books checks.old }
+    requires { (books : Books) × HaveChecks books checks.old }
     ensures comes { IfOk result (λ refused. (books : Books) → HaveChecks books checks.old
         → Comes books refused (book_row_at version books (fields_of row.now)) checks.new) }
     ensures noted { IfOk result (λ refused. (books : Books) → HaveChecks books checks.old

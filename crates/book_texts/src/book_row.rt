@@ -1,19 +1,19 @@
 //! A row of the table of books.
 
-ghost use Rattle.std.specs.Prelude.{◌≡◌, ◌≤◌, ◌<◌, ◌+◌, IfOk, length};
+ghost use Rattle.std.specs.Prelude.{◌≡◌, ◌≤◌, IfOk};
 ghost use Rattle.std.specs.Result.{result_map_both};
 ghost use Rattle.csv.specs.Records.{fields_of};
 ghost use Rattle.table_core.specs.Fields.{field_in};
-ghost use Rattle.entry_rows.specs.Columns.{answer_at};
-ghost use Rattle.book_texts.specs.BookRows.{HasBookColumns, book_account_in, columns_in, entry_in, is_no_answer, is_opening_blank, opening_in, reply_place, row_said_in};
+ghost use Rattle.book_texts.specs.Columns.{answer_at};
+ghost use Rattle.book_texts.specs.BookRows.{book_account_in, columns_in, entry_in, is_no_answer, is_opening_blank, opening_in, reply_place, row_said_in};
 ghost use Rattle.book_texts.specs.SaidOf.{IsAffordable, row_said_of};
 
+use crate::operation::{is_money_blank, read_until};
+use crate::reply::{is_reply_blank, read_reply};
+use crate::words::read_reply_word;
+use crate::{Version, is_op_blank, read_op, read_op_word, read_seat};
 use account_core::Entry;
 use csv::ByteRecord;
-use entry_rows::{
-    Version, is_money_blank, is_op_blank, is_reply_blank, read_op, read_op_word, read_reply,
-    read_reply_word, read_seat, read_until,
-};
 use price_core::MAX_MONEY;
 use table_core::{RowKind, has_word, is_blank, number};
 
@@ -49,7 +49,6 @@ pub(crate) enum BookRow {
 
 /// What a row of a table of this version says, wherever it is.
 pub(crate) fn read_row(row: &ByteRecord, version: Version) -> Result<BookRow, RowKind>
-    requires { HasBookColumns version (fields_of row.now) }
     ensures says { result_map_both row_said_of (λ kind. kind) result
         ≡ row_said_in (columns_in version (fields_of row.now)) }
     ensures affordable { IfOk result IsAffordable }
@@ -63,7 +62,6 @@ pub(crate) fn read_row(row: &ByteRecord, version: Version) -> Result<BookRow, Ro
 
 #[tactic(auto, unfolding(crate::specs::BookRows::opening_in))]
 fn read_opening(row: &ByteRecord, version: Version) -> Result<BookRow, RowKind>
-    requires { HasBookColumns version (fields_of row.now) }
     ensures says { result_map_both row_said_of (λ kind. kind) result
         ≡ opening_in (columns_in version (fields_of row.now)) }
     ensures affordable { IfOk result IsAffordable }
@@ -83,7 +81,6 @@ fn read_opening(row: &ByteRecord, version: Version) -> Result<BookRow, RowKind>
 
 #[tactic(auto, unfolding(crate::specs::BookRows::entry_in))]
 fn read_entry(row: &ByteRecord, version: Version) -> Result<BookRow, RowKind>
-    requires { HasBookColumns version (fields_of row.now) }
     ensures says { result_map_both row_said_of (λ kind. kind) result
         ≡ entry_in (columns_in version (fields_of row.now)) }
     ensures affordable { IfOk result IsAffordable }
@@ -103,7 +100,6 @@ fn read_entry(row: &ByteRecord, version: Version) -> Result<BookRow, RowKind>
 }
 
 fn read_account(row: &ByteRecord) -> Result<u32, RowKind>
-    requires { 0 < length (fields_of row.now) }
     ensures { result ≡ book_account_in (field_in (fields_of row.now) 0) }
 {
     let account = number(row, ACCOUNT, u64::from(u32::MAX))?;
@@ -112,7 +108,6 @@ fn read_account(row: &ByteRecord) -> Result<u32, RowKind>
 
 /// Whether all but the account, the word, the credit and its last moment is empty.
 fn is_opening_blank(row: &ByteRecord, version: Version) -> bool
-    requires { HasBookColumns version (fields_of row.now) }
     ensures { result ≡ is_opening_blank (columns_in version (fields_of row.now)) }
 {
     is_blank(row, SEAT)
@@ -122,8 +117,7 @@ fn is_opening_blank(row: &ByteRecord, version: Version) -> bool
 
 /// Whether a reply is empty whose columns begin at `at`.
 fn has_no_answer(row: &ByteRecord, at: usize) -> bool
-    requires table { at ≤ 16 }
-    requires fields { at + 3 < length (fields_of row.now) }
+    requires { at ≤ 16 }
     ensures { result ≡ is_no_answer (answer_at (fields_of row.now) at) }
 {
     is_blank(row, at) && is_blank(row, at + 1) && is_blank(row, at + 2) && is_blank(row, at + 3)

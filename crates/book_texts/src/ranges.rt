@@ -3,7 +3,7 @@
 
 ghost use Rattle.account_core.specs.Entries.{asked_of};
 ghost use Rattle.price_core.specs.RatesOf.{rates_of};
-ghost use Rattle.entry_rows.specs.Fits.{FitsPlan};
+ghost use Rattle.book_texts.specs.Fits.{FitsPlan};
 ghost use Rattle.book_texts.specs.Typed.{IsTypedAsked};
 
 use account_core::Op;

@@ -3,8 +3,8 @@
 ghost use Rattle.std.specs.Prelude.{◌≡◌, ◌++◌, OnOk, string_bytes};
 ghost use Rattle.book_texts.specs.Wrongs.{wrong_line};
 
+use crate::response::{op_word, write_reply, write_response};
 use account_core::{AccountFault, Entry, Reply};
-use entry_rows::{op_word, write_reply, write_response};
 use std::alloc::AllocError;
 
 /// The first row of an account whose reply isn't what an account answers.

@@ -3,7 +3,6 @@ use Rattle.std.specs.Prelude.{◌≡◌, ℕ, List, [], ◌++◌, codes, unwrap_
 use Rattle.std.specs.Fmt.{decimal}
 use Rattle.std.specs.List.{flat_map}
 use Rattle.cap_values.specs.NumberDigits.{digits_of_number}
-use Rattle.entry_rows.specs.Columns.{field, number_or_empty}
 use Rattle.moment_texts.specs.Printing.{moment_or_empty, moment_text}
 use Rattle.moment_texts.specs.declared.clock.Clock.{Clock}
 use Rattle.table_core.specs.Decimals.{digits_text}
@@ -11,6 +10,7 @@ use Rattle.call_records.specs.Records.{AreRecords, Run, prefix_of}
 use Rattle.call_records.specs.declared.outcome.Outcome.{Outcome}
 use Rattle.call_records.specs.declared.outcome.Outcome.TheVariants as outcome
 use Rattle.call_records.specs.declared.call_record.CallRecord.{CallRecord}
+use Rattle.table_core.specs.Fields.{field_then, number_or_empty}
 
 -- the word for what became of a call
 abbrev pub outcome_word : Outcome → List ℕ
@@ -31,14 +31,14 @@ outcome_word outcome.Released = codes "released"
 -- the moments and the numbers of a row, each with a comma behind it
 abbrev pub moments_text : Clock → CallRecord → List ℕ
 moments_text clock call =
-    field (moment_text clock call.start) (field (moment_or_empty clock call.answer) (field (moment_or_empty clock call.end)
-    (field (decimal call.times.before) (field (decimal call.times.after) (field (decimal call.paid) [])))))
+    field_then (moment_text clock call.start) (field_then (moment_or_empty clock call.answer) (field_then (moment_or_empty clock call.end)
+    (field_then (decimal call.times.before) (field_then (decimal call.times.after) (field_then (decimal call.paid) [])))))
 
 -- a row: `call,calling,called,account,prefix,start,answer,end,before,after,paid,outcome`
 abbrev pub record_row : Clock → CallRecord → List ℕ
 record_row clock call =
-    field (decimal call.call) (field (digits_of_number call.calling) (field (digits_of_number call.called)
-    (field (number_or_empty call.account) (field (digits_text (unwrap_or (prefix_of call) [])) (moments_text clock call ++ (outcome_word call.outcome ++ codes "\n"))))))
+    field_then (decimal call.call) (field_then (digits_of_number call.calling) (field_then (digits_of_number call.called)
+    (field_then (number_or_empty call.account) (field_then (digits_text (unwrap_or (prefix_of call) [])) (moments_text clock call ++ (outcome_word call.outcome ++ codes "\n"))))))
 
 -- the header of the table
 abbrev pub call_header : List ℕ

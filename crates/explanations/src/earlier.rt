@@ -1,11 +1,12 @@
 //! Rows that don't go with the rows above them.
 
 use crate::Slip;
-use crate::found_rows::{Sought, field_at, find_above, is_word_at, rows_at, shown_at};
+use crate::found_rows::{Sought, find_above, rows_at, shown_at};
 use crate::reasons::{Faulty, push_fields};
 use crate::row_line::Shown;
 use csv::ByteRecord;
 use std::alloc::{AllocError, Global};
+use table_core::{field, has_word};
 
 /// Adds why a row may not come behind the one above it.
 pub(crate) fn push_order(
@@ -62,7 +63,7 @@ pub(crate) fn push_repeated(
 ) -> Result<(), AllocError> {
     let (word, key, name) = match table.slip {
         Slip::Script(_) => (2, 1, "call".as_bytes()),
-        Slip::Setup(_) => (0, 1, field_at(row, 0)),
+        Slip::Setup(_) => (0, 1, field(row, 0)),
         _ => (2, 0, "account".as_bytes()),
     };
     let sought = Sought::Named { row, word, key };
@@ -83,7 +84,7 @@ pub(crate) fn push_unknown(
     row: &ByteRecord,
 ) -> Result<(), AllocError> {
     let (name, place, why) = match slip {
-        Slip::Script(_) if is_word_at(row, 2, "recharge") => ("account", 3, "isn't in the setup"),
+        Slip::Script(_) if has_word(row, 2, "recharge") => ("account", 3, "isn't in the setup"),
         Slip::Script(_) => ("call", 1, "isn't started in an earlier row"),
         Slip::Setup(_) => ("account", 2, "isn't above this row"),
         _ => ("account", 0, "isn't opened in an earlier row"),

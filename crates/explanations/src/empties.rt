@@ -2,9 +2,10 @@
 
 use crate::Slip;
 use crate::forms::{Part, parts_of};
-use crate::found_rows::{field_at, push_column, shown_at};
+use crate::found_rows::{push_column, shown_at};
 use csv::ByteRecord;
 use std::alloc::AllocError;
+use table_core::is_blank;
 
 /// Adds which field of a row must be empty, and for what.
 pub(crate) fn push_not_empty(
@@ -31,7 +32,7 @@ pub(crate) fn push_not_empty(
 /// because of which it takes nothing.
 fn not_empty(row: &ByteRecord, part: Part) -> Option<(usize, usize)> {
     for place in part.start..part.end {
-        if !field_at(row, place).is_empty() && !takes_any(part, place - part.start) {
+        if !is_blank(row, place) && !takes_any(part, place - part.start) {
             return Some((place, part.word));
         }
     }

@@ -1,11 +1,10 @@
 //! The forms of the tables: their headers, their words, and what their columns take.
 
 use crate::Slip;
-use crate::found_rows::{field_at, is_word_at};
 use crate::wants::Wants;
 use csv::ByteRecord;
 use price_core::{DAY, HORIZON, MAX_MOMENT, MAX_MONEY, MAX_RATE};
-use table_core::is_word;
+use table_core::{field, has_word, is_word};
 
 /// The words of the column `what` of a script.
 pub(crate) const SCRIPT_WORDS: &[&str] = &[
@@ -78,8 +77,8 @@ impl Part {
 pub(crate) fn parts_of(slip: Slip, row: &ByteRecord) -> [Part; 3] {
     let end = row.len();
     match slip {
-        Slip::Script(_) => alone(end, 2, columns_of_script(field_at(row, 2))),
-        Slip::Setup(_) => alone(end, 0, columns_of_setup(field_at(row, 0))),
+        Slip::Script(_) => alone(end, 2, columns_of_script(field(row, 2))),
+        Slip::Setup(_) => alone(end, 0, columns_of_setup(field(row, 0))),
         Slip::Reports(_) => alone(end, 0, &[(0, TIME), (1, TIME)]),
         Slip::Tariff(_) | Slip::RunTariff(_) => alone(end, 0, &[(2, RATE), (3, RATE)]),
         Slip::Ops(_) => parts_of_operation(row),
@@ -108,7 +107,7 @@ fn parts_of_entry(row: &ByteRecord) -> [Part; 3] {
     let end = row.len();
     let reply = end.saturating_sub(4);
     let operation = Part::new(2, reply, 2, columns_of_operation(row, 2, reply));
-    if is_word_at(row, 2, "opening") {
+    if has_word(row, 2, "opening") {
         [
             Part::new(0, 2, 2, &[(0, ACCOUNT)]),
             operation,
@@ -118,7 +117,7 @@ fn parts_of_entry(row: &ByteRecord) -> [Part; 3] {
         [
             Part::new(0, 2, 2, &[(0, ACCOUNT), (1, SEAT)]),
             operation,
-            Part::new(reply, end, reply, columns_of_reply(field_at(row, reply))),
+            Part::new(reply, end, reply, columns_of_reply(field(row, reply))),
         ]
     }
 }
@@ -170,7 +169,7 @@ fn columns_of_setup(kind: &[u8]) -> &'static [(usize, Wants)] {
 /// The columns of an operation, or of an opening, counted from its word on. Older tables have none
 /// for a last moment.
 fn columns_of_operation(row: &ByteRecord, op: usize, end: usize) -> &'static [(usize, Wants)] {
-    let word = field_at(row, op);
+    let word = field(row, op);
     if is_word(word, "reserve") {
         RESERVE
     } else if is_word(word, "return") {
@@ -181,7 +180,7 @@ fn columns_of_operation(row: &ByteRecord, op: usize, end: usize) -> &'static [(u
         } else {
             &[(0, Wants::Word), (2, MONEY)]
         }
-    } else if is_word_at(row, op.saturating_add(3), "s") {
+    } else if has_word(row, op.saturating_add(3), "s") {
         SETTLE_SWITCHED
     } else {
         SETTLE

@@ -4,7 +4,7 @@ use crate::midnight::is_repeated;
 use crate::row_line::Shown;
 use csv::ByteRecord;
 use std::alloc::{AllocError, Global};
-use table_core::{Rows, decimal, is_word};
+use table_core::{Rows, decimal, field};
 
 /// A reader of the rows of a table that has taken the row of this number; none where there are
 /// fewer.
@@ -24,22 +24,9 @@ pub(crate) fn rows_at(
     Ok(Some(rows))
 }
 
-/// The field of a row at a place, and no bytes behind its last one.
-pub(crate) fn field_at(row: &ByteRecord, place: usize) -> &[u8] {
-    match row.get(place) {
-        Some(field) => field,
-        None => &[],
-    }
-}
-
-/// Whether the field of a row at a place is this word.
-pub(crate) fn is_word_at(row: &ByteRecord, place: usize, word: &str) -> bool {
-    is_word(field_at(row, place), word)
-}
-
 /// The field of a row at a place, as it is shown.
 pub(crate) fn shown_at(row: &ByteRecord, place: usize) -> Shown<'_> {
-    Shown(field_at(row, place))
+    Shown(field(row, place))
 }
 
 /// Adds the name of a column, and the field that a row has in it.
@@ -100,8 +87,7 @@ fn has(row: &ByteRecord, sought: Sought<'_>) -> bool {
             word,
             key,
         } => {
-            field_at(row, word) == field_at(named, word)
-                && are_same(field_at(row, key), field_at(named, key))
+            field(row, word) == field(named, word) && are_same(field(row, key), field(named, key))
         }
         Sought::Band(band) => is_repeated(row, band),
     }

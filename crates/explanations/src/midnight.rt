@@ -1,12 +1,12 @@
 //! Rows of a tariff that don't go with its other rows.
 
-use crate::found_rows::{Sought, field_at, find_above, shown_at};
+use crate::found_rows::{Sought, find_above, shown_at};
 use crate::reasons::Faulty;
 use crate::row_line::Shown;
 use csv::ByteRecord;
 use std::alloc::{AllocError, Global};
 use std::fmt;
-use table_core::Rows;
+use table_core::{Rows, field};
 
 /// Adds the row above that has the prefix and the start of a row, and a day in common with it.
 pub(crate) fn push_repeated_band(
@@ -17,7 +17,7 @@ pub(crate) fn push_repeated_band(
 ) -> Result<(), AllocError> {
     match find_above(alloc, table.text, table.row, Sought::Band(row))? {
         Some(number) => {
-            let prefix = Prefix(field_at(row, 0));
+            let prefix = Prefix(field(row, 0));
             let start = shown_at(row, 1);
             writeln!(text, "{prefix} from {start} is in row {number} already")
         }
@@ -27,9 +27,9 @@ pub(crate) fn push_repeated_band(
 
 /// Whether two rows have a prefix, a start and a day in common.
 pub(crate) fn is_repeated(one: &ByteRecord, other: &ByteRecord) -> bool {
-    let (days, others) = (field_at(one, 7), field_at(other, 7));
-    field_at(one, 0) == field_at(other, 0)
-        && field_at(one, 1) == field_at(other, 1)
+    let (days, others) = (field(one, 7), field(other, 7));
+    field(one, 0) == field(other, 0)
+        && field(one, 1) == field(other, 1)
         && (days.is_empty() || others.is_empty() || have_one_in_common(days, others))
 }
 
@@ -52,7 +52,7 @@ pub(crate) fn push_no_midnight(
     table: Faulty<'_>,
     row: &ByteRecord,
 ) -> Result<(), AllocError> {
-    let prefix = Prefix(field_at(row, 0));
+    let prefix = Prefix(field(row, 0));
     let mut latest = String::new(alloc);
     write!(text, "{prefix} counts from ")?;
     push_starts(text, &mut latest, Rows::new(alloc, table.text), prefix)?;
@@ -99,13 +99,13 @@ fn push_start(
     row: &ByteRecord,
     prefix: Prefix<'_>,
 ) -> Result<(), AllocError> {
-    if field_at(row, 0) != prefix.0 {
+    if field(row, 0) != prefix.0 {
         return Ok(());
     }
     let and = if latest.is_empty() { "" } else { " and " };
     let start = shown_at(row, 1);
     write!(text, "{and}{start}")?;
-    keep_later(latest, field_at(row, 1))
+    keep_later(latest, field(row, 1))
 }
 
 /// Keeps a start in place of the latest one, unless it is earlier.

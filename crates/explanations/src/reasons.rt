@@ -4,14 +4,14 @@ use crate::Slip;
 use crate::earlier::{push_order, push_repeated, push_unknown};
 use crate::empties::push_not_empty;
 use crate::forms::{TIME, headers_of, most_rows_of, parts_of};
-use crate::found_rows::{field_at, rows_at, shown_at};
+use crate::found_rows::{rows_at, shown_at};
 use crate::midnight::{push_no_midnight, push_repeated_band};
 use crate::unknown_words::push_unknown_word;
 use crate::wants::{Column, Wants, first_refused, push_refusal};
 use csv::ByteRecord;
 use price_core::DAY;
 use std::alloc::{AllocError, Global};
-use table_core::{RowFault, RowKind};
+use table_core::{RowFault, RowKind, field};
 use tariff_core::{TariffFault, TariffKind};
 
 /// A table that has a fault.
@@ -155,7 +155,7 @@ fn push_header(
         return text.push_str("no row\n");
     };
     push_fields(text, row)?;
-    if row.len() == 1 && is_separated(field_at(row, 0)) {
+    if row.len() == 1 && is_separated(field(row, 0)) {
         text.push_str("\nthe separator is a comma\n")
     } else {
         text.push('\n')

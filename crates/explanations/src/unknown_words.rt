@@ -2,10 +2,10 @@
 
 use crate::Slip;
 use crate::forms::SCRIPT_WORDS;
-use crate::found_rows::{field_at, is_word_at, push_column};
+use crate::found_rows::push_column;
 use csv::ByteRecord;
 use std::alloc::AllocError;
-use table_core::is_word;
+use table_core::{field, has_word, is_word};
 
 const OPERATIONS: &[&str] = &["credit", "reserve", "settle", "return"];
 
@@ -39,7 +39,7 @@ fn push_operation_word(
     op: usize,
     words: &[&str],
 ) -> Result<(), AllocError> {
-    if is_word_at(row, op, "settle") {
+    if has_word(row, op, "settle") {
         push_word(text, names, row, op.saturating_add(3), &["n", "s"])
     } else {
         push_word(text, names, row, op, words)
@@ -53,11 +53,11 @@ fn push_book_word(
     row: &ByteRecord,
 ) -> Result<(), AllocError> {
     let reply = row.len().saturating_sub(4);
-    let is_settle = is_word_at(row, 2, "settle");
-    let is_report = is_one_of(field_at(row, 5), &["n", "s"]);
-    if !is_one_of(field_at(row, 2), BOOK_OPERATIONS) || is_settle && !is_report {
+    let is_settle = has_word(row, 2, "settle");
+    let is_report = is_one_of(field(row, 5), &["n", "s"]);
+    if !is_one_of(field(row, 2), BOOK_OPERATIONS) || is_settle && !is_report {
         push_operation_word(text, names, row, 2, BOOK_OPERATIONS)
-    } else if is_one_of(field_at(row, reply), REPLIES) {
+    } else if is_one_of(field(row, reply), REPLIES) {
         push_word(text, names, row, reply.saturating_add(2), &["more", "last"])
     } else {
         push_word(text, names, row, reply, REPLIES)
@@ -84,7 +84,7 @@ fn push_word(
 ) -> Result<(), AllocError> {
     push_column(text, names, row, place)?;
     push_words(text, words)?;
-    match nearest(field_at(row, place), words) {
+    match nearest(field(row, place), words) {
         Some(word) => writeln!(text, "\nthe nearest is {word}"),
         None => text.push('\n'),
     }

@@ -1,11 +1,11 @@
 //! What a column of a row takes.
 
 use crate::forms::Part;
-use crate::found_rows::{field_at, push_column};
+use crate::found_rows::push_column;
 use csv::ByteRecord;
 use moment_texts::moment;
 use std::alloc::AllocError;
-use table_core::{are_digits, decimal, is_decimal};
+use table_core::{are_digits, decimal, field, is_decimal};
 use tariff_core::time_of_day;
 
 /// What a column of a row takes.
@@ -50,7 +50,7 @@ pub(crate) fn first_refused(row: &ByteRecord, parts: [Part; 3]) -> Option<Column
 fn refused_in(row: &ByteRecord, part: Part) -> Option<Column> {
     for &(column, wants) in part.columns {
         let place = part.start.saturating_add(column);
-        if place < part.end && !takes(wants, field_at(row, place)) {
+        if place < part.end && !takes(wants, field(row, place)) {
             return Some(Column { place, wants });
         }
     }
@@ -88,7 +88,7 @@ pub(crate) fn push_refusal(
     row: &ByteRecord,
     column: Column,
 ) -> Result<(), AllocError> {
-    let field = field_at(row, column.place);
+    let field = field(row, column.place);
     let is = if field.is_empty() {
         "it is empty, and "
     } else {

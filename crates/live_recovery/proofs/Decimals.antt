@@ -6,7 +6,7 @@ use Rattle.std.specs.Str.Parse.{digits_value}
 use Rattle.std.proofs.Math.Nat.{pow-suc}
 use Rattle.std.proofs.lemmas.Bool.Decides.{nat_tests}
 use Rattle.std.proofs.lemmas.Fmt.{decimal_is_IsNumeral_wide, length-decimal-le}
-use Rattle.entry_rows.specs.Columns.{number_or_empty}
+use Rattle.table_core.specs.Fields.{number_or_empty}
 
 -- ---- digits
 

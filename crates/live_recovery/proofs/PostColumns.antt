@@ -12,8 +12,7 @@ use Rattle.cap_values.specs.declared.message.SsfMsg.{SsfMsg}
 use Rattle.cap_values.specs.declared.message.SsfMsg.TheVariants as message
 use Rattle.cap_values.specs.declared.mode.Mode.{Mode}
 use Rattle.cap_values.specs.declared.mode.Mode.TheVariants as mode
-use Rattle.entry_rows.specs.Columns.{number_or_empty}
-use Rattle.entry_rows.specs.Fits.{FitsReport, IsInterval, IsMoment, IsMoney, IsTime, IsWide}
+use Rattle.book_texts.specs.Fits.{FitsReport, IsInterval, IsMoment, IsMoney, IsTime, IsWide}
 use Rattle.live_recovery.specs.Posts.{FitsMessage, FitsPost, message_of_post}
 use Rattle.message_rows.specs.Messages.{event_message_in, interval_in, leg_in, message_in, mode_in, report_state_in}
 use Rattle.moment_texts.specs.Laws.{MomentsAreRead}
@@ -26,7 +25,7 @@ use Rattle.message_rows.specs.Tables.{call_of_post, sender_of}
 use Rattle.run_values.specs.declared.post.Body.{Body}
 use Rattle.run_values.specs.declared.post.Body.TheVariants as body
 use Rattle.table_core.specs.Decimals.{decimal_of}
-use Rattle.table_core.specs.Fields.{field_in, is_blank, number_in, optional_in}
+use Rattle.table_core.specs.Fields.{field_in, is_blank, number_in, number_or_empty, optional_in}
 use Rattle.table_core.specs.Printed.{DecimalsAreRead}
 use Rattle.table_core.specs.Rows.{Fields}
 use Rattle.price_core.specs.declared.times.TimeInfo.{TimeInfo}

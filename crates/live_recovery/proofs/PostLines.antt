@@ -18,8 +18,7 @@ use Rattle.cap_values.specs.declared.message.SsfMsg.TheVariants as message
 use Rattle.cap_values.specs.declared.mode.Mode.{Mode}
 use Rattle.cap_values.specs.declared.mode.Mode.TheVariants as mode
 use Rattle.cap_values.specs.declared.number.Number.{Number}
-use Rattle.entry_rows.specs.Columns.{number_or_empty}
-use Rattle.entry_rows.specs.Fits.{IsInterval}
+use Rattle.book_texts.specs.Fits.{IsInterval}
 use Rattle.live_recovery.proofs.PostColumns.{post_fields, post_read, row_fields}
 use Rattle.live_recovery.specs.Posts.{FitsBody, FitsPost, PostsAreRead}
 use Rattle.message_rows.proofs.PlainLines.{low_is_no_mark}
@@ -33,6 +32,7 @@ use Rattle.run_values.specs.declared.post.Body.TheVariants as body
 use Rattle.table_core.specs.Printed.{DecimalsArePlain, DecimalsAreRead, IsPlain, IsPlainRow, TablesAreRead, line_of, lines_of}
 use Rattle.table_core.specs.Rows.{Fields, rows_of}
 use Rattle.price_core.specs.declared.times.TimeInfo.TheVariants as info
+use Rattle.table_core.specs.Fields.{number_or_empty}
 
 -- ---- the line
 

@@ -6,7 +6,6 @@ use Rattle.std.specs.Prelude.{codes, if◌then◌else◌, nat_lt, option_map, sl
 use Rattle.cap_values.specs.Orders.{GoOn, Order, Pay, Release, Watch, order_of, orders_of}
 use Rattle.cap_values.specs.declared.operation.ScfOp.{ScfOp}
 use Rattle.cap_values.specs.declared.operation.ScfOp.TheVariants as operation
-use Rattle.entry_rows.specs.Columns.{number_or_empty}
 use Rattle.live_answers.specs.Laws.{ReplaysAreSilent, last_behind, next_behind, silence}
 use Rattle.live_answers.specs.Lines.{live_lines}
 use Rattle.live_answers.specs.Live.{Heard, heard_after, heard_in, next_after, text_after}
@@ -21,6 +20,7 @@ use Rattle.moment_texts.specs.declared.clock.Clock.TheVariants as clock
 use Rattle.message_rows.specs.Tables.{answer_rows, head_text, trace_row, service_rows}
 use Rattle.run_values.specs.declared.post.Answer.{Answer}
 use Rattle.workers_core.specs.Handled.{AnswerView, answer_view}
+use Rattle.table_core.specs.Fields.{number_or_empty}
 
 -- what an order says
 abbrev order_said : Order → Said

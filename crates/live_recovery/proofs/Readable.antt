@@ -7,8 +7,6 @@ use Rattle.std.proofs.lemmas.Bool.Decides.{nat_tests}
 use Rattle.std.specs.Fmt.{decimal}
 use Rattle.cap_values.specs.declared.event.Event.{Event}
 use Rattle.cap_values.specs.declared.mode.Mode.{Mode}
-use Rattle.entry_rows.specs.Column.{counted_interval}
-use Rattle.entry_rows.specs.Columns.{number_or_empty}
 use Rattle.live_answers.specs.Live.{Heard, given_by, given_of, heard_after, last_after, next_after}
 use Rattle.live_answers.specs.Standing.{LineView, in_time, numbered_message, placed, said_after, standing}
 use Rattle.message_rows.specs.declared.kind.LineKind.TheVariants as kind
@@ -20,7 +18,7 @@ use Rattle.moment_texts.specs.Reading.{at_most, date_and_time_of, moment_of}
 use Rattle.run_texts.specs.Setups.{account_in, amount_in, party_in, until_in}
 use Rattle.message_rows.specs.Said.{Said, report_said}
 use Rattle.table_core.specs.Decimals.{decimal_of}
-use Rattle.table_core.specs.Fields.{field_in, has_word, number_in, optional_in, present}
+use Rattle.table_core.specs.Fields.{counted_if_any, field_in, has_word, number_in, number_or_empty, optional_in, present}
 use Rattle.table_core.specs.Judging.{and_then}
 use Rattle.table_core.specs.Rows.{Fields, rows_of}
 use Rattle.table_core.specs.declared.fault.RowKind.{RowKind}
@@ -80,14 +78,14 @@ present_few false (Ok n) number few is = let same : Some n ≡ number = cc is in
 
 interval_few : (fields : Fields) (interval : Option ℕ) → interval_in fields ≡ Ok interval → IsFew interval
 interval_few fields interval is =
-    let (found, read, counted) = after_is (optional_in fields 8 864000) counted_interval interval is in
+    let (found, read, counted) = after_is (optional_in fields 8 864000) counted_if_any interval is in
     subst IsFew (counted_is found interval counted) (present_few _ (number_in fields 8 864000) found (λ n. number_short fields 8 864000 n (omega arith)) read)
   where
     some_counted : (none : Bool) (n : ℕ) (interval : Option ℕ) → (if none then Err row.Number else Ok (Some n)) ≡ Ok interval → Some n ≡ interval
     some_counted true n interval is = absurd (cc)
     some_counted false n interval is = cc is
 
-    counted_is : (found interval : Option ℕ) → counted_interval found ≡ Ok interval → found ≡ interval
+    counted_is : (found interval : Option ℕ) → counted_if_any found ≡ Ok interval → found ≡ interval
     counted_is None interval is = cc is
     counted_is (Some n) interval is = some_counted _ n interval is
 

@@ -7,7 +7,6 @@ use Rattle.cap_values.specs.declared.message.SsfMsg.{SsfMsg}
 use Rattle.cap_values.specs.declared.message.SsfMsg.TheVariants.{InitialDp, EventReport, ChargingReport, Ended}
 use Rattle.cap_values.specs.declared.mode.Mode.{Mode}
 use Rattle.cap_values.specs.declared.mode.Mode.TheVariants as mode
-use Rattle.entry_rows.specs.Columns.{number_or_empty}
 use Rattle.live_answers.specs.Live.{item_view}
 use Rattle.live_recovery.proofs.Alike.{GoAlike, SaysAlike, SpeakAlike}
 use Rattle.live_recovery.proofs.Decimals.{IsShort, same_number, same_option}
@@ -18,7 +17,7 @@ use Rattle.message_rows.specs.Said.{Said, event_word as word_of, message_said, m
 use Rattle.run_values.specs.declared.post.Body.{Body}
 use Rattle.run_values.specs.declared.post.Body.TheVariants.{Ssf, Recharge}
 use Rattle.runs_core.specs.Shares.{Item, numbered as items_from}
-use Rattle.table_core.specs.Fields.{field_in}
+use Rattle.table_core.specs.Fields.{field_in, number_or_empty}
 use Rattle.table_core.specs.Rows.{Fields}
 use Rattle.price_core.specs.declared.times.TimeInfo.{TimeInfo}
 use Rattle.price_core.specs.declared.times.TimeInfo.TheVariants as info

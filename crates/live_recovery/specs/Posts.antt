@@ -2,7 +2,7 @@
 use Rattle.std.specs.Prelude.{◌≡◌, ◌≤◌, ℕ, IfSome, Some, Ok}
 use Rattle.cap_values.specs.declared.message.SsfMsg.{SsfMsg}
 use Rattle.cap_values.specs.declared.message.SsfMsg.TheVariants as message
-use Rattle.entry_rows.specs.Fits.{FitsReport, IsMoment, IsMoney, IsWide}
+use Rattle.book_texts.specs.Fits.{FitsReport, IsMoment, IsMoney, IsWide}
 use Rattle.moment_texts.specs.declared.clock.Clock.{Clock}
 use Rattle.message_rows.specs.Lines.{line_message}
 use Rattle.message_rows.specs.Messages.{MessageView, speech_of}

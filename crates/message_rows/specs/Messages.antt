@@ -5,8 +5,6 @@ use Rattle.cap_values.specs.declared.event.Event.{Event}
 use Rattle.cap_values.specs.declared.event.Event.TheVariants as event
 use Rattle.cap_values.specs.declared.mode.Mode.{Mode}
 use Rattle.cap_values.specs.declared.mode.Mode.TheVariants as mode
-use Rattle.entry_rows.specs.Column.{counted_interval}
-use Rattle.entry_rows.specs.Columns.{number_or_empty}
 use Rattle.message_rows.specs.declared.words.Word.{Word}
 use Rattle.message_rows.specs.declared.words.Word.TheVariants as word
 use Rattle.moment_texts.specs.Fields.{moment_in}
@@ -15,7 +13,7 @@ use Rattle.run_texts.specs.Setups.{account_in, amount_in, party_in, until_in}
 use Rattle.message_rows.specs.Said.{Said, alone, event_word, mode_word, post_said, report_said, state_word}
 use Rattle.message_rows.specs.Tables.{call_of_post, sender_of}
 use Rattle.run_values.specs.declared.post.Body.{Body}
-use Rattle.table_core.specs.Fields.{has_word, is_blank, number_in, optional_in}
+use Rattle.table_core.specs.Fields.{counted_if_any, has_word, is_blank, number_in, number_or_empty, optional_in}
 use Rattle.table_core.specs.Judging.{and_then}
 use Rattle.table_core.specs.Rows.{Fields}
 use Rattle.table_core.specs.declared.fault.RowKind.{RowKind}
@@ -104,7 +102,7 @@ initial_in fields =
 
 -- a leg, 1 or 2, where there is one
 abbrev pub leg_in : Fields → Result (Option ℕ) RowKind
-leg_in fields = and_then (optional_in fields 6 2) counted_interval
+leg_in fields = and_then (optional_in fields 6 2) counted_if_any
 
 -- EventReportBCSM: x2 is the leg, or empty
 abbrev pub event_report_in : Fields → Event → Mode → Result Speech RowKind
@@ -119,7 +117,7 @@ report_without_switch fields = and_then (number_in fields 7 DAY) (λ time. Ok (i
 
 -- the time before the switch is x4, 1 to a day, or empty
 abbrev pub interval_in : Fields → Result (Option ℕ) RowKind
-interval_in fields = and_then (optional_in fields 8 DAY) counted_interval
+interval_in fields = and_then (optional_in fields 8 DAY) counted_if_any
 
 -- the times of a report that knows a switch: x3 is the time since, and x4 that before
 abbrev pub report_with_switch : Fields → Result TimeInfo RowKind

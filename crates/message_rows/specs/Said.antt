@@ -14,7 +14,6 @@ use Rattle.cap_values.specs.declared.mode.Mode.{Mode}
 use Rattle.cap_values.specs.declared.mode.Mode.TheVariants as mode
 use Rattle.cap_values.specs.declared.operation.ScfOp.{ScfOp}
 use Rattle.cap_values.specs.declared.operation.ScfOp.TheVariants as operation
-use Rattle.entry_rows.specs.Columns.{number_or_empty}
 use Rattle.moment_texts.specs.Printing.{moment_or_empty}
 use Rattle.moment_texts.specs.declared.clock.Clock.{Clock}
 use Rattle.run_values.specs.declared.post.Answer.{Answer}
@@ -22,6 +21,7 @@ use Rattle.run_values.specs.declared.post.Body.{Body}
 use Rattle.run_values.specs.declared.post.Body.TheVariants as body
 use Rattle.price_core.specs.declared.times.TimeInfo.{TimeInfo}
 use Rattle.price_core.specs.declared.times.TimeInfo.TheVariants as info
+use Rattle.table_core.specs.Fields.{number_or_empty}
 
 -- what is said, and with what
 pub record Said : Type 0 where

@@ -2,13 +2,13 @@
 use Rattle.std.specs.Prelude.{◌+◌, ℕ, Option, Some, None, List, [], ◌∷◌, ◌++◌, codes, slice_get}
 use Rattle.std.specs.Fmt.{decimal}
 use Rattle.std.specs.List.{flat_map}
-use Rattle.entry_rows.specs.Columns.{field, number_or_empty}
 use Rattle.moment_texts.specs.Printing.{moment_text}
 use Rattle.moment_texts.specs.declared.clock.Clock.{Clock}
 use Rattle.run_values.specs.declared.post.Answer.{Answer}
 use Rattle.run_values.specs.declared.post.Body.{Body}
 use Rattle.run_values.specs.declared.post.Body.TheVariants as body
 use Rattle.message_rows.specs.Said.{Said, answer_said, post_said}
+use Rattle.table_core.specs.Fields.{field_then, number_or_empty}
 
 -- the call of a post; a recharge has none
 abbrev pub call_of_post : Body → Option ℕ
@@ -22,15 +22,15 @@ sender_of (body.Recharge account amount until) = codes "operator"
 
 -- what is said, to the end of its row
 abbrev pub said_text : Said → List ℕ
-said_text said = field said.what (field said.x1 (field said.x2 (field said.x3 (said.x4 ++ codes "\n"))))
+said_text said = field_then said.what (field_then said.x1 (field_then said.x2 (field_then said.x3 (said.x4 ++ codes "\n"))))
 
 -- a row: what it begins with, who speaks, and what is said
 abbrev pub trace_row : List ℕ → List ℕ → Said → List ℕ
-trace_row head from said = field head (field from (said_text said))
+trace_row head from said = field_then head (field_then from (said_text said))
 
 -- what the rows of a post begin with: its moment, as a clock prints it, its number and its call
 abbrev pub head_text : Clock → ℕ → ℕ → Option ℕ → List ℕ
-head_text clock at number call = field (moment_text clock at) (field (decimal number) (number_or_empty call))
+head_text clock at number call = field_then (moment_text clock at) (field_then (decimal number) (number_or_empty call))
 
 -- the head of the rows of a post of this number
 abbrev pub head_of : Clock → ℕ → ℕ × Body → List ℕ

@@ -1,6 +1,6 @@
 //! The message in a row.
 
-ghost use Rattle.std.specs.Prelude.{◌≡◌, ◌≤◌, ◌<◌, IfOk, length, true};
+ghost use Rattle.std.specs.Prelude.{◌≡◌, ◌≤◌, IfOk, true};
 ghost use Rattle.std.specs.Result.{result_map_both};
 ghost use Rattle.csv.specs.Records.{fields_of};
 ghost use Rattle.message_rows.specs.Messages.{message_call_in, charging_report_in, ended_message_in, event_report_in, initial_in, interval_in, leg_in, message_in, report_without_switch, recharge_message_in, speech_in, speech_of, report_with_switch, message_when_blank};
@@ -32,7 +32,6 @@ pub struct Message {
 /// `Number` where a field isn't a decimal, a moment, or the digits of a party, within its range;
 /// `Empty` where a field that must be empty isn't.
 pub(crate) fn read_message(row: &ByteRecord) -> Result<Message, RowKind>
-    requires { 8 < length (fields_of row.now) }
     ensures says { result_map_both view_of (λ kind. kind) result ≡ message_in (fields_of row.now) }
     ensures in_range { IfOk result (λ message. message.at ≤ HORIZON) }
 {
@@ -45,7 +44,6 @@ pub(crate) fn read_message(row: &ByteRecord) -> Result<Message, RowKind>
 
 /// What is said in a row with this word.
 fn read_body(row: &ByteRecord, word: Word) -> Result<Body, RowKind>
-    requires { 8 < length (fields_of row.now) }
     ensures { result_map_both speech_of (λ kind. kind) result
         ≡ speech_in (fields_of row.now) word }
 {
@@ -59,14 +57,12 @@ fn read_body(row: &ByteRecord, word: Word) -> Result<Body, RowKind>
 }
 
 fn read_call(row: &ByteRecord) -> Result<u64, RowKind>
-    requires { 8 < length (fields_of row.now) }
     ensures { result ≡ message_call_in (fields_of row.now) }
 {
     number(row, 2, u64::MAX)
 }
 
 fn read_initial(row: &ByteRecord) -> Result<Body, RowKind>
-    requires { 8 < length (fields_of row.now) }
     ensures { result_map_both speech_of (λ kind. kind) result ≡ initial_in (fields_of row.now) }
 {
     let call = read_call(row)?;
@@ -84,7 +80,6 @@ fn read_initial(row: &ByteRecord) -> Result<Body, RowKind>
 }
 
 fn read_event_report(row: &ByteRecord, event: Event, mode: Mode) -> Result<Body, RowKind>
-    requires { 8 < length (fields_of row.now) }
     ensures { result_map_both speech_of (λ kind. kind) result
         ≡ event_report_in (fields_of row.now) event mode }
 {
@@ -95,7 +90,6 @@ fn read_event_report(row: &ByteRecord, event: Event, mode: Mode) -> Result<Body,
 }
 
 fn read_leg(row: &ByteRecord) -> Result<Option<Leg>, RowKind>
-    requires { 8 < length (fields_of row.now) }
     ensures { result_map_both leg_number_of (λ kind. kind) result ≡ leg_in (fields_of row.now) }
 {
     match optional(row, 6, 2)? {
@@ -107,7 +101,6 @@ fn read_leg(row: &ByteRecord) -> Result<Option<Leg>, RowKind>
 }
 
 fn read_charging_report(row: &ByteRecord, active: bool, switched: bool) -> Result<Body, RowKind>
-    requires { 8 < length (fields_of row.now) }
     ensures { result_map_both speech_of (λ kind. kind) result
         ≡ charging_report_in (fields_of row.now) active switched }
 {
@@ -122,7 +115,6 @@ fn read_charging_report(row: &ByteRecord, active: bool, switched: bool) -> Resul
 }
 
 fn read_no_switch(row: &ByteRecord) -> Result<TimeInfo, RowKind>
-    requires { 8 < length (fields_of row.now) }
     ensures { result ≡ report_without_switch (fields_of row.now) }
 {
     let t = number(row, 7, u64::from(DAY))? as u32;
@@ -130,7 +122,6 @@ fn read_no_switch(row: &ByteRecord) -> Result<TimeInfo, RowKind>
 }
 
 fn read_switch(row: &ByteRecord) -> Result<TimeInfo, RowKind>
-    requires { 8 < length (fields_of row.now) }
     ensures { result ≡ report_with_switch (fields_of row.now) }
 {
     let since = number(row, 7, u64::from(DAY))? as u32;
@@ -140,7 +131,6 @@ fn read_switch(row: &ByteRecord) -> Result<TimeInfo, RowKind>
 
 /// The time before the switch, 1 to a day, where there is any.
 fn read_interval(row: &ByteRecord) -> Result<Option<u32>, RowKind>
-    requires { 8 < length (fields_of row.now) }
     ensures { result ≡ interval_in (fields_of row.now) }
 {
     match optional(row, 8, u64::from(DAY))? {
@@ -151,7 +141,6 @@ fn read_interval(row: &ByteRecord) -> Result<Option<u32>, RowKind>
 }
 
 fn read_ended(row: &ByteRecord) -> Result<Body, RowKind>
-    requires { 8 < length (fields_of row.now) }
     ensures { result_map_both speech_of (λ kind. kind) result ≡ ended_message_in
         (fields_of row.now) }
 {
@@ -167,7 +156,6 @@ fn read_ended(row: &ByteRecord) -> Result<Body, RowKind>
 }
 
 fn read_recharge(row: &ByteRecord) -> Result<Body, RowKind>
-    requires { 8 < length (fields_of row.now) }
     ensures { result_map_both speech_of (λ kind. kind) result ≡ recharge_message_in
         (fields_of row.now) }
 {

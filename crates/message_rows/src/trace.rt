@@ -4,10 +4,10 @@ ghost use Rattle.std.specs.Prelude.{◌≡◌, ◌<◌, ◌^◌, ◌++◌, IfOk,
 ghost use Rattle.message_rows.specs.Tables.{post_rows, trace_text};
 
 use crate::trace_rows::{call_of, write_answer, write_post};
-use entry_rows::Field;
 use moment_texts::{Clock, MomentField};
 use run_values::{Answer, Body};
 use std::alloc::{AllocError, Global};
+use table_core::Field;
 
 /// How many bytes there is room for in the head of a row at once: a date and two numbers of 20
 /// digits.

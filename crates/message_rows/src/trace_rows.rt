@@ -6,11 +6,11 @@ ghost use Rattle.message_rows.specs.Tables.{answer_rows, call_of_post, trace_row
 
 use account_core::AccountFault;
 use cap_values::{Event, Leg, Mode, ScfOp, SsfMsg};
-use entry_rows::Field;
 use moment_texts::{Clock, MomentField};
 use price_core::TimeInfo;
 use run_values::{Answer, Body};
 use std::alloc::AllocError;
+use table_core::Field;
 
 /// The call of a post, if it has one.
 pub(crate) fn call_of(body: &Body) -> Option<u64>

@@ -1,6 +1,6 @@
 //! The words of a message row, each matched once.
 
-ghost use Rattle.std.specs.Prelude.{◌≡◌, ◌<◌, length};
+ghost use Rattle.std.specs.Prelude.{◌≡◌};
 ghost use Rattle.csv.specs.Records.{fields_of};
 ghost use Rattle.message_rows.specs.Messages.{event_message_in, mode_in, report_state_in, switch_word_in, switched_in, message_word_in};
 
@@ -25,7 +25,6 @@ pub(crate) enum Word {
 
 /// The word of a row; else `What`.
 pub(crate) fn read_word(row: &ByteRecord) -> Result<Word, RowKind>
-    requires { 8 < length (fields_of row.now) }
     ensures { result ≡ message_word_in (fields_of row.now) }
 {
     if has_word(row, 3, "switch") {
@@ -39,7 +38,6 @@ pub(crate) fn read_word(row: &ByteRecord) -> Result<Word, RowKind>
 
 /// The word of a row of the switch.
 fn read_switch_word(row: &ByteRecord) -> Result<Word, RowKind>
-    requires { 8 < length (fields_of row.now) }
     ensures { result ≡ switch_word_in (fields_of row.now) }
 {
     if has_word(row, 4, "InitialDP") {
@@ -61,7 +59,6 @@ fn read_switch_word(row: &ByteRecord) -> Result<Word, RowKind>
 
 /// The event of a report.
 fn read_event(row: &ByteRecord) -> Result<Event, RowKind>
-    requires { 8 < length (fields_of row.now) }
     ensures { result ≡ event_message_in (fields_of row.now) }
 {
     if has_word(row, 5, "collectedInfo") {
@@ -85,7 +82,6 @@ fn read_event(row: &ByteRecord) -> Result<Event, RowKind>
 
 /// How the event of a report was watched.
 fn read_mode(row: &ByteRecord) -> Result<Mode, RowKind>
-    requires { 8 < length (fields_of row.now) }
     ensures { result ≡ mode_in (fields_of row.now) }
 {
     if has_word(row, 7, "interrupted") {
@@ -101,7 +97,6 @@ fn read_mode(row: &ByteRecord) -> Result<Mode, RowKind>
 
 /// Whether the call of a charging report goes on.
 fn read_state(row: &ByteRecord) -> Result<bool, RowKind>
-    requires { 8 < length (fields_of row.now) }
     ensures { result ≡ report_state_in (fields_of row.now) }
 {
     if has_word(row, 5, "active") {
@@ -115,7 +110,6 @@ fn read_state(row: &ByteRecord) -> Result<bool, RowKind>
 
 /// Whether the times of a charging report know of a tariff switch.
 fn read_switched(row: &ByteRecord) -> Result<bool, RowKind>
-    requires { 8 < length (fields_of row.now) }
     ensures { result ≡ switched_in (fields_of row.now) }
 {
     if has_word(row, 6, "n") {

@@ -1,6 +1,6 @@
 -- The moment in a field of a row.
-use Rattle.std.specs.Prelude.{◌==◌, ℕ, Option, None, List, length, Result, Ok, ok_or, if◌then◌else◌}
-use Rattle.table_core.specs.Fields.{field_in, present}
+use Rattle.std.specs.Prelude.{ℕ, Option, None, List, Result, Ok, ok_or, if◌then◌else◌}
+use Rattle.table_core.specs.Fields.{field_in, is_empty_field, present}
 use Rattle.table_core.specs.declared.fault.RowKind.{RowKind}
 use Rattle.table_core.specs.declared.fault.RowKind.TheVariants as kind
 use Rattle.moment_texts.specs.Reading.{moment_of}
@@ -15,4 +15,4 @@ moment_in fields place most = moment_in_field most (field_in fields place)
 
 -- the moment in a field, and none where it is empty
 abbrev pub optional_moment_in_field : ℕ → List ℕ → Result (Option ℕ) RowKind
-optional_moment_in_field most field = if length field == 0 then Ok None else present (moment_in_field most field)
+optional_moment_in_field most field = if is_empty_field field then Ok None else present (moment_in_field most field)

@@ -18,7 +18,6 @@ use Rattle.call_records.specs.declared.outcome.Outcome.TheVariants as outcome
 use Rattle.cap_values.specs.NumberDigits.{digits_of_number}
 use Rattle.cap_values.specs.declared.number.Number.{Number}
 use Rattle.csv.specs.Writing.{comma, default_writer, field_text, needs_byte}
-use Rattle.entry_rows.specs.Columns.{number_or_empty}
 use Rattle.moment_texts.specs.Laws.{MomentsArePlain, MomentsAreRead}
 use Rattle.moment_texts.specs.Printing.{moment_or_empty, moment_text}
 use Rattle.moment_texts.specs.Reading.{at_most, both, date_and_time_of, day_of, moment_of, seconds_of, written_time}
@@ -31,6 +30,7 @@ use Rattle.table_core.specs.Printed.{DecimalsArePlain, IsPlain, IsPlainRow}
 use Rattle.table_core.specs.Rows.{Fields}
 use Rattle.tariff_core.specs.Bands.{Band}
 use Rattle.tariff_core.specs.TariffTable.{time_of as minutes_of}
+use Rattle.table_core.specs.Fields.{number_or_empty}
 
 -- ---- how long a moment's text is
 

@@ -7,7 +7,6 @@ use Rattle.call_records.specs.Tables.{IsCallText, outcome_word}
 use Rattle.call_records.specs.declared.call_record.CallRecord.{CallRecord}
 use Rattle.call_records.specs.declared.outcome.Outcome.TheVariants as outcome
 use Rattle.cap_values.specs.NumberDigits.{digits_of_number}
-use Rattle.entry_rows.specs.Columns.{number_or_empty}
 use Rattle.moment_texts.specs.Printing.{moment_or_empty, moment_text}
 use Rattle.moment_texts.specs.declared.clock.Clock.{Clock}
 use Rattle.rated_records.specs.Laws.{paid_rightly}
@@ -25,6 +24,7 @@ use Rattle.shared_account.specs.Refusals.{Knowing}
 use Rattle.table_core.specs.Decimals.{digits_text}
 use Rattle.table_core.specs.Rows.{Fields}
 use Rattle.price_core.specs.declared.times.TheConstants.{MAX_MOMENT}
+use Rattle.table_core.specs.Fields.{number_or_empty}
 
 -- what `rate --answer start` is asked for: the usual names, but for the start in place of the answer
 abbrev pub names_by_start : NamesWish

@@ -1,5 +1,5 @@
 -- Where the columns of a table are, by their names in its header.
-use Rattle.std.specs.Prelude.{◌+◌, ◌<◌, ℕ, List, [], ◌∷◌, codes, drop, if◌then◌else◌, Option, Some, None, is_some, option_and_then, option_map, IfSome}
+use Rattle.std.specs.Prelude.{◌+◌, ℕ, List, [], ◌∷◌, codes, drop, if◌then◌else◌, Option, Some, None, is_some, option_and_then, option_map}
 use Rattle.std.specs.Str.{bytes_eq}
 use Rattle.table_core.specs.Rows.{Fields}
 use Rattle.rating.specs.Asks.{NamesWish, TimesWish, ByEnd, BySplit, ByTime, ByUsualNames}
@@ -55,16 +55,3 @@ found_columns header names =
     option_and_then (λ called. option_and_then (λ answer. option_and_then (λ times.
     option_map (λ paid. record { called = called; answer = answer; times = times; paid = paid })
     (paid_column header names.paid)) (times_in header names.times)) (needed_column header names.answer)) (needed_column header names.called)
-
--- the columns of times are in rows of so many fields
-abbrev pub HasTimes : ℕ → TimeColumns → Type 0
-HasTimes width (times.Time place) = place < width
-HasTimes width (times.End place) = place < width
-HasTimes width (times.Split before after) = (before < width) × (after < width)
-
--- all columns do
-pub record HasAllColumns (width : ℕ) (columns : Columns) : Type 0 where
-  pub called : columns.called < width
-  pub answer : columns.answer < width
-  pub times : HasTimes width columns.times
-  pub paid : IfSome columns.paid (λ place. place < width)

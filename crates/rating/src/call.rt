@@ -1,10 +1,9 @@
 //! What the record of a call says.
 
-ghost use Rattle.std.specs.Prelude.{◌≡◌, ◌<◌, ◌≤◌, length, unwrap_or, IfOk, IfSome};
+ghost use Rattle.std.specs.Prelude.{◌≡◌, ◌≤◌, unwrap_or, IfOk, IfSome};
 ghost use Rattle.std.specs.Result.{result_map_both};
 ghost use Rattle.csv.specs.Records.{fields_of};
 ghost use Rattle.rating.specs.Calls.{AnsweredIsInRange, IsWithinDay, answered_in, rated_call_in, called_in, needed_moment, needed_number, optional_number, charged_in, talk_in, talk_split, talk_until};
-ghost use Rattle.rating.specs.Columns.{HasAllColumns, HasTimes};
 ghost use Rattle.rating.specs.SaidOf.{said_by};
 
 use crate::RateKind;
@@ -51,7 +50,6 @@ impl<'a> Call<'a> {
     /// range, and else `Order` where the end is out of order.
     #[tactic(auto, unfolding(crate::specs::Calls::rated_call_in))]
     pub(crate) fn read(row: &'a ByteRecord, columns: &Columns) -> Result<Call<'a>, RateKind>
-        requires { HasAllColumns (length (fields_of row.now)) columns.now }
         ensures value { result_map_both said_by (λ kind. kind) result ≡ rated_call_in
             (fields_of row.now) columns.now }
         ensures within { IfOk result (λ call. IfSome call.answered AnsweredIsInRange) }
@@ -70,7 +68,6 @@ impl<'a> Call<'a> {
 
 /// The number called.
 fn called(row: &ByteRecord, place: usize) -> Result<&[u8], RateKind>
-    requires { place < length (fields_of row.now) }
     ensures { result_map_both (λ digits. digits.now) (λ kind. kind) result ≡ called_in
         (fields_of row.now) place }
 {
@@ -84,7 +81,6 @@ fn called(row: &ByteRecord, place: usize) -> Result<&[u8], RateKind>
 
 /// When the call was answered, if it was, and its time.
 fn read_answered(row: &ByteRecord, columns: &Columns) -> Result<Option<Answered>, RateKind>
-    requires { HasAllColumns (length (fields_of row.now)) columns.now }
     ensures value { result ≡ answered_in (fields_of row.now) columns.now }
     ensures within { IfOk result (λ answered. IfSome answered AnsweredIsInRange) }
 {
@@ -98,7 +94,6 @@ fn read_answered(row: &ByteRecord, columns: &Columns) -> Result<Option<Answered>
 
 /// How long a call lasted that was answered at a moment.
 fn read_talk(row: &ByteRecord, times: TimeColumns, at: u64) -> Result<Talk, RateKind>
-    requires { HasTimes (length (fields_of row.now)) times }
     ensures value { result ≡ talk_in (fields_of row.now) times at }
     ensures within { IfOk result IsWithinDay }
 {
@@ -139,7 +134,6 @@ fn talk_split(before: u32, after: u32) -> Result<Talk, RateKind>
 
 /// What was charged, where there is a column for it and it isn't empty.
 fn paid(row: &ByteRecord, place: Option<usize>) -> Result<Option<u64>, RateKind>
-    requires { IfSome place (λ place. place < length (fields_of row.now)) }
     ensures value { result ≡ charged_in (fields_of row.now) place }
     ensures within { IfOk result (λ paid. unwrap_or paid 0 ≤ MAX_MONEY) }
 {
@@ -151,7 +145,6 @@ fn paid(row: &ByteRecord, place: Option<usize>) -> Result<Option<u64>, RateKind>
 
 /// The moment in a field.
 fn read_moment(row: &ByteRecord, place: usize) -> Result<u64, RateKind>
-    requires { place < length (fields_of row.now) }
     ensures value { result ≡ needed_moment (fields_of row.now) place }
     ensures within { IfOk result (λ at. at ≤ MAX_MOMENT) }
 {
@@ -160,7 +153,6 @@ fn read_moment(row: &ByteRecord, place: usize) -> Result<u64, RateKind>
 
 /// The number in a field, none where it is empty.
 fn optional(row: &ByteRecord, place: usize, most: u64) -> Result<Option<u64>, RateKind>
-    requires { place < length (fields_of row.now) }
     ensures value { result ≡ optional_number (fields_of row.now) place most }
     ensures within { IfOk result (λ number. unwrap_or number 0 ≤ most) }
 {
@@ -172,7 +164,6 @@ fn optional(row: &ByteRecord, place: usize, most: u64) -> Result<Option<u64>, Ra
 
 /// The number in a field.
 fn number(row: &ByteRecord, place: usize, most: u64) -> Result<u64, RateKind>
-    requires { place < length (fields_of row.now) }
     ensures value { result ≡ needed_number (fields_of row.now) place most }
     ensures within { IfOk result (λ number. number ≤ most) }
 {

@@ -1,8 +1,8 @@
 //! The columns of a table, found by their names.
 
-ghost use Rattle.std.specs.Prelude.{◌≡◌, ◌<◌, ◌≤◌, ◌+◌, ◌-◌, ◌^◌, length, drop, option_map, IfSome};
+ghost use Rattle.std.specs.Prelude.{◌≡◌, ◌≤◌, ◌+◌, ◌-◌, ◌^◌, drop, option_map, IfSome};
 ghost use Rattle.csv.specs.Records.{fields_of};
-ghost use Rattle.rating.specs.Columns.{HasAllColumns, HasTimes, found_columns, needed_column, paid_column, place_from, sought, times_in};
+ghost use Rattle.rating.specs.Columns.{found_columns, needed_column, paid_column, place_from, sought, times_in};
 ghost use Rattle.rating.specs.Asks.{ByUsualNames};
 ghost use Rattle.rating.specs.SaidOf.{wished_names, times_of};
 
@@ -35,8 +35,7 @@ impl Columns {
     /// one twice.
     #[tactic(auto, unfolding(crate::specs::Columns::found_columns))]
     pub(crate) fn find(header: &ByteRecord, names: &Names<'_>) -> Option<Columns>
-        ensures value { result ≡ found_columns (fields_of header.now) (wished_names names.now) }
-        ensures within { IfSome result (HasAllColumns (length (fields_of header.now))) }
+        ensures { result ≡ found_columns (fields_of header.now) (wished_names names.now) }
     {
         let called = needed(header, names.called)?;
         let answer = needed(header, names.answer)?;
@@ -53,8 +52,7 @@ impl Columns {
 
 /// The columns of the times.
 fn times(header: &ByteRecord, names: TimeNames<'_>) -> Option<TimeColumns>
-    ensures value { result ≡ times_in (fields_of header.now) (times_of names.entry) }
-    ensures within { IfSome result (HasTimes (length (fields_of header.now))) }
+    ensures { result ≡ times_in (fields_of header.now) (times_of names.entry) }
 {
     match names {
         TimeNames::UsualNames => usual_times(header),
@@ -70,8 +68,7 @@ fn times(header: &ByteRecord, names: TimeNames<'_>) -> Option<TimeColumns>
 
 /// The columns of the times by their usual names.
 fn usual_times(header: &ByteRecord) -> Option<TimeColumns>
-    ensures value { result ≡ times_in (fields_of header.now) ByUsualNames }
-    ensures within { IfSome result (HasTimes (length (fields_of header.now))) }
+    ensures { result ≡ times_in (fields_of header.now) ByUsualNames }
 {
     let before = sought(header, "before")?;
     let after = sought(header, "after")?;
@@ -86,10 +83,8 @@ fn usual_times(header: &ByteRecord) -> Option<TimeColumns>
 
 /// The column of what was charged, where there is one.
 fn paid(header: &ByteRecord, name: Option<&str>) -> Option<Option<usize>>
-    ensures value { result
+    ensures { result
         ≡ paid_column (fields_of header.now) (option_map (λ name. name.now) name.entry) }
-    ensures within { IfSome result
-        (λ paid. IfSome paid (λ place. place < length (fields_of header.now))) }
 {
     match name {
         Some(name) => Some(Some(needed(header, name)?)),
@@ -99,17 +94,14 @@ fn paid(header: &ByteRecord, name: Option<&str>) -> Option<Option<usize>>
 
 /// The place of a name that the header must have once.
 fn needed(header: &ByteRecord, name: &str) -> Option<usize>
-    ensures value { result ≡ needed_column (fields_of header.now) name.now }
-    ensures within { IfSome result (λ place. place < length (fields_of header.now)) }
+    ensures { result ≡ needed_column (fields_of header.now) name.now }
 {
     sought(header, name)?
 }
 
 /// The place of a name, none inside where the header hasn't it; none where it has it twice.
 fn sought(header: &ByteRecord, name: &str) -> Option<Option<usize>>
-    ensures value { result ≡ sought (fields_of header.now) name.now }
-    ensures within { IfSome result
-        (λ found. IfSome found (λ place. place < length (fields_of header.now))) }
+    ensures { result ≡ sought (fields_of header.now) name.now }
 {
     let Some(place) = place_from(header, name, 0) else {
         return Some(None);
@@ -122,11 +114,9 @@ fn sought(header: &ByteRecord, name: &str) -> Option<Option<usize>>
 
 /// The first place of a name from a place on.
 fn place_from(header: &ByteRecord, name: &str, start: usize) -> Option<usize>
-    requires { start ≤ length (fields_of header.now) }
     ensures value { result
         ≡ place_from (drop start (fields_of header.now)) name.now start }
     ensures next { IfSome result (λ place. place + 1 ≤ 2 ^ 64 - 1) }
-    ensures within { IfSome result (λ place. place < length (fields_of header.now)) }
 {
     for place in start..header.len() {
         if has_word(header, place, name) {

@@ -5,7 +5,6 @@ ghost use Rattle.csv.specs.Records.{fields_of};
 ghost use Rattle.price_core.specs.declared.plan.TheConstants.{MAX_MONEY};
 ghost use Rattle.price_core.specs.declared.pricing.TheConstants.{MAX_PRICE};
 ghost use Rattle.rating.specs.Calls.{AnsweredIsInRange, IsWithinDay, said_in, row_size};
-ghost use Rattle.rating.specs.Columns.{HasAllColumns};
 ghost use Rattle.rating.specs.Rated.{IsPriced, IsRated, charge_by, differs, has_fault, is_right};
 ghost use Rattle.rating.specs.SaidOf.{rating_of};
 
@@ -62,7 +61,6 @@ pub(crate) fn rate_row<'a>(
     size: usize,
 ) -> Rated<'a>
     requires size { size ≡ row_size (fields_of row.now) }
-    requires columns { HasAllColumns width columns.now }
     ensures { IsRated tariff.now width columns.now (fields_of row.now) (rating_of result) }
 {
     if size > MAX_ROW {

@@ -4,7 +4,6 @@ ghost use Rattle.std.specs.Prelude.{◌≡◌, ◌<◌, ◌+◌, ◌-◌, ◌^�
 ghost use Rattle.std.specs.Io.KnownBytes.{Appends};
 ghost use Rattle.csv.specs.Records.{fields_of};
 ghost use Rattle.table_core.specs.Rows.{Fields, HasRowsLeft, rows_of};
-ghost use Rattle.rating.specs.Columns.{HasAllColumns};
 ghost use Rattle.rating.specs.Ends.{AddsRatedRow, EndsRating, IsRatingCutOff, IsRatingSilent, MayStop, SendsFront};
 ghost use Rattle.rating.specs.Lines.{header_line, shown};
 ghost use Rattle.rating.specs.Rated.{is_right};
@@ -111,7 +110,6 @@ impl Rater<'_> {
         text: &mut Vec<u8>,
         score: &mut Score,
     ) -> Result<(), AllocError>
-        requires columns { HasAllColumns self.now.width self.now.columns }
         requires bounded { IsBoundedScore score.old }
         requires room { score.old.rows < 2 ^ 64 - 1 }
         ensures adds { OnOk result ((whole : Fields) → fields_of row.now ≡ shown whole
@@ -148,7 +146,6 @@ fn rate_rows<I: Read + Drop, O: Write>(
     text: &mut Vec<u8>,
     output: &mut O,
 ) -> Result<Score, RateFault>
-    requires { HasAllColumns rater.now.width rater.now.columns }
     ensures ends { (header : Fields) → (left : List Fields)
         → HasRowsLeft I.remaining rows.old (map shown left)
         → text.old.items ≡ header_line header

@@ -6,7 +6,7 @@ use Rattle.account_core.specs.Asked.{Asked, Credits, Reserves, Settles, Returns,
 use Rattle.account_core.specs.Entries.{EntryData}
 use Rattle.account_core.specs.Laws.{EntriesAreInRange, EntryIsInRange}
 use Rattle.book_texts.specs.Typed.{IsTyped, IsTypedAsked}
-use Rattle.entry_rows.specs.Fits.{FitsAsked, FitsEntry}
+use Rattle.book_texts.specs.Fits.{FitsAsked, FitsEntry}
 use Rattle.held_calls.proofs.Listed.{all_passing}
 use Rattle.run_laws.proofs.Openings.{IsOpenedWithin}
 use Rattle.run_laws.proofs.Posts.{IsTimelyAsked, handled_all, mine_timely}

@@ -7,7 +7,7 @@ use Rattle.std.specs.Ordering.{nat_cmp}
 use Rattle.std.proofs.lemmas.List.{get_or-map, get_or_default, length-map}
 use Rattle.std.proofs.lemmas.List.Elements.{All-map, All-same}
 use Rattle.std.proofs.lemmas.Bool.{and_parts, leb-true}
-use Rattle.entry_rows.specs.Fits.{IsMoment, IsMoney}
+use Rattle.book_texts.specs.Fits.{IsMoment, IsMoney}
 use Rattle.held_calls.proofs.Listed.{all_unmapped}
 use Rattle.run_values.specs.Openings.{HasAccounts}
 use Rattle.run_values.proofs.Placing.{first_at}

@@ -6,7 +6,7 @@ use Rattle.account_core.specs.Asked.{Asked, Credits, Reserves, Settles, Returns}
 use Rattle.account_core.specs.Entries.{EntryData}
 use Rattle.cap_values.specs.declared.message.SsfMsg.{SsfMsg}
 use Rattle.cap_values.specs.declared.message.SsfMsg.TheVariants.{InitialDp, EventReport, ChargingReport, Ended}
-use Rattle.entry_rows.specs.Fits.{FitsReport, IsMoment}
+use Rattle.book_texts.specs.Fits.{FitsReport, IsMoment}
 use Rattle.held_calls.proofs.Listed.{all_joined, all_part, all_pieces, all_unmapped}
 use Rattle.run_laws.specs.Timely.{IsTimely, IsTimelyMessage}
 use Rattle.run_values.specs.Setups.{Setup}

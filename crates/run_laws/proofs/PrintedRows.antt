@@ -11,10 +11,10 @@ use Rattle.account_core.specs.Entries.{EntryData}
 use Rattle.account_core.specs.Laws.{IsReplyInRange}
 use Rattle.account_core.specs.declared.entry.Reply.{Reply}
 use Rattle.account_core.specs.declared.entry.Reply.TheVariants as reply
-use Rattle.entry_rows.specs.Columns.{Answer, Operation, reply_fields, in_fourth, no_answer, number_or_empty, opening_columns, operation_of}
-use Rattle.entry_rows.specs.declared.version.Version.{Version}
-use Rattle.entry_rows.specs.declared.version.Version.TheVariants as version
-use Rattle.entry_rows.specs.Fits.{FitsAsked, FitsEntry, IsInterval, IsMoment, IsRate}
+use Rattle.book_texts.specs.Columns.{Answer, Operation, reply_fields, in_fourth, no_answer, opening_columns, operation_of}
+use Rattle.book_texts.specs.declared.version.Version.{Version}
+use Rattle.book_texts.specs.declared.version.Version.TheVariants as version
+use Rattle.book_texts.specs.Fits.{FitsAsked, FitsEntry, IsInterval, IsMoment, IsRate}
 use Rattle.shared_account.specs.Closed.{Closed}
 use Rattle.table_core.specs.Printed.{DecimalsArePlain, IsPlain, IsPlainRow, line_of, lines_of}
 use Rattle.table_core.specs.Rows.{Fields}
@@ -22,6 +22,7 @@ use Rattle.price_core.specs.declared.times.TimeInfo.TheVariants as info
 use Rattle.book_texts.specs.BookTexts.{book_rows, book_text, entry_row, book_header, book_row}
 use Rattle.book_texts.specs.Books.{fourth_header, third_header}
 use Rattle.run_laws.specs.Printable.{FitsBook}
+use Rattle.table_core.specs.Fields.{number_or_empty}
 
 -- ---- fields
 

@@ -10,23 +10,24 @@ use Rattle.table_core.specs.Printed.{DecimalsAreRead}
 use Rattle.price_core.specs.Rates.{Rates}
 use Rattle.price_core.specs.declared.times.TimeInfo.{TimeInfo}
 use Rattle.price_core.specs.declared.times.TimeInfo.TheVariants as info
-use Rattle.entry_rows.specs.Column.{any_number_of, interval_of, is_empty_column, moment_column, money_of, number_column, optional_moment_of, optional_rate_of, rate_of, step_units_of, units_of}
-use Rattle.entry_rows.specs.Columns.{in_fourth, number_or_empty, operation_of}
-use Rattle.entry_rows.specs.Fits.{FitsAsked, FitsReport, IsInterval, IsMoment, IsMoney, IsRate, IsTime, IsWide}
+use Rattle.book_texts.specs.Column.{any_number_of, interval_of, moment_column, money_of, optional_moment_of, optional_rate_of, rate_of, step_units_of, units_of}
+use Rattle.book_texts.specs.Columns.{in_fourth, operation_of}
+use Rattle.book_texts.specs.Fits.{FitsAsked, FitsReport, IsInterval, IsMoment, IsMoney, IsRate, IsTime, IsWide}
 use Rattle.run_laws.specs.ReadBack.{IsReadAsOp, OperationsAreRead, RepliesAreRead}
-use Rattle.entry_rows.specs.Operations.{at_of, first_column, free_of, plan_in, reserve_in, step_column}
-use Rattle.entry_rows.specs.declared.version.Version.{Version}
-use Rattle.entry_rows.specs.declared.version.Version.TheVariants as version
-use Rattle.entry_rows.specs.declared.words.OpWord.TheVariants as op_word
-use Rattle.entry_rows.specs.declared.words.ReplyWord.TheVariants as reply_word
+use Rattle.book_texts.specs.Operations.{at_of, first_column, free_of, plan_in, reserve_in, step_column}
+use Rattle.book_texts.specs.declared.version.Version.{Version}
+use Rattle.book_texts.specs.declared.version.Version.TheVariants as version
+use Rattle.book_texts.specs.declared.words.OpWord.TheVariants as op_word
+use Rattle.book_texts.specs.declared.words.ReplyWord.TheVariants as reply_word
+use Rattle.table_core.specs.Fields.{is_empty_field, number_in_field, number_or_empty}
 
-not_empty : (number : ℕ) → number < 2 ^ 64 → is_empty_column (decimal number) ≡ false
+not_empty : (number : ℕ) → number < 2 ^ 64 → is_empty_field (decimal number) ≡ false
 not_empty number small = let some : 0 < length (decimal number) = decimal_nonempty number small in grind (arith, nat_tests)
 
 module _ (reads : DecimalsAreRead) where
   -- ---- columns
 
-  number_read : (most number : ℕ) → most < 2 ^ 64 → number ≤ most → number_column most (decimal number) ≡ Ok number
+  number_read : (most number : ℕ) → most < 2 ^ 64 → number ≤ most → number_in_field most (decimal number) ≡ Ok number
   number_read most number small within = rw (reads most number small within) refl
 
   wide : (number : ℕ) → IsWide number → any_number_of (decimal number) ≡ Ok number

@@ -16,13 +16,13 @@ use Rattle.account_core.specs.Answers.{IsLegal}
 use Rattle.account_core.specs.Asked.{Asked, Credits, Reserves, Returns, Settles}
 use Rattle.account_core.specs.Checked.{entries_counted}
 use Rattle.account_core.specs.Entries.{EntryData}
-use Rattle.entry_rows.specs.Column.{is_empty_column, moment_column, money_of, number_column, optional_moment_of, seat_of}
-use Rattle.entry_rows.specs.Columns.{Answer, Operation, reply_fields, no_answer, number_or_empty, opening_columns, operation_at, operation_of}
-use Rattle.entry_rows.specs.Fits.{FitsEntry, IsMoment, IsMoney}
+use Rattle.book_texts.specs.Column.{moment_column, money_of, optional_moment_of, seat_of}
+use Rattle.book_texts.specs.Columns.{Answer, Operation, reply_fields, no_answer, opening_columns, operation_at, operation_of}
+use Rattle.book_texts.specs.Fits.{FitsEntry, IsMoment, IsMoney}
 use Rattle.run_laws.specs.ReadBack.{OperationsAreRead, PrintsWhole, RepliesAreRead}
-use Rattle.entry_rows.specs.Versions.{version_at}
-use Rattle.entry_rows.specs.declared.version.Version.{Version}
-use Rattle.entry_rows.specs.declared.version.Version.TheVariants as version
+use Rattle.book_texts.specs.Versions.{version_at}
+use Rattle.book_texts.specs.declared.version.Version.{Version}
+use Rattle.book_texts.specs.declared.version.Version.TheVariants as version
 use Rattle.shared_account.specs.Closed.{Closed}
 use Rattle.table_core.specs.Printed.{DecimalsArePlain, DecimalsAreRead, TablesAreRead}
 use Rattle.table_core.specs.Rows.{Fields, rows_of}
@@ -39,6 +39,7 @@ use Rattle.run_laws.specs.PrintedBooks.{BooksAreRead, PrintedBooksHaveTheirLines
 use Rattle.run_laws.specs.Printable.{ArePrintable, FitsBook, row_count, account_of_book}
 use Rattle.book_texts.specs.RunTexts.{account_line, call_line, line_in}
 use Rattle.run_laws.proofs.PrintedRows.{book_fields, entry_fields, opening_fields, row_fields, table_fields, table_plain, text_lines, unmarked}
+use Rattle.table_core.specs.Fields.{is_empty_field, number_in_field, number_or_empty}
 
 -- ---- the last account of a list that rises
 
@@ -88,7 +89,7 @@ none_before (book ∷ books) = (tt, none_before books)
 
 -- ---- rows
 
-not_empty : (number : ℕ) → number < 2 ^ 64 → is_empty_column (decimal number) ≡ false
+not_empty : (number : ℕ) → number < 2 ^ 64 → is_empty_field (decimal number) ≡ false
 not_empty number small = let some : 0 < length (decimal number) = decimal_nonempty number small in grind (arith, nat_tests)
 
 not_opening : (version : Version) (asked : Asked) → bytes_eq (operation_of version asked).op (codes "opening") ≡ false
@@ -212,7 +213,7 @@ chosen steps books = by (steps || list_any (λ book. history_has_steps book.hist
     by false is = record { printed = tt; prints = books_whole books (or_parts steps _ is).1 }
 
 module _ (reads : DecimalsAreRead) (operations : OperationsAreRead) (replies : RepliesAreRead) where
-  number_read : (most number : ℕ) → most < 2 ^ 64 → number ≤ most → number_column most (decimal number) ≡ Ok number
+  number_read : (most number : ℕ) → most < 2 ^ 64 → number ≤ most → number_in_field most (decimal number) ≡ Ok number
   number_read most number small within = rw (reads most number small within) refl
 
   account_read : (account : ℕ) → account ≤ 4294967295 → book_account_in (decimal account) ≡ Ok account

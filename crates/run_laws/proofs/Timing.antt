@@ -4,7 +4,7 @@ use Rattle.std.specs.Prelude.{◌&&◌, nat_le, slice_index_or, IfSome}
 use Rattle.std.proofs.lemmas.Bool.{and_parts, eq-eqb, leb-true}
 use Rattle.std.proofs.lemmas.List.Elements.{All-append, All-cons, All-head, All-nil, All-same, All-tail}
 use Rattle.cap_values.specs.declared.message.SsfMsg.TheVariants as message
-use Rattle.entry_rows.specs.Fits.{FitsReport, IsMoment}
+use Rattle.book_texts.specs.Fits.{FitsReport, IsMoment}
 use Rattle.held_calls.proofs.Listed.{all_passing, all_unmapped}
 use Rattle.run_laws.specs.Timely.{AreTimely, IsTimely}
 use Rattle.run_command.specs.Plays.{IsPlayOf}

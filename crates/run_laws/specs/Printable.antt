@@ -3,7 +3,7 @@ use Rattle.std.specs.Prelude.{◌+◌, ◌≤◌, ℕ, List, [], ◌∷◌, leng
 use Rattle.std.specs.List.{All}
 use Rattle.std.specs.List.Sorted.{IsStrictlySortedBy}
 use Rattle.std.specs.Ordering.{nat_cmp}
-use Rattle.entry_rows.specs.Fits.{FitsEntry, IsMoment, IsMoney}
+use Rattle.book_texts.specs.Fits.{FitsEntry, IsMoment, IsMoney}
 use Rattle.shared_account.specs.Closed.{Closed}
 use Rattle.book_texts.specs.Books.{Booked}
 

@@ -3,15 +3,15 @@ use Rattle.std.specs.Prelude.{◌≡◌, true, Ok, ⊤}
 use Rattle.account_core.specs.Asked.{Asked, Reserves}
 use Rattle.account_core.specs.Laws.{IsReplyInRange}
 use Rattle.account_core.specs.declared.entry.Reply.{Reply}
-use Rattle.entry_rows.specs.Columns.{Answer, Operation, reply_fields, operation_of}
-use Rattle.entry_rows.specs.Fits.{FitsAsked}
-use Rattle.entry_rows.specs.Operations.{asked_in, is_asked_blank}
-use Rattle.entry_rows.specs.Replies.{is_reply_blank, reply_in}
-use Rattle.entry_rows.specs.Words.{op_word_in, reply_word_in}
-use Rattle.entry_rows.specs.declared.version.Version.{Version}
-use Rattle.entry_rows.specs.declared.version.Version.TheVariants as version
-use Rattle.entry_rows.specs.declared.words.OpWord.{OpWord}
-use Rattle.entry_rows.specs.declared.words.ReplyWord.{ReplyWord}
+use Rattle.book_texts.specs.Columns.{Answer, Operation, reply_fields, operation_of}
+use Rattle.book_texts.specs.Fits.{FitsAsked}
+use Rattle.book_texts.specs.Operations.{asked_in, is_asked_blank}
+use Rattle.book_texts.specs.Replies.{is_reply_blank, reply_in}
+use Rattle.book_texts.specs.Words.{op_word_in, reply_word_in}
+use Rattle.book_texts.specs.declared.version.Version.{Version}
+use Rattle.book_texts.specs.declared.version.Version.TheVariants as version
+use Rattle.book_texts.specs.declared.words.OpWord.{OpWord}
+use Rattle.book_texts.specs.declared.words.ReplyWord.{ReplyWord}
 
 -- columns are read as an operation: their word is known, their numbers are its own, and the others are empty
 pub record IsReadAsOp (asked : Asked) (columns : Operation) : Type 0 where

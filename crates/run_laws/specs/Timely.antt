@@ -2,7 +2,7 @@
 use Rattle.std.specs.Prelude.{ℕ, List, All, IfSome}
 use Rattle.cap_values.specs.declared.message.SsfMsg.{SsfMsg}
 use Rattle.cap_values.specs.declared.message.SsfMsg.TheVariants.{InitialDp, EventReport, ChargingReport, Ended}
-use Rattle.entry_rows.specs.Fits.{FitsReport, IsMoment}
+use Rattle.book_texts.specs.Fits.{FitsReport, IsMoment}
 use Rattle.run_values.specs.declared.post.Body.{Body}
 use Rattle.run_values.specs.declared.post.Body.TheVariants.{Ssf, Recharge}
 

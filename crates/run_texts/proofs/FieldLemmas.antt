@@ -1,5 +1,5 @@
 -- The fields of a row: how many there are, and the number of a party, which is text.
-use Rattle.std.proofs.Common.{◌≡◌, ◌<◌, ◌≤◌, ℕ, zero, suc, Bool, true, false, List, [], ◌∷◌, Ok, Err, length, refl, arith}
+use Rattle.std.proofs.Common.{◌≡◌, ◌<◌, ℕ, zero, suc, Bool, true, false, List, [], ◌∷◌, Ok, Err, length, refl, arith}
 use Rattle.std.specs.Prelude.{◌&&◌, if◌then◌else◌, nat_le, slice_index}
 use Rattle.std.specs.Char.{is_ascii_digit}
 use Rattle.std.specs.List.{list_all}
@@ -9,10 +9,7 @@ use Rattle.std.proofs.lemmas.Str.{IsUtf8-from_ascii}
 use Rattle.std.proofs.lemmas.Bool.{and_parts}
 use Rattle.cap_values.specs.Numbers.{is_number}
 use Rattle.table_core.specs.declared.fault.RowKind.TheVariants as kind
-use Rattle.table_core.specs.Rows.{Fields}
-use Rattle.table_core.specs.Tables.{width_at}
-use Rattle.run_texts.specs.Scripts.{script_headers}
-use Rattle.run_texts.specs.Setups.{party_in_field, setup_headers}
+use Rattle.run_texts.specs.Setups.{party_in_field}
 
 digit_below : (c : ℕ) → is_ascii_digit c ≡ true → c < 128
 digit_below c digit = grind (arith, nat_tests)
@@ -30,14 +27,3 @@ by_test false text is not_text = refl
 -- what isn't text isn't the number of a party
 pub no_party : (field : List ℕ) → (IsUtf8 field → ⊥) → Err kind.Number ≡ party_in_field field
 no_party field not_text = by_test _ field refl not_text
-
--- a row that is as wide as its header has the columns of the older one
-pub script_columns : (header : ℕ) (fields : Fields) → header < length script_headers → length fields ≡ width_at script_headers header → 5 ≤ length fields
-script_columns zero fields one wide = omega (arith, wide)
-script_columns (suc zero) fields one wide = omega (arith, wide)
-script_columns (suc (suc header)) fields one wide = absurd (omega (arith, one))
-
-pub setup_columns : (header : ℕ) (fields : Fields) → header < length setup_headers → length fields ≡ width_at setup_headers header → 3 ≤ length fields
-setup_columns zero fields one wide = omega (arith, wide)
-setup_columns (suc zero) fields one wide = omega (arith, wide)
-setup_columns (suc (suc header)) fields one wide = absurd (omega (arith, one))

@@ -1,13 +1,12 @@
 -- The meaning of a setup: its accounts and subscribers, or the first fault.
-use Rattle.std.specs.Prelude.{ℕ, Bool, List, [], ◌∷◌, length, Option, Result, Ok, Err, if◌then◌else◌, nat_le, codes, ok_or}
+use Rattle.std.specs.Prelude.{ℕ, Bool, List, [], ◌∷◌, length, Option, Result, Ok, Err, if◌then◌else◌, nat_le, codes}
 use Rattle.std.specs.BTreeMap.{insert_entry}
 use Rattle.std.specs.Cmp.Lexicographic.{slice_cmp}
 use Rattle.std.specs.List.{list_any}
 use Rattle.std.specs.Ordering.{nat_cmp}
 use Rattle.std.specs.Str.{bytes_eq}
 use Rattle.cap_values.specs.Numbers.{is_number}
-use Rattle.table_core.specs.Decimals.{decimal_of}
-use Rattle.table_core.specs.Fields.{field_in, has_word, is_blank}
+use Rattle.table_core.specs.Fields.{field_in, has_word, is_blank, number_in_field}
 use Rattle.table_core.specs.Judging.{and_then}
 use Rattle.table_core.specs.Rows.{Fields}
 use Rattle.table_core.specs.Tables.{TableForm, table_form, table_of}
@@ -37,17 +36,17 @@ party_in_field field = if is_number field then Ok field else Err kind.Number
 
 -- the number of an account
 abbrev pub account_in_field : List ℕ → Result ℕ RowKind
-account_in_field field = ok_or (decimal_of 4294967295 field) kind.Number
+account_in_field field = number_in_field 4294967295 field
 
 -- money: 0 to 10^15
 abbrev pub amount_in_field : List ℕ → Result ℕ RowKind
-amount_in_field field = ok_or (decimal_of MAX_MONEY field) kind.Number
+amount_in_field field = number_in_field MAX_MONEY field
 
 -- a last moment, 0 to 10^12; none where the field is empty, or isn't there under the table's header
 abbrev pub until_in_field : List ℕ → Result (Option ℕ) RowKind
 until_in_field field = optional_moment_in_field MAX_MOMENT field
 
--- each in the field at a place
+-- a party, an account, money and a last moment in the field at a place
 abbrev pub party_in : List (List ℕ) → ℕ → Result (List ℕ) RowKind
 party_in fields place = party_in_field (field_in fields place)
 

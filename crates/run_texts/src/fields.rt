@@ -3,19 +3,16 @@
 ghost use Rattle.std.specs.Prelude.{◌≡◌, ◌≤◌, true, IfOk};
 ghost use Rattle.std.specs.Result.{result_map_both};
 ghost use Rattle.cap_values.specs.NumberDigits.{digits_of_number};
-ghost use Rattle.csv.specs.Records.{fields_of};
 ghost use Rattle.moment_texts.specs.Fields.{moment_in_field};
 ghost use Rattle.run_texts.specs.Setups.{account_in_field, amount_in_field, party_in_field, until_in_field};
-ghost use Rattle.table_core.specs.Fields.{field_in, is_blank};
 ghost use Rattle.run_values.specs.Openings.{expires_in_time};
 
 use cap_values::Number;
-use csv::ByteRecord;
 use moment_texts::moment;
 use price_core::{MAX_MOMENT, MAX_MONEY};
 use ssf_core::Moment;
 use std::str;
-use table_core::{RowKind, decimal, field};
+use table_core::{RowKind, decimal};
 
 /// The number of an account: a decimal of 32 bits.
 pub fn account(field: &[u8]) -> Result<u32, RowKind>
@@ -66,21 +63,4 @@ pub fn party(field: &[u8]) -> Result<Number, RowKind>
         Ok(party) => Ok(party),
         Err(_) => Err(RowKind::Number),
     }
-}
-
-/// The bytes of the field at `place`, from 0; none where the row ends before it.
-pub(crate) fn last_field(row: &ByteRecord, place: usize) -> &[u8]
-    ensures { result.now ≡ field_in (fields_of row.now) place }
-{
-    if row.len() <= place {
-        return &[];
-    }
-    field(row, place)
-}
-
-/// Whether the field at `place` is empty, or the row ends before it.
-pub(crate) fn is_left_out(row: &ByteRecord, place: usize) -> bool
-    ensures { result ≡ is_blank (fields_of row.now) place }
-{
-    last_field(row, place).is_empty()
 }

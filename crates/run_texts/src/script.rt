@@ -1,6 +1,6 @@
 //! The script of a run: what happens, row after row.
 
-ghost use Rattle.std.specs.Prelude.{◌≡◌, ◌≤◌, All, IfOk, IfSome, OnOk, length, map, true};
+ghost use Rattle.std.specs.Prelude.{◌≡◌, ◌≤◌, All, IfOk, IfSome, OnOk, map, true};
 ghost use Rattle.std.specs.Result.{result_map_both};
 ghost use Rattle.run_texts.specs.Scripts.{judged_by, last_row_moment, script_row_at, script_of, call_in, disconnect_in, event_row_in, happens_in, leg_of, read_in, recharge_row_in, start_row_in, row_when_blank, row_word_in};
 ghost use Rattle.run_texts.specs.Starts.{HasCalls, NotesStart};
@@ -10,7 +10,7 @@ ghost use Rattle.csv.specs.Records.{fields_of};
 ghost use Rattle.table_core.specs.Faults.{GivesTable};
 ghost use Rattle.table_core.specs.Rows.{rows_of};
 
-use crate::fields::{account, amount, is_left_out, last_field, moment_field, party, until};
+use crate::fields::{account, amount, moment_field, party, until};
 use cap_values::{Leg, Number};
 use csv::ByteRecord;
 use price_core::MAX_MOMENT;
@@ -78,7 +78,6 @@ fn judge(
     last: Moment,
     row: &ByteRecord,
 ) -> Result<ScriptRow, RowKind>
-    requires { 5 ≤ length (fields_of row.now) }
     ensures says { (earlier : _) → HasCalls calls.now earlier → last ≡ last_row_moment earlier
         → result_map_both row_data (λ kind. kind) result
         ≡ script_row_at directory.now.accounts earlier (fields_of row.now) }
@@ -172,7 +171,6 @@ pub enum Happening {
 
 /// What a row says, wherever it is: of five fields, or of six under the second header.
 fn read_row(row: &ByteRecord) -> Result<ScriptRow, RowKind>
-    requires { 5 ≤ length (fields_of row.now) }
     ensures says { result_map_both row_data (λ kind. kind) result
         ≡ read_in (fields_of row.now) }
     ensures in_range { IfOk result (λ row. row.at ≤ MAX_MOMENT) }
@@ -185,7 +183,6 @@ fn read_row(row: &ByteRecord) -> Result<ScriptRow, RowKind>
 }
 
 fn read_happening(row: &ByteRecord, word: Word) -> Result<Happening, RowKind>
-    requires { 5 ≤ length (fields_of row.now) }
     ensures says { result_map_both happens_of (λ kind. kind) result
         ≡ happens_in (fields_of row.now) word }
     ensures in_time { IfOk result (λ what. is_in_time (happens_of what) ≡ true) }
@@ -199,14 +196,12 @@ fn read_happening(row: &ByteRecord, word: Word) -> Result<Happening, RowKind>
 }
 
 fn read_call(row: &ByteRecord) -> Result<u64, RowKind>
-    requires { 5 ≤ length (fields_of row.now) }
     ensures { result ≡ call_in (fields_of row.now) }
 {
     number(row, 1, u64::MAX)
 }
 
 fn read_start(row: &ByteRecord) -> Result<Happening, RowKind>
-    requires { 5 ≤ length (fields_of row.now) }
     ensures says { result_map_both happens_of (λ kind. kind) result
         ≡ start_row_in (fields_of row.now) }
     ensures in_time { IfOk result (λ what. is_in_time (happens_of what) ≡ true) }
@@ -219,22 +214,20 @@ fn read_start(row: &ByteRecord) -> Result<Happening, RowKind>
         calling,
         called,
     };
-    when_blank(is_left_out(row, 5), start)
+    when_blank(is_blank(row, 5), start)
 }
 
 fn read_event(row: &ByteRecord, event: BcsmEvent) -> Result<Happening, RowKind>
-    requires { 5 ≤ length (fields_of row.now) }
     ensures says { result_map_both happens_of (λ kind. kind) result
         ≡ event_row_in (fields_of row.now) event }
     ensures in_time { IfOk result (λ what. is_in_time (happens_of what) ≡ true) }
 {
     let call = read_call(row)?;
-    let blank = is_blank(row, 3) && is_blank(row, 4) && is_left_out(row, 5);
+    let blank = is_blank(row, 3) && is_blank(row, 4) && is_blank(row, 5);
     when_blank(blank, Happening::Meets { call, event })
 }
 
 fn read_disconnect(row: &ByteRecord) -> Result<Happening, RowKind>
-    requires { 5 ≤ length (fields_of row.now) }
     ensures says { result_map_both happens_of (λ kind. kind) result
         ≡ disconnect_in (fields_of row.now) }
     ensures in_time { IfOk result (λ what. is_in_time (happens_of what) ≡ true) }
@@ -242,7 +235,7 @@ fn read_disconnect(row: &ByteRecord) -> Result<Happening, RowKind>
     let call = read_call(row)?;
     let leg = number(row, 3, 2)?;
     let event = disconnect(leg)?;
-    let blank = is_blank(row, 4) && is_left_out(row, 5);
+    let blank = is_blank(row, 4) && is_blank(row, 5);
     when_blank(blank, Happening::Meets { call, event })
 }
 
@@ -266,14 +259,13 @@ fn disconnect(leg: u64) -> Result<BcsmEvent, RowKind>
 }
 
 fn read_recharge(row: &ByteRecord) -> Result<Happening, RowKind>
-    requires { 5 ≤ length (fields_of row.now) }
     ensures says { result_map_both happens_of (λ kind. kind) result
         ≡ recharge_row_in (fields_of row.now) }
     ensures in_time { IfOk result (λ what. is_in_time (happens_of what) ≡ true) }
 {
     let account = account(field(row, 3))?;
     let amount = amount(field(row, 4))?;
-    let until = until(last_field(row, 5))?;
+    let until = until(field(row, 5))?;
     let recharge = Happening::Recharge {
         account,
         amount,
@@ -297,7 +289,6 @@ enum Word {
 
 /// The word in a row, its third field.
 fn read_word(row: &ByteRecord) -> Result<Word, RowKind>
-    requires { 5 ≤ length (fields_of row.now) }
     ensures { result ≡ row_word_in (fields_of row.now) }
 {
     if has_word(row, 2, "start") {

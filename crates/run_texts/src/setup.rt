@@ -10,12 +10,12 @@ ghost use Rattle.table_core.specs.Rows.{rows_of};
 ghost use Rattle.run_values.specs.Setups.{ListingIsWithin};
 ghost use Rattle.run_texts.specs.declared.setup.ListFault.TheVariants as out;
 
-use crate::fields::{account, amount, is_left_out, last_field, party, until};
+use crate::fields::{account, amount, party, until};
 use csv::ByteRecord;
 use run_values::{Directory, MAX_ACCOUNTS, OpeningCredit, SetupFault};
 use std::alloc::Global;
 use std::io::Read;
-use table_core::{RowKind, Table, TableFault, field, has_word};
+use table_core::{RowKind, Table, TableFault, field, has_word, is_blank};
 
 /// The most rows of a setup, its header not counted.
 const MAX_ROWS: u32 = 10_000;
@@ -55,8 +55,7 @@ pub fn read_setup<I: Read + Drop>(alloc: Global, reader: I) -> Result<Directory,
 /// Lists what a row names.
 #[tactic(auto, unfolding(crate::specs::Setups::setup_row_at))]
 fn list_row(directory: &mut Directory, row: &ByteRecord) -> Result<(), ListFault>
-    requires fields { 3 ≤ length (fields_of row.now) }
-    requires few { length directory.old.accounts ≤ 1000 }
+    requires { length directory.old.accounts ≤ 1000 }
     ensures means { ListsRow result (setup_in directory.new)
         (setup_row_at (setup_in directory.old) (fields_of row.now)) }
     ensures few { OnOk result (length directory.new.accounts ≤ 1000) }
@@ -73,8 +72,7 @@ fn list_row(directory: &mut Directory, row: &ByteRecord) -> Result<(), ListFault
 }
 
 fn list_account(directory: &mut Directory, row: &ByteRecord) -> Result<(), ListFault>
-    requires fields { 3 ≤ length (fields_of row.now) }
-    requires few { length directory.old.accounts ≤ 1000 }
+    requires { length directory.old.accounts ≤ 1000 }
     ensures means { ListsRow result (setup_in directory.new)
         (account_row (setup_in directory.old) (fields_of row.now)) }
     ensures few { OnOk result (length directory.new.accounts ≤ 1000) }
@@ -87,15 +85,14 @@ fn list_account(directory: &mut Directory, row: &ByteRecord) -> Result<(), ListF
     let number = account(field(row, 1))?;
     let opening = OpeningCredit {
         amount: amount(field(row, 2))?,
-        until: until(last_field(row, 3))?,
+        until: until(field(row, 3))?,
     };
     directory.account(number, opening)?;
     Ok(())
 }
 
 fn list_subscriber(directory: &mut Directory, row: &ByteRecord) -> Result<(), ListFault>
-    requires fields { 3 ≤ length (fields_of row.now) }
-    requires few { length directory.old.accounts ≤ 1000 }
+    requires { length directory.old.accounts ≤ 1000 }
     ensures means { ListsRow result (setup_in directory.new)
         (subscriber_row (setup_in directory.old) (fields_of row.now)) }
     ensures few { OnOk result (length directory.new.accounts ≤ 1000) }
@@ -104,7 +101,7 @@ fn list_subscriber(directory: &mut Directory, row: &ByteRecord) -> Result<(), Li
 {
     let number = party(field(row, 1))?;
     let account = account(field(row, 2))?;
-    if !is_left_out(row, 3) {
+    if !is_blank(row, 3) {
         return Err(ListFault::Row(RowKind::Empty));
     }
     directory.subscriber(number, account)?;

@@ -1,5 +1,5 @@
 -- The lines so far are those of the asks so far.
-use Rattle.std.proofs.Common.{◌≡◌, ◌<◌, ℕ, zero, suc, length, arith, None, Option, List, [], ◌∷◌, ◌++◌, Result, Ok, Err, refl, sym, ap, ◌∙◌, append_assoc, append-nil, inl, inr, reverse}
+use Rattle.std.proofs.Common.{◌≡◌, ℕ, None, Option, List, [], ◌∷◌, ◌++◌, Result, Ok, Err, refl, sym, ap, ◌∙◌, append_assoc, append-nil, inl, inr, reverse}
 use Rattle.std.specs.Prelude.{◌≢◌, IfErr, IfOk, OnErr, OnOk}
 use Rattle.std.proofs.lemmas.List.{reverse-append}
 use Rattle.account_core.specs.Asked.{Asked}
@@ -10,23 +10,9 @@ use Rattle.account_core.specs.declared.teller.Teller.{Teller}
 use Rattle.account_core.specs.declared.entry.Reply.{Reply}
 use Rattle.account_core.specs.declared.fault.AccountFault.{AccountFault}
 use Rattle.account_core.specs.declared.fault.AccountFault.TheVariants as fault
-use Rattle.entry_rows.specs.Columns.{HasOperation}
-use Rattle.entry_rows.specs.Versions.{version_at}
-use Rattle.table_core.specs.Rows.{Fields}
-use Rattle.table_core.specs.Tables.{width_at}
-use Rattle.table_commands.specs.Asks.{SeatAsk, asks_headers}
+use Rattle.table_commands.specs.Asks.{SeatAsk}
 use Rattle.table_commands.specs.ReplayLines.{response_line}
 use Rattle.table_commands.specs.Replays.{history_after, line_of_ask, replay_lines}
-
--- a row that is as wide as its header has the columns of the header's version
-pub has_operation : (header : ℕ) (fields : Fields) → header < length asks_headers → length fields ≡ width_at asks_headers header
-    → HasOperation (version_at header) fields 1
-has_operation zero fields one wide = (omega (arith, wide), λ later. absurd (later refl), λ later. absurd (later refl), λ four. cc)
-has_operation (suc zero) fields one wide = (omega (arith, wide), λ two. omega (arith, wide), λ later other. absurd (other refl), λ four. cc)
-has_operation (suc (suc zero)) fields one wide = (omega (arith, wide), λ two. omega (arith, wide), λ later other. omega (arith, wide), λ four. cc)
-has_operation (suc (suc (suc zero))) fields one wide =
-    (omega (arith, wide), λ two. omega (arith, wide), λ later other. omega (arith, wide), λ four. omega (arith, wide))
-has_operation (suc (suc (suc (suc header)))) fields one wide = absurd (omega (arith, one))
 
 -- ---- one more ask
 

@@ -7,12 +7,12 @@ use Rattle.table_core.specs.Tables.{TableForm, table_form, table_of}
 use Rattle.table_core.specs.declared.fault.RowFault.{RowFault}
 use Rattle.table_core.specs.declared.fault.RowKind.{RowKind}
 use Rattle.table_core.specs.declared.fault.RowKind.TheVariants as kind
-use Rattle.entry_rows.specs.Column.{seat_of}
-use Rattle.entry_rows.specs.Columns.{Operation, operation_at}
-use Rattle.entry_rows.specs.Operations.{asked_in, is_asked_blank}
-use Rattle.entry_rows.specs.Versions.{version_at}
-use Rattle.entry_rows.specs.Words.{op_word_in}
-use Rattle.entry_rows.specs.declared.version.Version.{Version}
+use Rattle.book_texts.specs.Column.{seat_of}
+use Rattle.book_texts.specs.Columns.{Operation, operation_at}
+use Rattle.book_texts.specs.Operations.{asked_in, is_asked_blank}
+use Rattle.book_texts.specs.Versions.{version_at}
+use Rattle.book_texts.specs.Words.{op_word_in}
+use Rattle.book_texts.specs.declared.version.Version.{Version}
 
 -- what a seat asks
 pub record SeatAsk : Type 0 where

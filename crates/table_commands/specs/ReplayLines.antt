@@ -2,7 +2,7 @@
 use Rattle.std.specs.Prelude.{List, ◌++◌, Result, codes, ℕ}
 use Rattle.account_core.specs.declared.entry.Reply.{Reply}
 use Rattle.account_core.specs.declared.fault.AccountFault.{AccountFault}
-use Rattle.entry_rows.specs.Responses.{response_text}
+use Rattle.book_texts.specs.Responses.{response_text}
 
 -- the line of an answer: its reply, or the fault in its place
 abbrev pub response_line : Result Reply AccountFault → List ℕ

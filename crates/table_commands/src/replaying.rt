@@ -9,13 +9,12 @@ ghost use Rattle.table_commands.specs.AskingOf.{asking_of};
 ghost use Rattle.table_core.specs.Faults.{GivesTable};
 ghost use Rattle.table_core.specs.Rows.{rows_of};
 ghost use Rattle.csv.specs.Records.{fields_of};
-ghost use Rattle.entry_rows.specs.Columns.{HasOperation};
 ghost use Rattle.table_core.specs.declared.fault.TableFault.TheVariants as out;
 
 use crate::input::MAX_ROWS;
 use account_core::{AccountFault, Op, Reply, Teller};
+use book_texts::{Version, is_op_blank, read_op, read_op_word, read_seat, write_response};
 use csv::ByteRecord;
-use entry_rows::{Version, is_op_blank, read_op, read_op_word, read_seat, write_response};
 use price_core::MAX_MONEY;
 use std::alloc::Global;
 use std::io::Read;
@@ -88,7 +87,6 @@ struct Ask {
 /// What a row of a table of this version asks.
 #[tactic(auto, unfolding(crate::specs::Asks::asking_in))]
 fn read_ask(row: &ByteRecord, version: Version) -> Result<Ask, RowKind>
-    requires { HasOperation version (fields_of row.now) 1 }
     ensures { result_map_both asking_of (λ kind. kind) result
         ≡ seat_ask_in version (fields_of row.now) }
 {

@@ -1,6 +1,6 @@
 //! The reports that `price` reads.
 
-ghost use Rattle.std.specs.Prelude.{◌≡◌, length, IfSome};
+ghost use Rattle.std.specs.Prelude.{◌≡◌, IfSome};
 ghost use Rattle.table_commands.specs.Reports.{report_row_in, table_reports_of};
 ghost use Rattle.csv.specs.Records.{fields_of};
 ghost use Rattle.table_core.specs.Faults.{GivesTable};
@@ -39,7 +39,6 @@ pub fn read_reports<I: Read + Drop>(
 
 /// The report in a row, after the times of the row before it.
 fn report(plan: &Plan, last: Times, row: &ByteRecord) -> Result<Times, RowKind>
-    requires { length (fields_of row.now) ≡ 2 }
     ensures { result ≡ report_row_in (rates_of plan.now) last (fields_of row.now) }
 {
     let before = number(row, 0, u64::from(DAY))? as u32;

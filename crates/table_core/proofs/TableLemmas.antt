@@ -8,7 +8,7 @@ use Rattle.table_core.proofs.Known.{map_known}
 use Rattle.table_core.specs.Faults.{GivesTable, RefusesTable}
 use Rattle.table_core.specs.Reading.{HasRows, IsAtFirst, IsNextRow, Opens, StepsRow, StepsBy, first_header}
 use Rattle.table_core.specs.Rows.{Fields, HasRowsLeft, rows_of}
-use Rattle.table_core.specs.Tables.{TableForm, below, own_fault, rows_from, table_of, then_rows, unless_own, which_header, width_at}
+use Rattle.table_core.specs.Tables.{TableForm, below, own_fault, rows_from, table_of, then_rows, unless_own, which_header}
 use Rattle.table_core.specs.declared.fault.RowFault.{RowFault}
 use Rattle.table_core.specs.declared.fault.RowKind.{RowKind}
 use Rattle.table_core.specs.declared.fault.RowKind.TheVariants as kind
@@ -84,8 +84,6 @@ module _ {R S K F : Type 0} (form : TableForm S K F) (remaining : R → Option (
 
   pub record IsRead (known : Option (List ℕ)) (table : Table R) (read : S) : Type 0 where
     pub most_rows : table.most_rows ≡ form.most_rows
-    pub header : table.header < length form.headers
-    pub width : table.width ≡ width_at form.headers table.header
     pub so_far : IfSome known (IsSoFar table read)
 
   module _ (known : Option (List ℕ)) where
@@ -94,8 +92,6 @@ module _ {R S K F : Type 0} (form : TableForm S K F) (remaining : R → Option (
     unfolding table_of
     opened table first opens = record {
       most_rows = first.most_rows;
-      header = first.header;
-      width = first.width;
       so_far = map_known known _ _ opens (λ text (header, left, rows_are, which, width, has). record {
         left = left;
         has = has;
@@ -117,22 +113,6 @@ module _ {R S K F : Type 0} (form : TableForm S K F) (remaining : R → Option (
     not_opened why opens = map_known known _ _ opens (λ text. not_opened_by why (rows_of text))
 
     module _ (before after : Table R) (read : S) (was : IsRead known before read) where
-      only_header : (header : ℕ) (names : Fields) → header < length (names ∷ []) → width_at (names ∷ []) header ≡ length names
-      only_header header names there = let zeroth : header ≡ 0 = omega (arith, there) in rw zeroth refl
-
-      -- a row has as many fields as the header that its table has
-      pub row_columns : IsNextRow before after → length (fields_of after.rows.row) ≡ width_at form.headers after.header
-      row_columns next = rw next.same.header (next.width ∙ next.same.width ∙ was.width)
-
-      -- and that is one of the headers
-      pub header_stays : IsNextRow before after → after.header < length form.headers
-      header_stays next = rw next.same.header was.header
-
-      -- a row of a table with one header has as many fields as that
-      pub row_width : (names : Fields) → form.headers ≡ names ∷ [] → IsNextRow before after → length (fields_of after.rows.row) ≡ length names
-      row_width names one next =
-          next.width ∙ next.same.width ∙ was.width ∙ rw one (only_header before.header names (rw one at was.header))
-
       by_rows : {left rows : List Fields} → left ≡ rows
           → rows_from form before.header before.width (before.number + 1) read left ≡ rows_from form before.header before.width (before.number + 1) read rows
       by_rows same = ap (rows_from form before.header before.width (before.number + 1) read) same
@@ -154,8 +134,6 @@ module _ {R S K F : Type 0} (form : TableForm S K F) (remaining : R → Option (
       pub taken : (now : S) → IsNextRow before after → StepsRow remaining before after (Ok true) → form.judge before.header read (fields_of after.rows.row) ≡ Ok now → IsRead known after now
       taken now next steps is = record {
         most_rows = next.same.most_rows ∙ was.most_rows;
-        header = rw next.same.header was.header;
-        width = rw (next.same.width, next.same.header) was.width;
         so_far = map_known known _ _ was.so_far (λ text so_far.
             let (rest, left_are, has) = steps so_far.left so_far.has in
             record { left = rest; has = has; is = so_far.is ∙ by_rows left_are ∙ row_judged _ rest (Ok now) next refl is });

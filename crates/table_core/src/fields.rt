@@ -1,6 +1,6 @@
 //! The fields of a row, and the numbers in them.
 
-ghost use Rattle.std.specs.Prelude.{◌≡◌, ◌<◌, ◌≤◌, ◌++◌, length, unwrap_or, IfOk, true, IfSome, OnOk, string_bytes};
+ghost use Rattle.std.specs.Prelude.{◌≡◌, ◌≤◌, ◌++◌, length, unwrap_or, IfOk, true, IfSome, OnOk, string_bytes};
 ghost use Rattle.std.specs.Char.{is_ascii_digit};
 ghost use Rattle.std.specs.List.{list_all};
 ghost use Rattle.std.specs.Str.{bytes_eq};
@@ -17,12 +17,11 @@ use std::alloc::AllocError;
 /// The most digits that a decimal may have, leading zeros counted.
 const MAX_DIGITS: usize = 20;
 
-/// The bytes of the field at `place`, from 0.
+/// The bytes of the field at `place`, from 0; none where the row ends before it.
 pub fn field(row: &ByteRecord, place: usize) -> &[u8]
-    requires { place < length (fields_of row.now) }
     ensures { result.now ≡ field_in (fields_of row.now) place }
 {
-    row.get(place).unwrap()
+    row.get(place).unwrap_or(&[])
 }
 
 /// Whether a field is `word`, byte for byte.
@@ -34,7 +33,6 @@ pub fn is_word(field: &[u8], word: &str) -> bool
 
 /// Whether the field at `place` is `word`, byte for byte.
 pub fn has_word(row: &ByteRecord, place: usize, word: &str) -> bool
-    requires { place < length (fields_of row.now) }
     ensures { result ≡ has_word (fields_of row.now) place word.now }
 {
     is_word(field(row, place), word)
@@ -42,24 +40,21 @@ pub fn has_word(row: &ByteRecord, place: usize, word: &str) -> bool
 
 /// The decimal in the field at `place`, from 0 to `most`; else the row's kind `Number`.
 pub fn number(row: &ByteRecord, place: usize, most: u64) -> Result<u64, RowKind>
-    requires { place < length (fields_of row.now) }
     ensures value { result ≡ number_in (fields_of row.now) place most }
     ensures within { IfOk result (λ number. number ≤ most) }
 {
     decimal(field(row, place), most).ok_or(RowKind::Number)
 }
 
-/// Whether the field at `place` is empty.
+/// Whether the field at `place` is empty, or the row ends before it.
 pub fn is_blank(row: &ByteRecord, place: usize) -> bool
-    requires { place < length (fields_of row.now) }
     ensures { result ≡ is_blank (fields_of row.now) place }
 {
     field(row, place).is_empty()
 }
 
-/// The decimal in the field at `place`, or none where the field is empty.
+/// The decimal in the field at `place`, or none where that is empty.
 pub fn optional(row: &ByteRecord, place: usize, most: u64) -> Result<Option<u64>, RowKind>
-    requires { place < length (fields_of row.now) }
     ensures value { result ≡ optional_in (fields_of row.now) place most }
     ensures within { IfOk result (λ number. unwrap_or number 0 ≤ most) }
 {

@@ -7,6 +7,7 @@
 
 mod fault;
 mod fields;
+mod optional_field;
 mod printed;
 mod table;
 
@@ -15,5 +16,6 @@ pub use fields::{
     are_digits, decimal, field, has_word, is_blank, is_decimal, is_word, number, optional,
     write_digits,
 };
+pub use optional_field::Field;
 pub use printed::{printed_decimals_are_read, printed_tables_are_read};
 pub use table::{Rows, Table};

@@ -1,11 +1,11 @@
 -- The rows so far and those that are left are the rows of the table.
-use Rattle.std.proofs.Common.{◌≡◌, ℕ, zero, suc, ◌<◌, ◌+◌, ◌≤◌, Bool, true, false, List, [], ◌∷◌, length, Option, Some, None, Result, Ok, Err, refl, ap, ◌∙◌, arith}
+use Rattle.std.proofs.Common.{◌≡◌, ℕ, ◌+◌, ◌≤◌, Bool, true, false, List, [], ◌∷◌, length, Option, Some, None, Result, Ok, Err, refl, ap, ◌∙◌, arith}
 use Rattle.std.specs.Prelude.{IsErrAnd, if◌then◌else◌, map, nat_le, nat_lt}
 use Rattle.std.proofs.lemmas.Bool.Decides.{nat_tests}
 use Rattle.std.specs.List.{list_any}
 use Rattle.table_core.specs.Judging.{and_then}
 use Rattle.table_core.specs.Rows.{Fields, rows_of}
-use Rattle.table_core.specs.Tables.{below, own_fault, rows_from, table_of, then_rows, unless_own, which_header, width_at}
+use Rattle.table_core.specs.Tables.{below, own_fault, rows_from, table_of, then_rows, unless_own, which_header}
 use Rattle.table_core.specs.declared.fault.TableFault.{TableFault}
 use Rattle.table_core.specs.declared.fault.TableFault.TheVariants as fault
 use Rattle.table_core.specs.Reading.{header_of, row_number_of, row_width}
@@ -16,7 +16,7 @@ use Rattle.tariff_core.specs.Bands.{Band, have_steps}
 use Rattle.price_core.specs.Rates.{are_steps}
 use Rattle.tariff_core.specs.Tariff.{band_of}
 use Rattle.tariff_core.specs.TariffFaults.{fault_from, kind_from}
-use Rattle.tariff_core.specs.TariffTable.{ComesBy, GivesBands, HasBandColumns, NotBefore, RefusesBands, band_in, bands_of, complete, complete_by, days_in, first_in, free_in, tariff_header, header_with_days, header_with_free, header_with_steps, money_in, new_band, new_band_in, prefix_in, repeats, band_start_in, step_in, tariff_form, without_midnight}
+use Rattle.tariff_core.specs.TariffTable.{ComesBy, GivesBands, NotBefore, RefusesBands, band_in, bands_of, complete, complete_by, days_in, first_in, free_in, tariff_header, money_in, new_band, new_band_in, prefix_in, repeats, band_start_in, step_in, tariff_form, without_midnight}
 use Rattle.tariff_core.specs.declared.row.Row.{Row}
 use Rattle.tariff_core.specs.declared.tariff_fault.TariffFault.{TariffFault}
 use Rattle.tariff_core.specs.declared.tariff_fault.TariffKind.{TariffKind}
@@ -83,15 +83,6 @@ steps_of_rows [] = refl
 steps_of_rows (row ∷ rows) = rw (steps_of_rows rows) refl
 
 -- ---- the columns of a row
-
--- a row that is as wide as its header has its columns
-pub has_columns : (which : ℕ) (fields : Fields) → which < 4 → length fields ≡ width_at (tariff_header ∷ header_with_free ∷ header_with_steps ∷ header_with_days ∷ []) which
-    → HasBandColumns which fields
-has_columns zero fields one wide = (omega (arith, wide), λ more. absurd (omega (arith, more)), λ more. absurd (omega (arith, more)), λ more. absurd (omega (arith, more)))
-has_columns (suc zero) fields one wide = (omega (arith, wide), λ more. omega (arith, wide), λ more. absurd (omega (arith, more)), λ more. absurd (omega (arith, more)))
-has_columns (suc (suc zero)) fields one wide = (omega (arith, wide), λ more. omega (arith, wide), λ more. omega (arith, wide), λ more. absurd (omega (arith, more)))
-has_columns (suc (suc (suc zero))) fields one wide = (omega (arith, wide), λ more. omega (arith, wide), λ more. omega (arith, wide), λ more. omega (arith, wide))
-has_columns (suc (suc (suc (suc which)))) fields one wide = absurd (omega (arith, one))
 
 -- a fault of the table's own
 pub refused_at : (why : TariffKind) (number : ℕ) (meaning : Result (List Band) TariffFault) → meaning ≡ Err (record { row = number; kind = why }) → RefusesBands why number meaning

@@ -41,11 +41,6 @@ band_start_in fields = ok_or (time_of (field_in fields 1)) kind.From
 abbrev pub money_in : List (List ℕ) → ℕ → Result ℕ TariffKind
 money_in fields place = ok_or (decimal_of MAX_RATE (field_in fields place)) kind.Money
 
--- a row has the four fields of the first header, five with free units, seven with steps, or eight with days
-abbrev pub HasBandColumns : ℕ → List (List ℕ) → Type 0
-HasBandColumns tariff_header fields =
-    (4 ≤ length fields) × (1 ≤ tariff_header → 5 ≤ length fields) × (2 ≤ tariff_header → 7 ≤ length fields) × (3 ≤ tariff_header → 8 ≤ length fields)
-
 -- the free units in a row: none under the first header
 abbrev pub free_in : ℕ → List (List ℕ) → Result ℕ TariffKind
 free_in tariff_header fields = if tariff_header == 0 then Ok 0 else ok_or (decimal_of DAY (field_in fields 4)) kind.Free

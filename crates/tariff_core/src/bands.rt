@@ -7,7 +7,7 @@ ghost use Rattle.tariff_core.specs.Bands.{counts_on, has_band, has_midnights, ha
 ghost use Rattle.tariff_core.specs.Digits.{text_of_digits};
 ghost use Rattle.tariff_core.specs.Routes.{IsBandAt, IsSoonest};
 ghost use Rattle.tariff_core.specs.Tariff.{AreNoLonger, Finds, Indexes, IsIndexed, ReadsAs, KeepsRow, band_of, key_of};
-ghost use Rattle.tariff_core.specs.TariffTable.{GivesBands, HasBandColumns, bands_of, new_band_in, repeats, without_midnight};
+ghost use Rattle.tariff_core.specs.TariffTable.{GivesBands, bands_of, new_band_in, repeats, without_midnight};
 ghost use Rattle.csv.specs.Records.{fields_of};
 ghost use Rattle.table_core.specs.Rows.{rows_of};
 
@@ -232,7 +232,6 @@ fn judge(
     header: usize,
     fields: &ByteRecord,
 ) -> Result<Row, TariffKind>
-    requires { HasBandColumns header (fields_of fields.now) }
     ensures { (bands : _) → Indexes (nat_le 3 header) index.now bands
         → ReadsAs band_of result (new_band_in header bands (fields_of fields.now)) }
 {

@@ -4,7 +4,7 @@ ghost use Rattle.std.specs.Prelude.{◌≡◌, ◌≤◌, ◌<◌, true, length,
 ghost use Rattle.csv.specs.Records.{fields_of};
 ghost use Rattle.tariff_core.specs.Digits.{text_of_digits};
 ghost use Rattle.tariff_core.specs.Tariff.{ReadsAs, band_of};
-ghost use Rattle.tariff_core.specs.TariffTable.{HasBandColumns, are_days, band_in, days_in, first_in, free_in, is_prefix, step_in, time_of};
+ghost use Rattle.tariff_core.specs.TariffTable.{are_days, band_in, days_in, first_in, free_in, is_prefix, step_in, time_of};
 
 use crate::digits::{Digits, PREFIX_DIGITS};
 use crate::row::{Cost, Row};
@@ -19,7 +19,6 @@ pub(crate) const WITH_DAYS: usize = 3;
 /// The row of these fields, under the first header (0), the one with free units, the one with
 /// steps too, or the one with days.
 pub(crate) fn read_row(header: usize, fields: &ByteRecord) -> Result<Row, TariffKind>
-    requires { HasBandColumns header (fields_of fields.now) }
     ensures { ReadsAs band_of result (band_in header (fields_of fields.now)) }
 {
     let digits = field(fields, 0);
@@ -50,7 +49,6 @@ pub(crate) fn read_row(header: usize, fields: &ByteRecord) -> Result<Row, Tariff
 
 /// The free units of these fields: none under the first header.
 fn free_units(header: usize, fields: &ByteRecord) -> Result<u32, TariffKind>
-    requires { HasBandColumns header (fields_of fields.now) }
     ensures value { result ≡ free_in header (fields_of fields.now) }
     ensures within_day { IfOk result (λ free. free ≤ DAY) }
 {
@@ -63,7 +61,6 @@ fn free_units(header: usize, fields: &ByteRecord) -> Result<u32, TariffKind>
 
 /// The least units that are billed by these fields: none under the headers without steps.
 fn first_step(header: usize, fields: &ByteRecord) -> Result<u32, TariffKind>
-    requires { HasBandColumns header (fields_of fields.now) }
     ensures value { result ≡ first_in header (fields_of fields.now) }
     ensures within_day { IfOk result (λ first. first ≤ DAY) }
 {
@@ -76,7 +73,6 @@ fn first_step(header: usize, fields: &ByteRecord) -> Result<u32, TariffKind>
 
 /// The units of a further step by these fields: one under the headers without steps.
 fn further_step(header: usize, fields: &ByteRecord) -> Result<u32, TariffKind>
-    requires { HasBandColumns header (fields_of fields.now) }
     ensures value { result ≡ step_in header (fields_of fields.now) }
     ensures positive { IfOk result (λ step. 1 ≤ step) }
     ensures within_day { IfOk result (λ step. step ≤ DAY) }
@@ -92,7 +88,6 @@ fn further_step(header: usize, fields: &ByteRecord) -> Result<u32, TariffKind>
 
 /// The days of these fields: none, for each day, under the headers without days.
 fn days(header: usize, fields: &ByteRecord) -> Result<Digits, TariffKind>
-    requires { HasBandColumns header (fields_of fields.now) }
     ensures { ReadsAs text_of_digits result (days_in header (fields_of fields.now)) }
 {
     if header < WITH_DAYS {

@@ -1,9 +1,9 @@
 use Rattle.std.proofs.Common.{[], refl}
 use Rattle.table_core.specs.Rows.{rows_of}
-use Rattle.table_core.proofs.TableLemmas.{ended, header_stays, not_opened, opened, refused, refuses, row_columns, stopped, taken}
+use Rattle.table_core.proofs.TableLemmas.{ended, not_opened, opened, refused, refuses, stopped, taken}
 use Rattle.book_texts.specs.Books.{books_form, books_of}
 use Rattle.book_texts.specs.Sizes.{most_rows}
-use Rattle.book_texts.proofs.CheckLemmas.{checks_given, fault_booked, has_columns, right_at_first, right_so_far, row_refused, row_taken}
+use Rattle.book_texts.proofs.CheckLemmas.{checks_given, fault_booked, right_at_first, right_so_far, row_refused, row_taken}
 use Rattle.book_texts.proofs.audit.check_books.Goals as goal
 
 pub returns-in_err-table : goal.returns-in_err-table
@@ -27,14 +27,6 @@ returns-in_err-next_row g c =
     fault_booked (most_rows c.args.size) (g.I.Read.remaining c.args.reader) c.from_residual-in_err-next_row.result c.in_err-next_row.field-0.0 _ (λ text. books_of (most_rows c.args.size) (rows_of text)) c.from_residual-in_err-next_row.ensures.1
     (stopped (books_form (most_rows c.args.size)) g.I.Read.remaining _ c.loop-wrongs.table c.next_row.new.self books read c.in_err-next_row.field-0.0 c.in_err-next_row.ensures.steps)
     (λ text. refuses (books_form (most_rows c.args.size)) (λ row why. refl) (λ all. all) (λ why. refl) c.in_err-next_row.field-0.0 (books_of (most_rows c.args.size) (rows_of text)))
-
-pub take_row-requires-clause-fields : goal.take_row-requires-clause-fields
-take_row-requires-clause-fields g c =
-    let (books, read, are, right) = c.loop-wrongs.invariant in
-    let next = rw c.if-branch.true at c.in_ok-next_row.ensures.moves in
-    rw (c.of_header-version.ensures, c.header.ensures, c.row.ensures)
-    (has_columns _ _ (header_stays (books_form (most_rows c.args.size)) g.I.Read.remaining _ c.loop-wrongs.table c.next_row.new.self books read next)
-    (row_columns (books_form (most_rows c.args.size)) g.I.Read.remaining _ c.loop-wrongs.table c.next_row.new.self books read next))
 
 pub returns-in-Some : goal.returns-in-Some
 returns-in-Some g c =

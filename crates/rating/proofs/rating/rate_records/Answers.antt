@@ -20,7 +20,7 @@ returns-clause-ends g c = if_known (g.I.Read.remaining c.args.records) _ (λ tex
     let small = within_printed _ _ printed (omega (arith, c.if-len-gt-MAX_SHOWN.false, c.len.ensures)) in
     let (below, is, left) = opened _ (wished_names c.args.ask.now.names) c.args.tariff.now text c.next_row.new.self c.in-Some.columns
     (rw c.if-not-branch.false at c.in_ok-next_row.ensures.takes (rows_of (cut_start MAX_SHOWN text)) has) small
-    (rw c.row.ensures at (sym c.find.ensures.value ∙ c.in-Some.is)) in
+    (rw c.row.ensures at (sym c.find.ensures ∙ c.in-Some.is)) in
     ends_same c.args.ask.now.differing (headed (wished_names c.args.ask.now.names) c.args.tariff.now (rows_of text)) _ _ _ _ is
     (c.rate_rows.ensures.ends (fields_of c.next_row.new.self.row) below left
     (c.in_ok-push_names.ensures (fields_of c.next_row.new.self.row) printed)
@@ -41,7 +41,7 @@ returns-in_default-clause-ends g c = if_known (g.I.Read.remaining c.args.records
     (rw (c.new.ensures.cursor, c.new.ensures.reader, known) refl) c.new-rows.ensures in (
       no_columns _ (wished_names c.args.ask.now.names) c.args.tariff.now text c.next_row.new.self
           (rw c.if-not-branch.false at c.in_ok-next_row.ensures.takes (rows_of (cut_start MAX_SHOWN text)) has)
-          (rw c.row.ensures at (sym c.find.ensures.value ∙ c.in_default.is)),
+          (rw c.row.ensures at (sym c.find.ensures ∙ c.in_default.is)),
       still_held (g.O.Write.contents c.args.output.now),
     ))
 

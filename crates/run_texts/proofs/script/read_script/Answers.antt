@@ -3,12 +3,11 @@ use Rattle.std.proofs.lemmas.List.Elements.{All-push}
 use Rattle.table_core.specs.Rows.{rows_of}
 use Rattle.table_core.specs.Tables.{table_of}
 use Rattle.table_core.proofs.Known.{map_known}
-use Rattle.table_core.proofs.TableLemmas.{ended, header_stays, not_opened, opened, refused, refuses, row_columns, stopped, taken, fault_says}
+use Rattle.table_core.proofs.TableLemmas.{ended, not_opened, opened, refused, refuses, stopped, taken, fault_says}
 use Rattle.run_texts.specs.Scripts.{first_to_last, script_form, script_of}
 use Rattle.run_texts.specs.Happenings.{is_in_time}
 use Rattle.run_texts.specs.Views.{happens_of}
 use Rattle.run_texts.specs.declared.script.ScriptRow.{ScriptRow}
-use Rattle.run_texts.proofs.FieldLemmas.{script_columns}
 use Rattle.run_texts.proofs.ScriptLemmas.{calls_after, earlier_more, earlier_of, end_more, order_more, rows_in_turn}
 use Rattle.run_texts.proofs.script.read_script.Goals as goal
 
@@ -25,14 +24,6 @@ returns-in_err-next_row-clause-means g c =
     fault_says (g.I.Read.remaining c.args.reader) _ c.from_residual-in_err-next_row.result c.in_err-next_row.field-0.0 _ (λ text. script_of c.args.directory.now.accounts (rows_of text)) c.from_residual-in_err-next_row.ensures.1
     (stopped form g.I.Read.remaining _ c.loop-rows.table c.next_row.new.self _ c.loop-rows.invariant.so_far c.in_err-next_row.field-0.0 c.in_err-next_row.ensures.steps)
     (λ text. refuses form (λ row why. refl) first_to_last (λ why. refl) c.in_err-next_row.field-0.0 (table_of form (rows_of text)))
-
-pub judge-requires : goal.judge-requires
-judge-requires g c =
-    let next = rw c.if-branch.true at c.in_ok-next_row.ensures.moves in
-    let form = script_form c.args.directory.now.accounts in
-    rw c.row.ensures
-    (script_columns _ _ (header_stays form g.I.Read.remaining _ c.loop-rows.table c.next_row.new.self _ c.loop-rows.invariant.so_far next)
-    (row_columns form g.I.Read.remaining _ c.loop-rows.table c.next_row.new.self _ c.loop-rows.invariant.so_far next))
 
 pub loop-rows-init : goal.loop-rows-init
 loop-rows-init g c = record {

@@ -9,12 +9,12 @@ returns-in_err-subscriber-clause-means c =
     let refused = err_from_is_err_and c.from_residual-in_err-subscriber.result c.from_residual-in_err-subscriber.ensures.1 in
     let digits = c.in_ok-number.ensures ∙ ap party_in_field c.field.ensures in
     let account = c.in_ok-account.ensures ∙ ap account_in_field c.field-2.ensures in
-    rw (refused.1, refused.2, ← digits, ← account, sym c.is_left_out.ensures ∙ c.if-not-is_left_out.false)
+    rw (refused.1, refused.2, ← digits, ← account, sym c.is_blank.ensures ∙ c.if-not-is_blank.false)
     (subscriber_refused c.args.directory.now c.in_ok-number.number c.in_ok-account.account c.in_err-subscriber.field-0.0 c.in_err-subscriber.ensures.fault)
 
 pub returns-clause-means : goal.returns-clause-means
 returns-clause-means c =
     let digits = c.in_ok-number.ensures ∙ ap party_in_field c.field.ensures in
     let account = c.in_ok-account.ensures ∙ ap account_in_field c.field-2.ensures in
-    rw (c.in_ok-subscriber.ensures.listed, ← digits, ← account, sym c.is_left_out.ensures ∙ c.if-not-is_left_out.false)
+    rw (c.in_ok-subscriber.ensures.listed, ← digits, ← account, sym c.is_blank.ensures ∙ c.if-not-is_blank.false)
     (subscriber_entered c.args.directory.now c.in_ok-number.number c.in_ok-account.account c.in_ok-subscriber.ensures.made)

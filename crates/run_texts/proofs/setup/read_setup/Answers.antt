@@ -1,8 +1,7 @@
 use Rattle.std.proofs.Common.{refl, arith}
 use Rattle.table_core.specs.Rows.{rows_of}
-use Rattle.table_core.proofs.TableLemmas.{ended, header_stays, not_opened, opened, refused, refuses, row_columns, stopped, taken, fault_says}
+use Rattle.table_core.proofs.TableLemmas.{ended, not_opened, opened, refused, refuses, stopped, taken, fault_says}
 use Rattle.run_texts.specs.Setups.{setup_form, table_setup_of}
-use Rattle.run_texts.proofs.FieldLemmas.{setup_columns}
 use Rattle.run_texts.proofs.setup.read_setup.Goals as goal
 
 pub returns-in_err-table-clause-means : goal.returns-in_err-table-clause-means
@@ -24,13 +23,6 @@ returns-in_err-next_row-clause-means g c =
     fault_says (g.I.Read.remaining c.args.reader) _ c.from_residual-in_err-next_row.result c.in_err-next_row.field-0.0 _ (λ text. table_setup_of (rows_of text)) c.from_residual-in_err-next_row.ensures.1
     (stopped setup_form g.I.Read.remaining _ c.loop-directory.table c.next_row.new.self _ c.loop-directory.invariant.so_far c.in_err-next_row.field-0.0 c.in_err-next_row.ensures.steps)
     (λ text. refuses setup_form (λ row why. refl) (λ all. all) (λ why. refl) c.in_err-next_row.field-0.0 (table_setup_of (rows_of text)))
-
-pub list_row-requires-clause-fields : goal.list_row-requires-clause-fields
-list_row-requires-clause-fields g c =
-    let next = rw c.if-branch.true at c.in_ok-next_row.ensures.moves in
-    rw c.row.ensures
-    (setup_columns _ _ (header_stays setup_form g.I.Read.remaining _ c.loop-directory.table c.next_row.new.self _ c.loop-directory.invariant.so_far next)
-    (row_columns setup_form g.I.Read.remaining _ c.loop-directory.table c.next_row.new.self _ c.loop-directory.invariant.so_far next))
 
 pub loop-directory-preserved : goal.loop-directory-preserved
 loop-directory-preserved g c =

@@ -2,11 +2,11 @@ use Rattle.std.proofs.Common.{[], ◌∷◌, ◌++◌, None, ap, refl, string_by
 use Rattle.account_core.specs.Entries.{asked_of}
 use Rattle.table_core.specs.Rows.{rows_of}
 use Rattle.table_core.proofs.Known.{map_known}
-use Rattle.table_core.proofs.TableLemmas.{ended, header_stays, not_opened, opened, refused, refuses, row_columns, stopped, taken, fault_says}
+use Rattle.table_core.proofs.TableLemmas.{ended, not_opened, opened, refused, refuses, stopped, taken, fault_says}
 use Rattle.table_commands.specs.AskingOf.{asking_of}
 use Rattle.table_commands.specs.Asks.{asks_form, asks_of}
 use Rattle.table_commands.specs.Replays.{replayed_lines, replayed}
-use Rattle.table_commands.proofs.ReplayLemmas.{has_operation, ledger_after, none_replayed, one_replayed, step, teller_after}
+use Rattle.table_commands.proofs.ReplayLemmas.{ledger_after, none_replayed, one_replayed, step, teller_after}
 use Rattle.table_commands.proofs.replaying.replay.Goals as goal
 
 pub returns-in_err-table : goal.returns-in_err-table
@@ -30,14 +30,6 @@ returns-in_err-next_row g c =
     fault_says (g.I.Read.remaining c.args.reader) _ c.from_residual-in_err-next_row.result c.in_err-next_row.field-0.0 _ (λ text. replayed c.args.opening c.args.limit (rows_of text)) c.from_residual-in_err-next_row.ensures.1
     (stopped asks_form g.I.Read.remaining _ c.loop-text.table c.next_row.new.self asks read c.in_err-next_row.field-0.0 c.in_err-next_row.ensures.steps)
     (λ text. refuses asks_form (λ row why. refl) (replayed_lines c.args.opening None c.args.limit []) (λ why. refl) c.in_err-next_row.field-0.0 (asks_of (rows_of text)))
-
-pub read_ask-requires : goal.read_ask-requires
-read_ask-requires g c =
-    let (asks, ledger, read, teller_is, replay) = c.loop-text.invariant in
-    let next = rw c.if-branch.true at c.in_ok-next_row.ensures.moves in
-    rw (c.of_header.ensures, c.header.ensures, c.row.ensures)
-    (has_operation _ _ (header_stays asks_form g.I.Read.remaining _ c.loop-text.table c.next_row.new.self asks read next)
-    (row_columns asks_form g.I.Read.remaining _ c.loop-text.table c.next_row.new.self asks read next))
 
 pub returns-in-Err : goal.returns-in-Err
 returns-in-Err g c =

@@ -1,7 +1,7 @@
 use Rattle.std.proofs.Common.{refl, sym}
 use Rattle.table_core.specs.Rows.{rows_of}
 use Rattle.table_core.specs.Tables.{table_of}
-use Rattle.table_core.proofs.TableLemmas.{ended, not_opened, opened, refused, refuses, row_width, stopped, taken, fault_says}
+use Rattle.table_core.proofs.TableLemmas.{ended, not_opened, opened, refused, refuses, stopped, taken, fault_says}
 use Rattle.price_core.specs.RatesOf.{rates_of}
 use Rattle.table_commands.specs.Reports.{last_times_after, reports_form, table_reports_of}
 use Rattle.table_commands.proofs.ReportLemmas.{last_more}
@@ -26,11 +26,6 @@ returns-in_err-next_row g c =
     fault_says (g.I.Read.remaining c.args.reader) _ c.from_residual-in_err-next_row.result c.in_err-next_row.field-0.0 _ (λ text. table_reports_of (rates_of c.args.plan.now) (rows_of text)) c.from_residual-in_err-next_row.ensures.1
     (stopped form g.I.Read.remaining _ c.loop-reports.table c.next_row.new.self _ c.loop-reports.invariant.1 c.in_err-next_row.field-0.0 c.in_err-next_row.ensures.steps)
     (λ text. refuses form (λ row why. refl) (λ all. all) (λ why. refl) c.in_err-next_row.field-0.0 (table_of form (rows_of text)))
-
-pub report-requires : goal.report-requires
-report-requires g c =
-    rw c.row.ensures (row_width (reports_form (rates_of c.args.plan.now)) g.I.Read.remaining _ c.loop-reports.table c.next_row.new.self _ c.loop-reports.invariant.1 _ refl
-    (rw c.if-branch.true at c.in_ok-next_row.ensures.moves))
 
 pub returns-in-Err : goal.returns-in-Err
 returns-in-Err g c =

@@ -4,7 +4,7 @@ use Rattle.std.specs.BTreeMap.{BTreeMap}
 use Rattle.csv.specs.Records.{fields_of}
 use Rattle.table_core.specs.Reading.{header_of, row_of_table}
 use Rattle.table_core.specs.Rows.{rows_of}
-use Rattle.table_core.proofs.TableLemmas.{ended, header_stays, not_opened, opened, refused, row_columns, stopped, taken}
+use Rattle.table_core.proofs.TableLemmas.{ended, not_opened, opened, refused, stopped, taken}
 use Rattle.tariff_core.specs.Bands.{Band}
 use Rattle.tariff_core.specs.Tariff.{Indexes, band_of}
 use Rattle.tariff_core.specs.declared.band_key.BandKey.{BandKey}
@@ -13,7 +13,7 @@ use Rattle.tariff_core.specs.TariffTable.{GivesBands, bands_of, tariff_form}
 use Rattle.tariff_core.specs.declared.tariff_fault.TariffKind.TheVariants as kind
 use Rattle.tariff_core.proofs.IndexLemmas.{count_more, indexes_none, keeps_indexed, rows_more}
 use Rattle.tariff_core.proofs.Known.{at_known, if_known}
-use Rattle.tariff_core.proofs.TableLemmas.{bands_not_before, given_up, has_columns, none_before, refused_at, taken_band, without_days}
+use Rattle.tariff_core.proofs.TableLemmas.{bands_not_before, given_up, none_before, refused_at, taken_band, without_days}
 use Rattle.tariff_core.proofs.bands.Bands.read.Goals as goal
 
 pub returns-in-Err : goal.returns-in-Err
@@ -41,12 +41,6 @@ pub returns-then-not-found : goal.returns-then-not-found
 returns-then-not-found g c =
     ended tariff_form g.R.Read.remaining _ c.loop-found.table c.next_row.new.self _ c.loop-found.invariant.so_far
     (rw c.if-not-found.true at c.in-Ok-next_row.ensures.steps)
-
-pub judge-requires : goal.judge-requires
-judge-requires g c =
-    let next = rw c.if-not-found.false at c.in-Ok-next_row.ensures.moves in
-    rw (c.header.ensures, c.row.ensures) (has_columns _ _ (header_stays tariff_form g.R.Read.remaining _ c.loop-found.table c.next_row.new.self _ c.loop-found.invariant.so_far next)
-    (row_columns tariff_form g.R.Read.remaining _ c.loop-found.table c.next_row.new.self _ c.loop-found.invariant.so_far next))
 
 -- the index, by the header of the row
 by_header : (by_days : Bool) (kept row header : ℕ) (index : BTreeMap BandKey Row) (bands : List Band) → by_days ≡ nat_le 3 kept → row ≡ kept → header ≡ row

@@ -4,13 +4,15 @@ ghost use Rattle.std.specs.Prelude.{◌≡◌, ◌++◌, [], OnOk, string_bytes}
 ghost use Rattle.std.specs.Fmt.{decimal};
 ghost use Rattle.account_core.specs.Asked.{Reserves};
 ghost use Rattle.account_core.specs.Entries.{asked_of};
-ghost use Rattle.entry_rows.specs.Columns.{reply_fields, answer_text, in_fourth, no_operation, number_or_empty, opening_columns, operation_of, operation_text, settle_of, steps_columns};
+ghost use Rattle.book_texts.specs.Columns.{reply_fields, answer_text, in_fourth, no_operation, opening_columns, operation_of, operation_text, settle_of, steps_columns};
 ghost use Rattle.price_core.specs.RatesOf.{rates_of};
+ghost use Rattle.table_core.specs.Fields.{number_or_empty};
 
-use crate::{Field, Version};
+use crate::Version;
 use account_core::{Op, Reply};
 use price_core::{Plan, TimeInfo};
 use std::alloc::AllocError;
+use table_core::Field;
 
 /// Adds the columns of an opening, from op to x7, in version 4 to x9, each with a comma behind it.
 pub fn write_opening(

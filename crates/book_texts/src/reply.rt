@@ -1,11 +1,11 @@
 //! A reply in the fields of a row: its word, and y1 to y3.
 
-ghost use Rattle.std.specs.Prelude.{◌≡◌, ◌+◌, ◌<◌, ◌≤◌, length};
+ghost use Rattle.std.specs.Prelude.{◌≡◌, ◌≤◌};
 ghost use Rattle.csv.specs.Records.{fields_of};
 ghost use Rattle.table_core.specs.Fields.{field_in};
-ghost use Rattle.entry_rows.specs.Column.{money_of};
-ghost use Rattle.entry_rows.specs.Columns.{answer_at};
-ghost use Rattle.entry_rows.specs.Replies.{granted_in, is_reply_blank, reply_in};
+ghost use Rattle.book_texts.specs.Column.{money_of};
+ghost use Rattle.book_texts.specs.Columns.{answer_at};
+ghost use Rattle.book_texts.specs.Replies.{granted_in, is_reply_blank, reply_in};
 
 use crate::offsets::{Y1, Y2, Y3};
 use crate::operation::read_units;
@@ -18,8 +18,7 @@ use table_core::{RowKind, is_blank, number};
 /// The reply of this word whose columns begin at `at`; else `Number`. The columns that must be
 /// empty aren't judged.
 pub fn read_reply(row: &ByteRecord, at: usize, word: ReplyWord) -> Result<Reply, RowKind>
-    requires table { at ≤ 16 }
-    requires fields { at + 3 < length (fields_of row.now) }
+    requires { at ≤ 16 }
     ensures { result ≡ reply_in word (answer_at (fields_of row.now) at) }
 {
     let available = read_money(row, at + Y3)?;
@@ -45,8 +44,7 @@ pub fn read_reply(row: &ByteRecord, at: usize, word: ReplyWord) -> Result<Reply,
 }
 
 fn read_granted(row: &ByteRecord, at: usize, last: bool, available: u64) -> Result<Reply, RowKind>
-    requires table { at ≤ 16 }
-    requires fields { at + 3 < length (fields_of row.now) }
+    requires { at ≤ 16 }
     ensures { result ≡ granted_in (answer_at (fields_of row.now) at) last available }
 {
     let units = read_units(row, at + Y1)?;
@@ -59,7 +57,6 @@ fn read_granted(row: &ByteRecord, at: usize, last: bool, available: u64) -> Resu
 
 /// The money in the field at `place`, 0 to `MAX_MONEY`; else `Number`.
 fn read_money(row: &ByteRecord, place: usize) -> Result<u64, RowKind>
-    requires { place < length (fields_of row.now) }
     ensures { result ≡ money_of (field_in (fields_of row.now) place) }
 {
     number(row, place, MAX_MONEY)
@@ -67,8 +64,7 @@ fn read_money(row: &ByteRecord, place: usize) -> Result<u64, RowKind>
 
 /// Whether the columns are empty that this reply, whose columns begin at `at`, doesn't use.
 pub fn is_reply_blank(row: &ByteRecord, at: usize, word: ReplyWord) -> bool
-    requires table { at ≤ 16 }
-    requires fields { at + 3 < length (fields_of row.now) }
+    requires { at ≤ 16 }
     ensures { result ≡ is_reply_blank word (answer_at (fields_of row.now) at) }
 {
     match word {

@@ -1,7 +1,7 @@
 //! Which columns an operation has in a table.
 
 ghost use Rattle.std.specs.Prelude.{◌≡◌, ◌≤◌};
-ghost use Rattle.entry_rows.specs.Versions.{version_at, operation_width};
+ghost use Rattle.book_texts.specs.Versions.{version_at, operation_width};
 
 /// Which columns an operation has in a table: those of the version before, and more behind them.
 #[derive(Clone, Copy)]

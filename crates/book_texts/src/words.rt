@@ -1,10 +1,10 @@
 //! The words of operations and of replies, each matched once a row.
 
-ghost use Rattle.std.specs.Prelude.{◌≡◌, ◌+◌, ◌<◌, ◌≤◌, length};
+ghost use Rattle.std.specs.Prelude.{◌≡◌, ◌≤◌};
 ghost use Rattle.csv.specs.Records.{fields_of};
 ghost use Rattle.table_core.specs.Fields.{field_in};
-ghost use Rattle.entry_rows.specs.Columns.{answer_at, first_operation_at};
-ghost use Rattle.entry_rows.specs.Words.{granted_word_in, op_word_in, reply_word_in, report_word_in};
+ghost use Rattle.book_texts.specs.Columns.{answer_at, first_operation_at};
+ghost use Rattle.book_texts.specs.Words.{granted_word_in, op_word_in, reply_word_in, report_word_in};
 
 use crate::offsets::{X2, Y2};
 use csv::ByteRecord;
@@ -49,8 +49,7 @@ pub enum ReplyWord {
 /// The word of the operation whose columns begin at `at`; else `What`.
 #[inline(always)]
 pub fn read_op_word(row: &ByteRecord, at: usize) -> Result<OpWord, RowKind>
-    requires table { at ≤ 16 }
-    requires fields { at + 6 < length (fields_of row.now) }
+    requires { at ≤ 16 }
     ensures { result ≡ op_word_in (first_operation_at (fields_of row.now) at) }
 {
     let word = field(row, at);
@@ -68,7 +67,6 @@ pub fn read_op_word(row: &ByteRecord, at: usize) -> Result<OpWord, RowKind>
 }
 
 fn read_report_word(row: &ByteRecord, place: usize) -> Result<OpWord, RowKind>
-    requires { place < length (fields_of row.now) }
     ensures { result ≡ report_word_in (field_in (fields_of row.now) place) }
 {
     let word = field(row, place);
@@ -83,8 +81,7 @@ fn read_report_word(row: &ByteRecord, place: usize) -> Result<OpWord, RowKind>
 
 /// The word of the reply whose columns begin at `at`; else `What`.
 pub fn read_reply_word(row: &ByteRecord, at: usize) -> Result<ReplyWord, RowKind>
-    requires table { at ≤ 16 }
-    requires fields { at + 3 < length (fields_of row.now) }
+    requires { at ≤ 16 }
     ensures { result ≡ reply_word_in (answer_at (fields_of row.now) at) }
 {
     let word = field(row, at);
@@ -108,7 +105,6 @@ pub fn read_reply_word(row: &ByteRecord, at: usize) -> Result<ReplyWord, RowKind
 }
 
 fn read_granted_word(row: &ByteRecord, place: usize) -> Result<ReplyWord, RowKind>
-    requires { place < length (fields_of row.now) }
     ensures { result ≡ granted_word_in (field_in (fields_of row.now) place) }
 {
     let word = field(row, place);

@@ -4,10 +4,11 @@ use Rattle.account_core.specs.declared.entry.Reply.{Reply}
 use Rattle.account_core.specs.declared.entry.Reply.TheVariants as reply
 use Rattle.table_core.specs.Judging.{and_then}
 use Rattle.table_core.specs.declared.fault.RowKind.{RowKind}
-use Rattle.entry_rows.specs.Column.{is_empty_column, money_of, units_of}
-use Rattle.entry_rows.specs.Columns.{Answer}
-use Rattle.entry_rows.specs.declared.words.ReplyWord.{ReplyWord}
-use Rattle.entry_rows.specs.declared.words.ReplyWord.TheVariants as word
+use Rattle.book_texts.specs.Column.{money_of, units_of}
+use Rattle.book_texts.specs.Columns.{Answer}
+use Rattle.book_texts.specs.declared.words.ReplyWord.{ReplyWord}
+use Rattle.book_texts.specs.declared.words.ReplyWord.TheVariants as word
+use Rattle.table_core.specs.Fields.{is_empty_field}
 
 -- `granted`: y1 the time
 abbrev pub granted_in : Answer → Bool → ℕ → Result Reply RowKind
@@ -30,11 +31,11 @@ reply_in word a = and_then (money_of a.y3) (shown_in word a)
 
 -- the columns that the reply doesn't use are empty
 abbrev pub is_reply_blank : ReplyWord → Answer → Bool
-is_reply_blank word.Credited a = is_empty_column a.y1 && is_empty_column a.y2
-is_reply_blank word.CreditOver a = is_empty_column a.y1 && is_empty_column a.y2
+is_reply_blank word.Credited a = is_empty_field a.y1 && is_empty_field a.y2
+is_reply_blank word.CreditOver a = is_empty_field a.y1 && is_empty_field a.y2
 is_reply_blank word.GrantedMore a = true
 is_reply_blank word.GrantedLast a = true
-is_reply_blank word.Denied a = is_empty_column a.y1 && is_empty_column a.y2
-is_reply_blank word.Settled a = is_empty_column a.y2
-is_reply_blank word.Forfeit a = is_empty_column a.y2
-is_reply_blank word.Returned a = is_empty_column a.y2
+is_reply_blank word.Denied a = is_empty_field a.y1 && is_empty_field a.y2
+is_reply_blank word.Settled a = is_empty_field a.y2
+is_reply_blank word.Forfeit a = is_empty_field a.y2
+is_reply_blank word.Returned a = is_empty_field a.y2

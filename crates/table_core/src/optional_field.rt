@@ -1,6 +1,7 @@
 //! A field that may be empty.
 
 ghost use Rattle.std.specs.Prelude.{◌≡◌};
+ghost use Rattle.table_core.specs.Fields.{number_or_empty};
 
 use std::fmt;
 
@@ -19,7 +20,6 @@ impl Field {
 
 impl fmt::Display for Field {
     ghost use Rattle.std.specs.Prelude.{Some};
-    ghost use Rattle.entry_rows.specs.Columns.{number_or_empty};
 
     ghost output = { λ field. Some (number_or_empty field.0) };
 

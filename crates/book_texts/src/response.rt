@@ -2,7 +2,7 @@
 
 ghost use Rattle.std.specs.Prelude.{◌≡◌, ◌++◌, OnOk, string_bytes};
 ghost use Rattle.account_core.specs.Entries.{asked_of};
-ghost use Rattle.entry_rows.specs.Responses.{available_text, granted_text, paid_text, reply_text, response_text, operation_word};
+ghost use Rattle.book_texts.specs.Responses.{available_text, granted_text, paid_text, reply_text, response_text, operation_word};
 
 use account_core::{AccountFault, Op, Reply};
 use std::alloc::AllocError;

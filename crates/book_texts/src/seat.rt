@@ -1,9 +1,9 @@
 //! The seat of an entry.
 
-ghost use Rattle.std.specs.Prelude.{◌≡◌, ◌<◌, length};
+ghost use Rattle.std.specs.Prelude.{◌≡◌};
 ghost use Rattle.csv.specs.Records.{fields_of};
 ghost use Rattle.table_core.specs.Fields.{field_in};
-ghost use Rattle.entry_rows.specs.Column.{seat_of};
+ghost use Rattle.book_texts.specs.Column.{seat_of};
 
 use csv::ByteRecord;
 use table_core::{RowKind, number};
@@ -13,7 +13,6 @@ const LAST_SEAT: u64 = 15;
 
 /// The seat in the field at `place`, 0 to 15; else `Number`.
 pub fn read_seat(row: &ByteRecord, place: usize) -> Result<u32, RowKind>
-    requires { place < length (fields_of row.now) }
     ensures { result ≡ seat_of (field_in (fields_of row.now) place) }
 {
     let seat = number(row, place, LAST_SEAT)?;

@@ -1,14 +1,14 @@
 -- The columns of an entry: what is asked, and what is answered.
-use Rattle.std.specs.Prelude.{◌≡◌, ◌≢◌, ◌<◌, ◌+◌, ℕ, true, false, Option, Some, None, List, [], ◌++◌, codes, length}
+use Rattle.std.specs.Prelude.{◌+◌, ℕ, true, false, Option, List, [], ◌++◌, codes}
 use Rattle.std.specs.Fmt.{decimal}
 use Rattle.price_core.specs.declared.times.TimeInfo.{TimeInfo}
 use Rattle.price_core.specs.declared.times.TimeInfo.TheVariants as info
 use Rattle.account_core.specs.Asked.{Asked, Credits, Reserves, Returns, Settles}
 use Rattle.account_core.specs.declared.entry.Reply.{Reply}
 use Rattle.account_core.specs.declared.entry.Reply.TheVariants as reply
-use Rattle.table_core.specs.Fields.{field_in}
-use Rattle.entry_rows.specs.declared.version.Version.{Version}
-use Rattle.entry_rows.specs.declared.version.Version.TheVariants as version
+use Rattle.table_core.specs.Fields.{field_then, field_in, number_or_empty}
+use Rattle.book_texts.specs.declared.version.Version.{Version}
+use Rattle.book_texts.specs.declared.version.Version.TheVariants as version
 
 -- what is asked, and with what; x6 to x9 are empty in the versions that have no such column
 pub record Operation : Type 0 where
@@ -31,12 +31,6 @@ pub record Answer : Type 0 where
   pub y1 : List ℕ
   pub y2 : List ℕ
   pub y3 : List ℕ
-
--- a row has the columns of an operation whose word is at a place
-abbrev pub HasOperation : Version → List (List ℕ) → ℕ → Type 0
-HasOperation of_table fields at =
-    (at + 6 < length fields) × (of_table ≢ version.One → at + 7 < length fields)
-    × (of_table ≢ version.One → of_table ≢ version.Two → at + 8 < length fields) × (of_table ≡ version.Four → at + 10 < length fields)
 
 -- the column behind x5
 abbrev pub x6_at : Version → List (List ℕ) → ℕ → List ℕ
@@ -104,11 +98,6 @@ no_operation version = record { version = version; op = []; call = []; x1 = []; 
 abbrev pub no_answer : Answer
 no_answer = record { reply = []; y1 = []; y2 = []; y3 = [] }
 
--- a number where there is one
-abbrev pub number_or_empty : Option ℕ → List ℕ
-number_or_empty None = []
-number_or_empty (Some number) = decimal number
-
 -- the opening credit is where an operation would, with its last moment, if it has one
 abbrev pub opening_columns : Version → ℕ → Option ℕ → Operation
 opening_columns version opening until = record (no_operation version) { op = codes "opening"; x1 = decimal opening; x2 = number_or_empty until }
@@ -156,20 +145,16 @@ reply_fields (reply.Settled paid available) = record no_answer { reply = codes "
 reply_fields (reply.Forfeit paid available) = record no_answer { reply = codes "forfeit"; y1 = decimal paid; y3 = decimal available }
 reply_fields (reply.Returned paid available) = record no_answer { reply = codes "returned"; y1 = decimal paid; y3 = decimal available }
 
--- a field, a comma, and what follows
-abbrev pub field : List ℕ → List ℕ → List ℕ
-field text rest = text ++ (codes "," ++ rest)
-
 -- the columns that version 4 has behind x7
 abbrev pub steps_columns : Version → List ℕ → List ℕ → List ℕ
-steps_columns version.Four first step = field first (field step [])
+steps_columns version.Four first step = field_then first (field_then step [])
 steps_columns version first step = []
 
 -- the fields of an operation, each with a comma behind it: x8 and x9 in version 4 alone
 abbrev pub operation_text : Operation → List ℕ
 operation_text o =
-    field o.op (field o.call (field o.x1 (field o.x2 (field o.x3 (field o.x4 (field o.x5 (field o.x6 (field o.x7 (steps_columns o.version o.x8 o.x9)))))))))
+    field_then o.op (field_then o.call (field_then o.x1 (field_then o.x2 (field_then o.x3 (field_then o.x4 (field_then o.x5 (field_then o.x6 (field_then o.x7 (steps_columns o.version o.x8 o.x9)))))))))
 
 -- those of an answer, which end the line
 abbrev pub answer_text : Answer → List ℕ
-answer_text a = field a.reply (field a.y1 (field a.y2 (a.y3 ++ codes "\n")))
+answer_text a = field_then a.reply (field_then a.y1 (field_then a.y2 (a.y3 ++ codes "\n")))

@@ -1,7 +1,7 @@
 -- The versions of a table with operations in it.
 use Rattle.std.specs.Prelude.{◌==◌, ℕ, if◌then◌else◌}
-use Rattle.entry_rows.specs.declared.version.Version.{Version}
-use Rattle.entry_rows.specs.declared.version.Version.TheVariants as version
+use Rattle.book_texts.specs.declared.version.Version.{Version}
+use Rattle.book_texts.specs.declared.version.Version.TheVariants as version
 
 -- how many columns an operation has: its word, its call and x1 to x5, then x6, then x7, then x8 and x9
 abbrev pub operation_width : Version → ℕ

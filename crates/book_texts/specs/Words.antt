@@ -3,11 +3,11 @@ use Rattle.std.specs.Prelude.{ℕ, List, Result, Ok, Err, codes, if◌then◌els
 use Rattle.std.specs.Str.{bytes_eq}
 use Rattle.table_core.specs.declared.fault.RowKind.{RowKind}
 use Rattle.table_core.specs.declared.fault.RowKind.TheVariants as kind
-use Rattle.entry_rows.specs.Columns.{Answer, Operation}
-use Rattle.entry_rows.specs.declared.words.OpWord.{OpWord}
-use Rattle.entry_rows.specs.declared.words.OpWord.TheVariants as op
-use Rattle.entry_rows.specs.declared.words.ReplyWord.{ReplyWord}
-use Rattle.entry_rows.specs.declared.words.ReplyWord.TheVariants as reply
+use Rattle.book_texts.specs.Columns.{Answer, Operation}
+use Rattle.book_texts.specs.declared.words.OpWord.{OpWord}
+use Rattle.book_texts.specs.declared.words.OpWord.TheVariants as op
+use Rattle.book_texts.specs.declared.words.ReplyWord.{ReplyWord}
+use Rattle.book_texts.specs.declared.words.ReplyWord.TheVariants as reply
 
 -- the kind of a settle's report: `n` without a switch, `s` after one
 abbrev pub report_word_in : List ℕ → Result OpWord RowKind

@@ -1,14 +1,14 @@
 //! An operation in the fields of a row: its word, its call, and x1 to x9.
 
-ghost use Rattle.std.specs.Prelude.{◌≡◌, ◌+◌, ◌<◌, ◌≤◌, length, IfOk};
+ghost use Rattle.std.specs.Prelude.{◌≡◌, ◌+◌, ◌≤◌, IfOk};
 ghost use Rattle.std.specs.Result.{result_map_both};
 ghost use Rattle.csv.specs.Records.{fields_of};
 ghost use Rattle.table_core.specs.Fields.{field_in};
 ghost use Rattle.account_core.specs.Entries.{asked_of};
 ghost use Rattle.price_core.specs.RatesOf.{rates_of};
-ghost use Rattle.entry_rows.specs.Column.{interval_of, units_of};
-ghost use Rattle.entry_rows.specs.Columns.{HasOperation, first_operation_at, operation_at, x6_at, x7_at, x8_at, x9_at};
-ghost use Rattle.entry_rows.specs.Operations.{are_added_empty, are_last_empty, asked_in, at_of, credit_in, first_column, free_of, has_no_until, is_asked_blank, is_money_blank, settle_without_switch, plan_in, reserve_in, return_in, settle_in, step_column, settle_with_switch, until_of};
+ghost use Rattle.book_texts.specs.Column.{interval_of, units_of};
+ghost use Rattle.book_texts.specs.Columns.{first_operation_at, operation_at, x6_at, x7_at, x8_at, x9_at};
+ghost use Rattle.book_texts.specs.Operations.{are_added_empty, are_last_empty, asked_in, at_of, credit_in, first_column, free_of, has_no_until, is_asked_blank, is_money_blank, settle_without_switch, plan_in, reserve_in, return_in, settle_in, step_column, settle_with_switch, until_of};
 
 use crate::offsets::{CALL, X1, X2, X3, X4, X5, X6, X7, X8, X9};
 use crate::version::Version;
@@ -22,8 +22,7 @@ use table_core::{RowKind, is_blank, number, optional};
 /// empty aren't judged.
 #[inline(always)]
 pub fn read_op(row: &ByteRecord, at: usize, version: Version, word: OpWord) -> Result<Op, RowKind>
-    requires table { at ≤ 16 }
-    requires fields { HasOperation version (fields_of row.now) at }
+    requires { at ≤ 16 }
     ensures { result_map_both asked_of (λ kind. kind) result
         ≡ asked_in word (operation_at version (fields_of row.now) at) }
 {
@@ -37,8 +36,7 @@ pub fn read_op(row: &ByteRecord, at: usize, version: Version, word: OpWord) -> R
 }
 
 fn read_credit(row: &ByteRecord, at: usize, version: Version) -> Result<Op, RowKind>
-    requires table { at ≤ 16 }
-    requires fields { HasOperation version (fields_of row.now) at }
+    requires { at ≤ 16 }
     ensures { result_map_both asked_of (λ kind. kind) result
         ≡ credit_in (operation_at version (fields_of row.now) at) }
 {
@@ -50,8 +48,7 @@ fn read_credit(row: &ByteRecord, at: usize, version: Version) -> Result<Op, RowK
 /// The last moment of an opening or of a credit whose columns begin at `at`, 0 to `HORIZON`: in x2
 /// from version 3 on, where it may be left out, and none before; else `Number`.
 pub fn read_until(row: &ByteRecord, at: usize, version: Version) -> Result<Option<u64>, RowKind>
-    requires table { at ≤ 16 }
-    requires fields { at + 3 < length (fields_of row.now) }
+    requires { at ≤ 16 }
     ensures value { result ≡ until_of version (field_in (fields_of row.now) (at + 3)) }
 {
     match version {
@@ -63,8 +60,7 @@ pub fn read_until(row: &ByteRecord, at: usize, version: Version) -> Result<Optio
 #[tactic(auto, unfolding(crate::specs::Operations::reserve_in))]
 #[inline(always)]
 fn read_reserve(row: &ByteRecord, at: usize, version: Version) -> Result<Op, RowKind>
-    requires table { at ≤ 16 }
-    requires fields { HasOperation version (fields_of row.now) at }
+    requires { at ≤ 16 }
     ensures { result_map_both asked_of (λ kind. kind) result
         ≡ reserve_in (operation_at version (fields_of row.now) at) }
 {
@@ -85,8 +81,7 @@ fn read_reserve(row: &ByteRecord, at: usize, version: Version) -> Result<Op, Row
 #[tactic(auto, unfolding(crate::specs::Operations::plan_in))]
 #[inline(always)]
 fn read_plan(row: &ByteRecord, at: usize, version: Version) -> Result<Plan, RowKind>
-    requires table { at ≤ 16 }
-    requires fields { HasOperation version (fields_of row.now) at }
+    requires { at ≤ 16 }
     ensures { result_map_both rates_of (λ kind. kind) result
         ≡ plan_in (operation_at version (fields_of row.now) at) }
 {
@@ -109,8 +104,7 @@ fn read_plan(row: &ByteRecord, at: usize, version: Version) -> Result<Plan, RowK
 /// The moment of a reserve: 0 before version 3, and given there.
 #[inline(always)]
 fn read_moment(row: &ByteRecord, at: usize, version: Version) -> Result<u64, RowKind>
-    requires table { at ≤ 16 }
-    requires fields { HasOperation version (fields_of row.now) at }
+    requires { at ≤ 16 }
     ensures { result ≡ at_of version (x7_at version (fields_of row.now) at) }
 {
     match version {
@@ -121,8 +115,7 @@ fn read_moment(row: &ByteRecord, at: usize, version: Version) -> Result<u64, Row
 
 /// The free units of a reserve: none in version 1, and given from version 2 on.
 fn read_free(row: &ByteRecord, at: usize, version: Version) -> Result<u32, RowKind>
-    requires table { at ≤ 16 }
-    requires fields { HasOperation version (fields_of row.now) at }
+    requires { at ≤ 16 }
     ensures value { result ≡ free_of version (x6_at version (fields_of row.now) at) }
     ensures within_day { IfOk result (λ free. free ≤ DAY) }
 {
@@ -134,8 +127,7 @@ fn read_free(row: &ByteRecord, at: usize, version: Version) -> Result<u32, RowKi
 
 /// The least that is billed of a reserve: 0 before version 4, and given there.
 fn read_first(row: &ByteRecord, at: usize, version: Version) -> Result<u32, RowKind>
-    requires table { at ≤ 16 }
-    requires fields { HasOperation version (fields_of row.now) at }
+    requires { at ≤ 16 }
     ensures value { result ≡ first_column version (x8_at version (fields_of row.now) at) }
     ensures within_day { IfOk result (λ first. first ≤ DAY) }
 {
@@ -147,8 +139,7 @@ fn read_first(row: &ByteRecord, at: usize, version: Version) -> Result<u32, RowK
 
 /// The billing step of a reserve: 1 before version 4, and given there, at least 1.
 fn read_step(row: &ByteRecord, at: usize, version: Version) -> Result<u32, RowKind>
-    requires table { at ≤ 16 }
-    requires fields { HasOperation version (fields_of row.now) at }
+    requires { at ≤ 16 }
     ensures value { result ≡ step_column version (x9_at version (fields_of row.now) at) }
     ensures positive { IfOk result (λ step. 1 ≤ step) }
     ensures within_day { IfOk result (λ step. step ≤ DAY) }
@@ -164,8 +155,7 @@ fn read_step(row: &ByteRecord, at: usize, version: Version) -> Result<u32, RowKi
 
 #[inline(always)]
 fn read_settle(row: &ByteRecord, at: usize, info: TimeInfo) -> Result<Op, RowKind>
-    requires table { at ≤ 16 }
-    requires fields { at + 6 < length (fields_of row.now) }
+    requires { at ≤ 16 }
     ensures { result_map_both asked_of (λ kind. kind) result
         ≡ settle_in (first_operation_at (fields_of row.now) at) info }
 {
@@ -175,8 +165,7 @@ fn read_settle(row: &ByteRecord, at: usize, info: TimeInfo) -> Result<Op, RowKin
 }
 
 fn read_no_switch(row: &ByteRecord, at: usize) -> Result<TimeInfo, RowKind>
-    requires table { at ≤ 16 }
-    requires fields { at + 6 < length (fields_of row.now) }
+    requires { at ≤ 16 }
     ensures { result ≡ settle_without_switch (first_operation_at (fields_of row.now) at) }
 {
     let t = read_units(row, at + X3)?;
@@ -184,8 +173,7 @@ fn read_no_switch(row: &ByteRecord, at: usize) -> Result<TimeInfo, RowKind>
 }
 
 fn read_switch(row: &ByteRecord, at: usize) -> Result<TimeInfo, RowKind>
-    requires table { at ≤ 16 }
-    requires fields { at + 6 < length (fields_of row.now) }
+    requires { at ≤ 16 }
     ensures { result ≡ settle_with_switch (first_operation_at (fields_of row.now) at) }
 {
     let since = read_units(row, at + X3)?;
@@ -194,8 +182,7 @@ fn read_switch(row: &ByteRecord, at: usize) -> Result<TimeInfo, RowKind>
 }
 
 fn read_return(row: &ByteRecord, at: usize) -> Result<Op, RowKind>
-    requires table { at ≤ 16 }
-    requires fields { at + 6 < length (fields_of row.now) }
+    requires { at ≤ 16 }
     ensures { result_map_both asked_of (λ kind. kind) result
         ≡ return_in (first_operation_at (fields_of row.now) at) }
 {
@@ -205,7 +192,6 @@ fn read_return(row: &ByteRecord, at: usize) -> Result<Op, RowKind>
 
 /// The time in the field at `place`, 0 to a day in units of 100 ms; else `Number`.
 pub(crate) fn read_units(row: &ByteRecord, place: usize) -> Result<u32, RowKind>
-    requires { place < length (fields_of row.now) }
     ensures value { result ≡ units_of (field_in (fields_of row.now) place) }
     ensures within_day { IfOk result (λ units. units ≤ DAY) }
 {
@@ -215,7 +201,6 @@ pub(crate) fn read_units(row: &ByteRecord, place: usize) -> Result<u32, RowKind>
 
 /// The same of a time that is at least 1, or none where the field is empty.
 fn read_interval(row: &ByteRecord, place: usize) -> Result<Option<u32>, RowKind>
-    requires { place < length (fields_of row.now) }
     ensures { result ≡ interval_of (field_in (fields_of row.now) place) }
 {
     match optional(row, place, u64::from(DAY))? {
@@ -228,8 +213,7 @@ fn read_interval(row: &ByteRecord, place: usize) -> Result<Option<u32>, RowKind>
 /// Whether the columns are empty that this operation, whose columns begin at `at`, doesn't use.
 #[inline(always)]
 pub fn is_op_blank(row: &ByteRecord, at: usize, version: Version, word: OpWord) -> bool
-    requires table { at ≤ 16 }
-    requires fields { HasOperation version (fields_of row.now) at }
+    requires { at ≤ 16 }
     ensures { result ≡ is_asked_blank word (operation_at version (fields_of row.now) at) }
 {
     match word {
@@ -248,8 +232,7 @@ pub fn is_op_blank(row: &ByteRecord, at: usize, version: Version, word: OpWord) 
 /// Whether the columns are empty that neither an opening nor a credit uses whose columns begin at
 /// `at`: the call, x2 but from version 3 on, and x3 to x9.
 pub fn is_money_blank(row: &ByteRecord, at: usize, version: Version) -> bool
-    requires table { at ≤ 16 }
-    requires fields { HasOperation version (fields_of row.now) at }
+    requires { at ≤ 16 }
     ensures { result ≡ is_money_blank (operation_at version (fields_of row.now) at) }
 {
     is_blank(row, at + CALL) && has_no_until(row, at, version) && are_last_blank(row, at, version)
@@ -257,8 +240,7 @@ pub fn is_money_blank(row: &ByteRecord, at: usize, version: Version) -> bool
 
 /// Whether x2 is empty, but from version 3 on.
 fn has_no_until(row: &ByteRecord, at: usize, version: Version) -> bool
-    requires table { at ≤ 16 }
-    requires fields { at + 3 < length (fields_of row.now) }
+    requires { at ≤ 16 }
     ensures { result ≡ has_no_until version (field_in (fields_of row.now) (at + 3)) }
 {
     match version {
@@ -269,8 +251,7 @@ fn has_no_until(row: &ByteRecord, at: usize, version: Version) -> bool
 
 /// Whether x3 to x9 are empty of an operation whose columns begin at `at`.
 fn are_last_blank(row: &ByteRecord, at: usize, version: Version) -> bool
-    requires table { at ≤ 16 }
-    requires fields { HasOperation version (fields_of row.now) at }
+    requires { at ≤ 16 }
     ensures { result ≡ are_last_empty (operation_at version (fields_of row.now) at) }
 {
     is_blank(row, at + X3)
@@ -281,8 +262,7 @@ fn are_last_blank(row: &ByteRecord, at: usize, version: Version) -> bool
 
 /// Whether x6 to x9 are empty, where there are such columns.
 fn are_added_blank(row: &ByteRecord, at: usize, version: Version) -> bool
-    requires table { at ≤ 16 }
-    requires fields { HasOperation version (fields_of row.now) at }
+    requires { at ≤ 16 }
     ensures { result ≡ are_added_empty (operation_at version (fields_of row.now) at) }
 {
     match version {

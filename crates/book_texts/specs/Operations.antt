@@ -6,12 +6,13 @@ use Rattle.table_core.specs.declared.fault.RowKind.{RowKind}
 use Rattle.price_core.specs.Rates.{Rates}
 use Rattle.price_core.specs.declared.times.TimeInfo.{TimeInfo}
 use Rattle.price_core.specs.declared.times.TimeInfo.TheVariants as info
-use Rattle.entry_rows.specs.Column.{any_number_of, interval_of, is_empty_column, moment_column, money_of, optional_moment_of, optional_rate_of, rate_of, step_units_of, units_of}
-use Rattle.entry_rows.specs.Columns.{Operation}
-use Rattle.entry_rows.specs.declared.version.Version.{Version}
-use Rattle.entry_rows.specs.declared.version.Version.TheVariants as version
-use Rattle.entry_rows.specs.declared.words.OpWord.{OpWord}
-use Rattle.entry_rows.specs.declared.words.OpWord.TheVariants as word
+use Rattle.book_texts.specs.Column.{any_number_of, interval_of, moment_column, money_of, optional_moment_of, optional_rate_of, rate_of, step_units_of, units_of}
+use Rattle.book_texts.specs.Columns.{Operation}
+use Rattle.book_texts.specs.declared.version.Version.{Version}
+use Rattle.book_texts.specs.declared.version.Version.TheVariants as version
+use Rattle.book_texts.specs.declared.words.OpWord.{OpWord}
+use Rattle.book_texts.specs.declared.words.OpWord.TheVariants as word
+use Rattle.table_core.specs.Fields.{is_empty_field}
 
 -- ---- numbers
 
@@ -99,27 +100,27 @@ asked_in word.Return o = return_in o
 
 -- x6 to x9 are empty
 abbrev pub are_added_empty : Operation → Bool
-are_added_empty o = is_empty_column o.x6 && is_empty_column o.x7 && is_empty_column o.x8 && is_empty_column o.x9
+are_added_empty o = is_empty_field o.x6 && is_empty_field o.x7 && is_empty_field o.x8 && is_empty_field o.x9
 
 -- x3 to x9 are empty
 abbrev pub are_last_empty : Operation → Bool
-are_last_empty o = is_empty_column o.x3 && is_empty_column o.x4 && is_empty_column o.x5 && are_added_empty o
+are_last_empty o = is_empty_field o.x3 && is_empty_field o.x4 && is_empty_field o.x5 && are_added_empty o
 
 -- x2 is empty, but from version 3 on
 abbrev pub has_no_until : Version → List ℕ → Bool
-has_no_until version.One text = is_empty_column text
-has_no_until version.Two text = is_empty_column text
+has_no_until version.One text = is_empty_field text
+has_no_until version.Two text = is_empty_field text
 has_no_until version.Three text = true
 has_no_until version.Four text = true
 
 -- the columns are empty that neither an opening nor a credit uses: the call, x2 but from version 3 on, and x3 to x9
 abbrev pub is_money_blank : Operation → Bool
-is_money_blank o = is_empty_column o.call && has_no_until o.version o.x2 && are_last_empty o
+is_money_blank o = is_empty_field o.call && has_no_until o.version o.x2 && are_last_empty o
 
 -- the columns that the operation doesn't use are empty
 abbrev pub is_asked_blank : OpWord → Operation → Bool
 is_asked_blank word.Credit o = is_money_blank o
 is_asked_blank word.Reserve o = true
-is_asked_blank word.SettleNoSwitch o = is_empty_column o.x4 && is_empty_column o.x5 && are_added_empty o
-is_asked_blank word.SettleSwitch o = is_empty_column o.x5 && are_added_empty o
-is_asked_blank word.Return o = is_empty_column o.x1 && is_empty_column o.x2 && are_last_empty o
+is_asked_blank word.SettleNoSwitch o = is_empty_field o.x4 && is_empty_field o.x5 && are_added_empty o
+is_asked_blank word.SettleSwitch o = is_empty_field o.x5 && are_added_empty o
+is_asked_blank word.Return o = is_empty_field o.x1 && is_empty_field o.x2 && are_last_empty o
