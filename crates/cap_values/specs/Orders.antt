@@ -1,6 +1,8 @@
 -- Operations as plain data, which definitions can write down.
 use Rattle.std.specs.Prelude.{◌+◌, ℕ, Bool, Option, List, [], ◌∷◌}
 use Rattle.cap_values.specs.declared.arms.Arms.{Arms}
+use Rattle.cap_values.specs.declared.instructions.Instructions.{Instructions}
+use Rattle.cap_values.specs.declared.instructions.Instructions.TheVariants as instructions
 use Rattle.cap_values.specs.declared.operation.ScfOp.{ScfOp}
 use Rattle.cap_values.specs.declared.operation.ScfOp.TheVariants.{RequestReport, ApplyCharging, Continue, ReleaseCall}
 
@@ -22,6 +24,18 @@ order_of (ReleaseCall cause) = Release cause.value
 abbrev pub orders_of : List ScfOp → List Order
 orders_of [] = []
 orders_of (op ∷ ops) = order_of op ∷ orders_of ops
+
+-- the operations of instructions, in order
+abbrev pub operations_in : Instructions → List ScfOp
+operations_in instructions.Nothing = []
+operations_in instructions.GoOn = Continue ∷ []
+operations_in (instructions.Release cause) = ReleaseCall cause ∷ []
+operations_in (instructions.FirstPeriod arms charge) = RequestReport arms ∷ ApplyCharging charge ∷ Continue ∷ []
+operations_in (instructions.FurtherPeriod charge) = ApplyCharging charge ∷ []
+
+-- what instructions say, in order
+abbrev pub orders_in : Instructions → List Order
+orders_in said = orders_of (operations_in said)
 
 -- a period that an order pays for, in units of 100 ms, and the seconds to a switch
 pub record Paid : Type 0 where

@@ -1,15 +1,14 @@
 //! Values that the tests need made, each in its range.
 
-use cap_values::{Arming, Arms, Charge, Event, Leg, Mode, Number, ScfOp};
+use cap_values::{Arming, Arms, Charge, Event, Leg, Mode, Number};
 use std::process::Abort;
 
 pub(crate) fn number(rt: &impl Abort, text: &str) -> Number {
     Number::new(text).expect(rt, "a number")
 }
 
-pub(crate) fn charge(rt: &impl Abort, period: u32, switch: Option<u32>, release: bool) -> ScfOp {
-    let charge = Charge::new(Some(period), switch, release);
-    ScfOp::ApplyCharging(charge.expect(rt, "a charge"))
+pub(crate) fn charge(rt: &impl Abort, period: u32, switch: Option<u32>, release: bool) -> Charge {
+    Charge::new(Some(period), switch, release).expect(rt, "a charge")
 }
 
 const fn arming(event: Event, leg: Option<Leg>, mode: Mode) -> Arming {
@@ -17,7 +16,7 @@ const fn arming(event: Event, leg: Option<Leg>, mode: Mode) -> Arming {
 }
 
 /// The arms of the service, with a mode for CalledPartyBusy.
-pub(crate) fn arms(rt: &impl Abort, busy: Mode) -> ScfOp {
+pub(crate) fn arms(rt: &impl Abort, busy: Mode) -> Arms {
     let reported = Mode::NotifyAndContinue;
     let armings = [
         arming(Event::RouteSelectFailure, None, reported),
@@ -28,5 +27,5 @@ pub(crate) fn arms(rt: &impl Abort, busy: Mode) -> ScfOp {
         arming(Event::Disconnect, Some(Leg::One), Mode::Interrupted),
         arming(Event::Disconnect, Some(Leg::Two), Mode::Interrupted),
     ];
-    ScfOp::RequestReport(Arms::new(&armings).expect(rt, "arms"))
+    Arms::new(&armings).expect(rt, "arms")
 }

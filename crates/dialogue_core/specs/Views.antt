@@ -1,7 +1,7 @@
 -- What a dialogue of the code stands for.
 use Rattle.std.specs.Prelude.{◌≡◌, Result, Ok, Err}
 use Rattle.account_core.specs.Entries.{asked_of}
-use Rattle.cap_values.specs.Orders.{orders_of}
+use Rattle.cap_values.specs.Orders.{orders_in}
 use Rattle.price_core.specs.RatesOf.{rates_of}
 use Rattle.dialogue_core.specs.Phases.{Conditions, Phase, Says, Sequel}
 use Rattle.dialogue_core.specs.Phases as phase
@@ -46,7 +46,7 @@ phase_of dialogue = phase_at dialogue.state
 -- what a turn says
 abbrev pub says_of : Turn → Says
 says_of (turn.Ask op) = phase.Asks (asked_of op)
-says_of (turn.Send ops) = phase.Sends (orders_of ops.items)
+says_of (turn.Send said) = phase.Sends (orders_in said)
 says_of turn.Done = phase.Finished
 
 -- what is done, and the state after, are by the rules, and so is a refusal

@@ -2,18 +2,17 @@
 
 ghost use Rattle.std.specs.Prelude.{◌≡◌, ◌+◌, ◌<◌, ◌≤◌, Ok, Err, IfOk, IfErr};
 ghost use Rattle.std.specs.Option.{ForSome};
-ghost use Rattle.cap_values.specs.Orders.{orders_of};
+ghost use Rattle.cap_values.specs.Orders.{orders_in};
 ghost use Rattle.dialogue_core.specs.Rules.{on_begin, on_reply, seconds_to, on_message, on_refusal, ending, give_back, going_on, event_reported, while_running, active_reply, are_units, first_reply, last_reply, more_reply, reserve, on_return_reply, sequel};
 ghost use Rattle.dialogue_core.specs.Talks.{after_got, asks_after, asks_left, orders_sent_by};
 ghost use Rattle.dialogue_core.specs.Views.{FollowsRules, phase_at, phase_of, says_of, conditions_of, sequel_of};
 ghost use Rattle.dialogue_core.specs.Phases.{Asks};
 
-use crate::operations::{first_period, further_period, go_on, nothing, release};
+use crate::operations::{first_period, further_period};
 use crate::state::{State, Terms, Then};
 use crate::{DialogueFault, ServiceConfig};
 use account_core::{AccountFault, Op, Reply};
-use arrayvec::ArrayVec;
-use cap_values::{Cause, Event, Mode, ScfOp, SsfMsg};
+use cap_values::{Cause, Event, Instructions, Mode, SsfMsg};
 use price_core::{DAY, Route};
 
 /// The service's dialogue about one call.
@@ -23,24 +22,24 @@ pub struct Dialogue {
 }
 
 /// A turn of a dialogue.
-#[derive(Debug, PartialEq, Eq, Drop)]
+#[derive(Clone, Copy, Debug, PartialEq, Eq)]
 pub enum Turn {
     /// The account is asked, and its reply goes to `Dialogue::answer` or `Dialogue::refused`.
     Ask(Op),
-    /// The gsmSSF is sent these operations, in order.
-    Send(ArrayVec<ScfOp, 4>),
+    /// The gsmSSF is sent these instructions.
+    Send(Instructions),
     /// The dialogue is over.
     Done,
 }
 
 impl Turn {
-    /// The operations that it sends: none but where it is `Send`.
-    pub fn into_operations(self) -> ArrayVec<ScfOp, 4>
-        ensures { orders_of result.items ≡ orders_sent_by (says_of self) }
+    /// The instructions that it sends: none but where it is `Send`.
+    pub fn instructions(self) -> Instructions
+        ensures { orders_in result ≡ orders_sent_by (says_of self) }
     {
         match self {
-            Turn::Send(ops) => ops,
-            _ => ArrayVec::new(),
+            Turn::Send(instructions) => instructions,
+            _ => Instructions::Nothing,
         }
     }
 }
@@ -65,7 +64,10 @@ impl Dialogue {
             let dialogue = Dialogue {
                 state: State::Ending,
             };
-            return (dialogue, release(Cause::unallocated_number()));
+            return (
+                dialogue,
+                Turn::Send(Instructions::Release(Cause::unallocated_number())),
+            );
         };
         let terms = Terms {
             call,
@@ -181,7 +183,10 @@ fn on_refusal(state: State) -> Result<(Turn, State), DialogueFault>
     ensures { FollowsRules result (on_refusal (phase_at state)) }
 {
     match state {
-        State::FirstAsk(_) => Ok((release(Cause::temporary_failure()), State::Ending)),
+        State::FirstAsk(_) => Ok((
+            Turn::Send(Instructions::Release(Cause::temporary_failure())),
+            State::Ending,
+        )),
         State::Settling { terms, active, .. } => {
             if active {
                 Ok(give_back(terms, Then::Fail))
@@ -235,7 +240,7 @@ fn reported(terms: Terms, event: Event, mode: Mode) -> Result<(Turn, State), Dia
     ensures { FollowsRules result (event_reported (conditions_of terms) event mode) }
 {
     match event {
-        Event::Answer => Ok((nothing(), State::Running(terms))),
+        Event::Answer => Ok((Turn::Send(Instructions::Nothing), State::Running(terms))),
         _ => Ok(give_back(terms, going_on(mode))),
     }
 }
@@ -273,7 +278,10 @@ fn first_reply(terms: Terms, reply: Reply) -> Result<(Turn, State), DialogueFaul
             let period = first_period(units, terms.switch, last);
             Ok((period, State::Running(terms)))
         }
-        Reply::Denied { .. } => Ok((release(Cause::call_rejected()), State::Ending)),
+        Reply::Denied { .. } => Ok((
+            Turn::Send(Instructions::Release(Cause::call_rejected())),
+            State::Ending,
+        )),
         _ => Err(DialogueFault::Unexpected),
     }
 }
@@ -360,10 +368,16 @@ fn sequel(next: Then) -> (Turn, State)
     ensures { sequel (sequel_of next) ≡ (says_of result.0, phase_at result.1) }
 {
     match next {
-        Then::Nothing => (nothing(), State::Ending),
-        Then::GoOn => (go_on(), State::Ending),
-        Then::Clear => (release(Cause::normal_call_clearing()), State::Ending),
-        Then::Fail => (release(Cause::temporary_failure()), State::Ending),
+        Then::Nothing => (Turn::Send(Instructions::Nothing), State::Ending),
+        Then::GoOn => (Turn::Send(Instructions::GoOn), State::Ending),
+        Then::Clear => (
+            Turn::Send(Instructions::Release(Cause::normal_call_clearing())),
+            State::Ending,
+        ),
+        Then::Fail => (
+            Turn::Send(Instructions::Release(Cause::temporary_failure())),
+            State::Ending,
+        ),
         Then::Close => (Turn::Done, State::Closed),
     }
 }

@@ -1,37 +1,15 @@
-//! The turns that send operations to the gsmSSF.
+//! The turns that pay for time.
 
 ghost use Rattle.std.specs.Prelude.{◌≡◌, ◌≤◌, None, [], ◌∷◌};
 ghost use Rattle.std.specs.Option.{ForSome};
-ghost use Rattle.cap_values.specs.Orders.{GoOn, Pay, Release, Watch, order_of};
+ghost use Rattle.cap_values.specs.Orders.{GoOn, Pay, Watch};
 ghost use Rattle.dialogue_core.specs.Phases.{Sends};
 ghost use Rattle.dialogue_core.specs.ServiceArms.{service_arms};
 ghost use Rattle.dialogue_core.specs.Views.{says_of};
 
 use crate::Turn;
-use arrayvec::ArrayVec;
-use cap_values::{Arming, Arms, Cause, Charge, Event, Leg, Mode, ScfOp};
+use cap_values::{Arming, Arms, Charge, Event, Instructions, Leg, Mode};
 use price_core::DAY;
-
-/// No operation.
-pub(crate) fn nothing() -> Turn
-    ensures { says_of result ≡ Sends [] }
-{
-    Turn::Send(ArrayVec::new())
-}
-
-/// The call goes on.
-pub(crate) fn go_on() -> Turn
-    ensures { says_of result ≡ Sends (GoOn ∷ []) }
-{
-    one(ScfOp::Continue)
-}
-
-/// The call is cleared.
-pub(crate) fn release(cause: Cause) -> Turn
-    ensures { says_of result ≡ Sends (Release cause.value ∷ []) }
-{
-    one(ScfOp::ReleaseCall(cause))
-}
 
 /// The first period of a call: its points are watched, it is charged, and it goes on.
 pub(crate) fn first_period(units: u32, switch: Option<u32>, last: bool) -> Turn
@@ -40,15 +18,12 @@ pub(crate) fn first_period(units: u32, switch: Option<u32>, last: bool) -> Turn
     requires switch { ForSome switch (λ seconds. (1 ≤ seconds) × (seconds ≤ 86400)) }
     ensures { says_of result ≡ Sends (Watch service_arms ∷ Pay units switch last ∷ GoOn ∷ []) }
 {
-    let mut ops = ArrayVec::new();
-    ops.push(ScfOp::RequestReport(service_arms()));
-    ops.push(ScfOp::ApplyCharging(Charge {
+    let charge = Charge {
         period: units,
         switch,
         release: last,
-    }));
-    ops.push(ScfOp::Continue);
-    Turn::Send(ops)
+    };
+    Turn::Send(Instructions::FirstPeriod(service_arms(), charge))
 }
 
 /// A further period of a call.
@@ -57,19 +32,12 @@ pub(crate) fn further_period(units: u32, release: bool) -> Turn
     requires within_day { units ≤ DAY }
     ensures { says_of result ≡ Sends (Pay units None release ∷ []) }
 {
-    one(ScfOp::ApplyCharging(Charge {
+    let charge = Charge {
         period: units,
         switch: None,
         release,
-    }))
-}
-
-fn one(op: ScfOp) -> Turn
-    ensures { says_of result ≡ Sends (order_of op ∷ []) }
-{
-    let mut ops = ArrayVec::new();
-    ops.push(op);
-    Turn::Send(ops)
+    };
+    Turn::Send(Instructions::FurtherPeriod(charge))
 }
 
 /// The points that the service watches: all events before the call is over are reported, and the

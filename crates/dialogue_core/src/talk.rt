@@ -1,14 +1,13 @@
 //! The talk of a dialogue with an account.
 
-ghost use Rattle.cap_values.specs.Orders.{orders_of};
+ghost use Rattle.cap_values.specs.Orders.{orders_in};
 ghost use Rattle.std.specs.Prelude.{IfOk, IfErr};
 ghost use Rattle.dialogue_core.specs.Talks.{EndsUnanswered, IsTalkedOut};
 ghost use Rattle.dialogue_core.specs.Views.{phase_of, says_of};
 
 use crate::{Dialogue, Turn};
 use account_core::{AccountFault, Op, Reply};
-use arrayvec::ArrayVec;
-use cap_values::ScfOp;
+use cap_values::Instructions;
 
 /// Puts what a dialogue asks to an account, by way of a `P`: a port to it, or a seat of it.
 ///
@@ -39,17 +38,17 @@ pub trait Asker<P> {
             ends (self.old, way.old) (asked_of op) end (self.new, way.new)) };
 }
 
-/// Puts each ask of a dialogue at once, from its turn `turn` on, and gives the operations that it
-/// sends when it asks no more. An ask that gets nothing ends the talk, and is still pending then.
+/// Puts each ask of a dialogue at once, from its turn `turn` on, and gives the instructions that
+/// it sends when it asks no more. An ask that gets nothing ends the talk, and is still pending then.
 pub fn converse<P, A: Asker<P>>(
     asker: &mut A,
     way: &mut P,
     dialogue: &mut Dialogue,
     turn: Turn,
-) -> Result<ArrayVec<ScfOp, 4>, A::End>
+) -> Result<Instructions, A::End>
     requires { A.may_ask (asker.old, way.old) }
-    ensures talks { IfOk result (λ ops. IsTalkedOut A.does (says_of turn, phase_of dialogue.old)
-        (asker.old, way.old) (asker.new, way.new) (phase_of dialogue.new) (orders_of ops.items)) }
+    ensures talks { IfOk result (λ said. IsTalkedOut A.does (says_of turn, phase_of dialogue.old)
+        (asker.old, way.old) (asker.new, way.new) (phase_of dialogue.new) (orders_in said)) }
     ensures cut_off { IfErr result (λ end. EndsUnanswered A.does A.ends
         (says_of turn, phase_of dialogue.old)
         (asker.old, way.old) (asker.new, way.new) (phase_of dialogue.new) end) }
@@ -61,5 +60,5 @@ pub fn converse<P, A: Asker<P>>(
             Err(end) => return Err(end),
         }
     }
-    Ok(turn.into_operations())
+    Ok(turn.instructions())
 }

@@ -7,6 +7,7 @@ ghost use Rattle.run_values.specs.declared.post.Body.TheVariants as body;
 use cap_values::{Charge, Event, Leg, Mode, Number, ScfOp, SsfMsg};
 use price_core::{DAY, HORIZON, TimeInfo};
 use run_values::{Answer, Body, Driver};
+use ssf_core::operations_of;
 use std::alloc::{AllocError, Global};
 
 /// What comes next of the call.
@@ -133,7 +134,8 @@ fn hear(log: &mut String, answers: &[Answer]) -> Result<Option<Charge>, AllocErr
     let mut granted = None;
     for answer in answers {
         write!(log, "message {}:", answer.number)?;
-        for op in answer.ops.as_slice() {
+        let operations = operations_of(answer.instructions);
+        for op in operations.as_slice() {
             if let ScfOp::ApplyCharging(charge) = op {
                 granted = Some(*charge);
             }

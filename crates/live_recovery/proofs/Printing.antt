@@ -3,7 +3,7 @@ use Rattle.std.proofs.Common.{◌≡◌, ◌<◌, ◌≤◌, ◌++◌, ◌∙◌
 use Rattle.std.proofs.lemmas.Option.{slice_get-map}
 use Rattle.std.specs.Fmt.{decimal}
 use Rattle.std.specs.Prelude.{codes, if◌then◌else◌, nat_lt, option_map, slice_get}
-use Rattle.cap_values.specs.Orders.{GoOn, Order, Pay, Release, Watch, order_of, orders_of}
+use Rattle.cap_values.specs.Orders.{GoOn, Order, Pay, Release, Watch, operations_in, order_of, orders_of}
 use Rattle.cap_values.specs.declared.operation.ScfOp.{ScfOp}
 use Rattle.cap_values.specs.declared.operation.ScfOp.TheVariants as operation
 use Rattle.live_answers.specs.Laws.{ReplaysAreSilent, last_behind, next_behind, silence}
@@ -44,7 +44,7 @@ abbrev view_said : AnswerView → List Said
 view_said view = map order_said view.orders ++ (stray_said view.stray ++ refused_said view.refused)
 
 answer_is : (answer : Answer) → answer_said answer ≡ view_said (answer_view answer)
-answer_is answer = ap (λ l. l ++ (stray_said answer.stray ++ refused_said answer.refused)) (all_said answer.ops.items)
+answer_is answer = ap (λ l. l ++ (stray_said answer.stray ++ refused_said answer.refused)) (all_said (operations_in answer.instructions))
 
 abbrev view_rows : List ℕ → Option AnswerView → List ℕ
 view_rows head None = []

@@ -11,6 +11,7 @@ use Rattle.message_rows.specs.Said.{operation_said, refused_said, stray_said}
 use Rattle.message_rows.specs.Tables.{answer_rows, trace_header, post_rows, trace_row, trace_rows_from, service_rows, trace_text}
 use Rattle.run_values.specs.declared.post.Answer.{Answer}
 use Rattle.run_values.specs.declared.post.Body.{Body}
+use Rattle.cap_values.specs.Orders.{operations_in}
 
 -- the rows of a post, with those of its answer
 abbrev rows_at : Clock → List Answer → ℕ → ℕ × Body → List ℕ
@@ -39,11 +40,11 @@ rows_more clock answers given i post text within is so_far =
     rw (so_far, take_more given i post within, ← is, last) (append_assoc trace_header (trace_rows_from clock answers 0 front) (post_rows clock i post (slice_get answers i)))
 
 -- the operations of an answer, whether the post was stray and the fault, one after the other
-pub answer_joined : (head : List ℕ) (answer : Answer) (old after_operations after_stray new : List ℕ) → after_operations ≡ old ++ service_rows head (map operation_said answer.ops.items)
+pub answer_joined : (head : List ℕ) (answer : Answer) (old after_operations after_stray new : List ℕ) → after_operations ≡ old ++ service_rows head (map operation_said (operations_in answer.instructions))
     → after_stray ≡ after_operations ++ service_rows head (stray_said answer.stray) → new ≡ after_stray ++ service_rows head (refused_said answer.refused)
     → new ≡ old ++ answer_rows head (Some answer)
 answer_joined head answer old after_operations after_stray new operations stray refused =
-    let operations_said = map operation_said answer.ops.items in
+    let operations_said = map operation_said (operations_in answer.instructions) in
     let one = trace_row head (codes "service") in
     rw (refused, stray, operations, flat_map-append one operations_said (stray_said answer.stray ++ refused_said answer.refused), flat_map-append one (stray_said answer.stray) (refused_said answer.refused))
     (simp append_assoc)

@@ -22,6 +22,7 @@ use Rattle.run_values.specs.declared.post.Body.TheVariants as body
 use Rattle.price_core.specs.declared.times.TimeInfo.{TimeInfo}
 use Rattle.price_core.specs.declared.times.TimeInfo.TheVariants as info
 use Rattle.table_core.specs.Fields.{number_or_empty}
+use Rattle.cap_values.specs.Orders.{operations_in}
 
 -- what is said, and with what
 pub record Said : Type 0 where
@@ -106,4 +107,4 @@ refused_said (Some fault) = record (alone (codes "refused")) { x1 = account_faul
 
 -- what the service says to a post: the operations of its answer, in order, then whether it was stray, and the fault
 abbrev pub answer_said : Answer → List Said
-answer_said answer = map operation_said answer.ops.items ++ (stray_said answer.stray ++ refused_said answer.refused)
+answer_said answer = map operation_said (operations_in answer.instructions) ++ (stray_said answer.stray ++ refused_said answer.refused)

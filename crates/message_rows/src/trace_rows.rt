@@ -9,6 +9,7 @@ use cap_values::{Event, Leg, Mode, ScfOp, SsfMsg};
 use moment_texts::{Clock, MomentField};
 use price_core::TimeInfo;
 use run_values::{Answer, Body};
+use ssf_core::operations_of;
 use std::alloc::AllocError;
 use table_core::Field;
 
@@ -89,7 +90,8 @@ pub(crate) fn write_answer(text: &mut String, head: &str, answer: &Answer) -> Re
     ensures { OnOk result (string_bytes text.new ≡ string_bytes text.old
         ++ answer_rows head.now (Some answer.now)) }
 {
-    write_operations(text, head, answer.ops.as_slice())?;
+    let operations = operations_of(answer.instructions);
+    write_operations(text, head, operations.as_slice())?;
     write_stray(text, head, answer.stray)?;
     write_refused(text, head, answer.refused)
 }

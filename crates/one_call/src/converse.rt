@@ -1,15 +1,14 @@
 //! The service's talk with the port, until it says something else.
 
 ghost use Rattle.std.specs.Prelude.{◌≡◌, ◌++◌, ℕ, List};
-ghost use Rattle.cap_values.specs.Orders.{Paid, orders_of, paid_by};
+ghost use Rattle.cap_values.specs.Orders.{Paid, orders_in, paid_by};
 ghost use Rattle.dialogue_core.specs.Views.{phase_of, says_of};
 ghost use Rattle.ssf_core.specs.Meters.{Meter};
 ghost use Rattle.one_call.specs.Covered.{IsAtRest, IsReadyCall};
 
 use crate::counts::Counts;
 use account_core::{AccountFault, Op, Port, Reply};
-use arrayvec::ArrayVec;
-use cap_values::ScfOp;
+use cap_values::Instructions;
 use dialogue_core::{Asker, Dialogue, Turn};
 use std::convert::Infallible;
 
@@ -32,13 +31,13 @@ impl<P: Port> Asker<P> for Counts {
     }
 }
 
-/// Puts each ask of the service to the port at once, and gives the operations that it sends then.
+/// Puts each ask of the service to the port at once, and gives the instructions that it sends then.
 pub(crate) fn converse<P: Port>(
     port: &mut P,
     dialogue: &mut Dialogue,
     counts: &mut Counts,
     turn: Turn,
-) -> ArrayVec<ScfOp, 4>
+) -> Instructions
     ensures kept { (call : ℕ) (meter : Meter) (queued : List Paid)
         → IsReadyCall call meter queued
         (P.state port.old call) (phase_of dialogue.old) (says_of turn)
@@ -46,11 +45,11 @@ pub(crate) fn converse<P: Port>(
     ensures rests { (call : ℕ) (meter : Meter) (queued : List Paid)
         → IsReadyCall call meter queued
         (P.state port.old call) (phase_of dialogue.old) (says_of turn)
-        → IsAtRest call meter (queued ++ paid_by (orders_of result.items))
+        → IsAtRest call meter (queued ++ paid_by (orders_in result))
         (P.state port.new call) (phase_of dialogue.new) }
 {
     match dialogue_core::converse(counts, port, dialogue, turn) {
-        Ok(ops) => ops,
+        Ok(instructions) => instructions,
         Err(never) => match never {},
     }
 }

@@ -1,7 +1,7 @@
 //! What the gsmSSF sends, heard by the service.
 
 ghost use Rattle.std.specs.Prelude.{◌≡◌, ◌++◌, ℕ, List, IfOk, IfErr};
-ghost use Rattle.cap_values.specs.Orders.{Paid, orders_of, paid_by};
+ghost use Rattle.cap_values.specs.Orders.{Paid, orders_in, paid_by};
 ghost use Rattle.dialogue_core.specs.Views.{phase_of};
 ghost use Rattle.ssf_core.specs.Meters.{Meter, RunsThrough, MetersItem};
 ghost use Rattle.ssf_core.specs.declared.item.Item.TheVariants as sent;
@@ -12,13 +12,13 @@ use crate::DriveFault;
 use crate::converse::converse;
 use crate::counts::Counts;
 use account_core::Port;
-use arrayvec::ArrayVec;
-use cap_values::{ScfOp, SsfMsg};
+use cap_values::{Instructions, SsfMsg};
 use dialogue_core::Dialogue;
 use ssf_core::{Delivery, Item, Moment, Out, send};
 use std::collections::VecDeque;
 
-/// Hands a message to the dialogue at its moment, and gives the operations that it answers with. A
+/// Hands a message to the dialogue at its moment, and gives the instructions that it answers
+/// with. A
 /// message that has no place in the dialogue is answered by none.
 fn hear<P: Port>(
     port: &mut P,
@@ -26,7 +26,7 @@ fn hear<P: Port>(
     counts: &mut Counts,
     at: Moment,
     message: SsfMsg,
-) -> ArrayVec<ScfOp, 4>
+) -> Instructions
     ensures kept { (call now : ℕ) (meter after : Meter) (queued : List Paid)
         → IsAtRest call meter queued (P.state port.old call) (phase_of dialogue.old)
         → MetersItem meter now (sent.Msg message) after
@@ -34,14 +34,14 @@ fn hear<P: Port>(
     ensures rests { (call now : ℕ) (meter after : Meter) (queued : List Paid)
         → IsAtRest call meter queued (P.state port.old call) (phase_of dialogue.old)
         → MetersItem meter now (sent.Msg message) after
-        → IsAtRest call after (queued ++ paid_by (orders_of result.items))
+        → IsAtRest call after (queued ++ paid_by (orders_in result))
         (P.state port.new call) (phase_of dialogue.new) }
 {
     let number = counts.messages;
     *counts = counts.with_message(&message);
     match dialogue.take(number, at, message) {
         Ok(turn) => converse(port, dialogue, counts, turn),
-        Err(_) => ArrayVec::new(),
+        Err(_) => Instructions::Nothing,
     }
 }
 
@@ -72,8 +72,8 @@ fn hear_one<P: Port>(
 {
     match out.item {
         Item::Msg(message) => {
-            let ops = hear(port, dialogue, counts, out.at, message);
-            Ok(send(deliveries, due, to, ops.as_slice())?)
+            let instructions = hear(port, dialogue, counts, out.at, message);
+            Ok(send(deliveries, due, to, instructions)?)
         }
         Item::Proceed => Ok(()),
         Item::Clear(_) => Ok(()),

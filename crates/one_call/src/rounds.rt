@@ -44,8 +44,8 @@ pub(crate) fn play<P: Port>(
     let (mut dialogue, turn) = Dialogue::begin(call.0, start, route, service);
     let mut deliveries = VecDeque::new(alloc);
     let mut played = 0;
-    let ops = converse(port, &mut dialogue, &mut counts, turn);
-    send(&mut deliveries, start + delay, call.0, ops.as_slice())?;
+    let instructions = converse(port, &mut dialogue, &mut counts, turn);
+    send(&mut deliveries, start + delay, call.0, instructions)?;
     'inputs: for _ in 0..u64::MAX {
         let Some(now) = next_input(&ssf, &deliveries, script, played) else {
             break;

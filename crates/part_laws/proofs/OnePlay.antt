@@ -10,7 +10,7 @@ use Rattle.std.specs.List.Sorted.{IsStrictlySortedBy}
 use Rattle.std.specs.Option.{ForSome}
 use Rattle.std.specs.Ordering.{nat_cmp}
 use Rattle.std.specs.Prelude.{min, nat_lt}
-use Rattle.cap_values.specs.Orders.{Order}
+use Rattle.cap_values.specs.Orders.{Order, operations_in}
 use Rattle.cap_values.specs.declared.operation.ScfOp.{ScfOp}
 use Rattle.part_laws.proofs.OneSsf.{HaveSsfsAlike, ShownAlike, due_too, first_same, gives_alike, happens_alike, row_fault_alike, ssfs_turned, stay_alike, timer_too}
 use Rattle.part_laws.proofs.Orders.{same_operations}
@@ -121,11 +121,11 @@ deliveries_same delay given (answer ∷ answers) [] same = absurd (cc)
 deliveries_same delay given (answer ∷ answers) (other ∷ others) same =
     let first : order_heard answer ≡ order_heard other = cc same in
     let number : answer.number ≡ other.number = ap (λ (heard : ℕ × List Order). heard.0) first in
-    let ops : answer.ops.items ≡ other.ops.items = same_operations answer.ops.items other.ops.items (ap (λ (heard : ℕ × List Order). heard.1) first) in
+    let ops : operations_in answer.instructions ≡ operations_in other.instructions = same_operations (operations_in answer.instructions) (operations_in other.instructions) (ap (λ (heard : ℕ × List Order). heard.1) first) in
     let rest : map order_heard answers ≡ map order_heard others = cc same in
-    ap (λ (n : ℕ). deliveries_for delay answer.ops.items (slice_get given n) ++ deliveries_of delay given answers) number
+    ap (λ (n : ℕ). deliveries_for delay (operations_in answer.instructions) (slice_get given n) ++ deliveries_of delay given answers) number
     ∙ ap (λ (o : List ScfOp). deliveries_for delay o (slice_get given other.number) ++ deliveries_of delay given answers) ops
-    ∙ ap (λ l. deliveries_for delay other.ops.items (slice_get given other.number) ++ l) (deliveries_same delay given answers others rest)
+    ∙ ap (λ l. deliveries_for delay (operations_in other.instructions) (slice_get given other.number) ++ l) (deliveries_same delay given answers others rest)
 
 waiting_same : (one other : Play) (answers others : List Answer) → PlayAlike one other → map order_heard answers ≡ map order_heard others → waiting one answers ≡ waiting other others
 waiting_same one other answers others alike same =

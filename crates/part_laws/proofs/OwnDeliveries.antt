@@ -22,6 +22,7 @@ use Rattle.script_player.specs.Rounds.{waiting}
 use Rattle.ssf_core.specs.Deliveries.{deliveries_at}
 use Rattle.ssf_core.specs.declared.deliveries.Delivery.{Delivery}
 use Rattle.workers_core.specs.Handled.{AnswerView}
+use Rattle.cap_values.specs.Orders.{operations_in}
 
 -- ---- item by item
 
@@ -29,7 +30,7 @@ use Rattle.workers_core.specs.Handled.{AnswerView}
 abbrev pub deliveries_each : ℕ → List (ℕ × Body) → List Answer → List Delivery
 deliveries_each delay [] answers = []
 deliveries_each delay (item ∷ added) [] = []
-deliveries_each delay (item ∷ added) (answer ∷ answers) = deliveries_to delay answer.ops.items item.0 item.1 ++ deliveries_each delay added answers
+deliveries_each delay (item ∷ added) (answer ∷ answers) = deliveries_to delay (operations_in answer.instructions) item.0 item.1 ++ deliveries_each delay added answers
 
 behind : (old added : List (ℕ × Body)) (item : ℕ × Body) → slice_get (old ++ item ∷ added) (length old) ≡ Some item
 behind [] added item = refl
@@ -44,7 +45,7 @@ each_delivered delay old (item ∷ added) (answer ∷ answers) each =
     let rest : AnswersEach (length old + 1) added answers = cc each in
     let more = old ++ item ∷ [] in
     let count : length old + 1 ≡ length more = sym (length-append old (item ∷ [])) in
-    let ops = answer.ops.items in
+    let ops = operations_in answer.instructions in
     ap (λ (n : ℕ). deliveries_for delay ops (slice_get (old ++ item ∷ added) n) ++ deliveries_of delay (old ++ item ∷ added) answers) number
     ∙ ap (λ found. deliveries_for delay ops found ++ deliveries_of delay (old ++ item ∷ added) answers) (behind old added item)
     ∙ ap (λ (g : List (ℕ × Body)). deliveries_to delay ops item.0 item.1 ++ deliveries_of delay g answers) (sym (append_assoc old (item ∷ []) added))
@@ -97,17 +98,17 @@ module _ (choice : Choice) (delay : ℕ) where
   each_chosen [] answers = refl
   each_chosen (item ∷ added) [] = sym (none_each (chosen choice (item ∷ added)))
   each_chosen (item ∷ added) (answer ∷ answers) =
-      filter-append (λ (d : Delivery). choice.calls d.call) (deliveries_to delay answer.ops.items item.0 item.1) (deliveries_each delay added answers)
+      filter-append (λ (d : Delivery). choice.calls d.call) (deliveries_to delay (operations_in answer.instructions) item.0 item.1) (deliveries_each delay added answers)
       ∙ by_own (is_chosen choice item.1) refl (each_chosen added answers)
     where
       by_own : (b : Bool) → is_chosen choice item.1 ≡ b
           → chosen_deliveries choice (deliveries_each delay added answers) ≡ deliveries_each delay (chosen choice added) (answers_for choice added answers)
-          → chosen_deliveries choice (deliveries_to delay answer.ops.items item.0 item.1) ++ chosen_deliveries choice (deliveries_each delay added answers)
+          → chosen_deliveries choice (deliveries_to delay (operations_in answer.instructions) item.0 item.1) ++ chosen_deliveries choice (deliveries_each delay added answers)
           ≡ deliveries_each delay (if b then item ∷ chosen choice added else chosen choice added) (if b then answer ∷ answers_for choice added answers else answers_for choice added answers)
       by_own true is rest =
-          ap (λ l. l ++ chosen_deliveries choice (deliveries_each delay added answers)) (to_own answer.ops.items item.0 item.1 is)
-          ∙ ap (λ l. deliveries_to delay answer.ops.items item.0 item.1 ++ l) rest
-      by_own false is rest = ap (λ l. l ++ chosen_deliveries choice (deliveries_each delay added answers)) (to_others answer.ops.items item.0 item.1 is) ∙ rest
+          ap (λ l. l ++ chosen_deliveries choice (deliveries_each delay added answers)) (to_own (operations_in answer.instructions) item.0 item.1 is)
+          ∙ ap (λ l. deliveries_to delay (operations_in answer.instructions) item.0 item.1 ++ l) rest
+      by_own false is rest = ap (λ l. l ++ chosen_deliveries choice (deliveries_each delay added answers)) (to_others (operations_in answer.instructions) item.0 item.1 is) ∙ rest
 
 -- answers that say the same bring the same
 each_alike : (delay : ℕ) (added : List (ℕ × Body)) (answers others : List Answer) → map unnumbered_answer answers ≡ map unnumbered_answer others
@@ -119,9 +120,9 @@ each_alike delay (item ∷ added) (answer ∷ answers) [] same = absurd (cc)
 each_alike delay (item ∷ added) (answer ∷ answers) (other ∷ others) same =
     let first : unnumbered_answer answer ≡ unnumbered_answer other = cc same in
     let rest : map unnumbered_answer answers ≡ map unnumbered_answer others = cc same in
-    let ops : answer.ops.items ≡ other.ops.items = same_operations answer.ops.items other.ops.items (ap (λ (view : AnswerView). view.orders) first) in
+    let ops : operations_in answer.instructions ≡ operations_in other.instructions = same_operations (operations_in answer.instructions) (operations_in other.instructions) (ap (λ (view : AnswerView). view.orders) first) in
     ap (λ (o : List ScfOp). deliveries_to delay o item.0 item.1 ++ deliveries_each delay added answers) ops
-    ∙ ap (λ l. deliveries_to delay other.ops.items item.0 item.1 ++ l) (each_alike delay added answers others rest)
+    ∙ ap (λ l. deliveries_to delay (operations_in other.instructions) item.0 item.1 ++ l) (each_alike delay added answers others rest)
 
 -- ---- when they come
 
@@ -139,8 +140,8 @@ each_at delay now [] answers moments = All-nil (λ (d : Delivery). d.at ≡ now 
 each_at delay now (item ∷ added) [] moments = All-nil (λ (d : Delivery). d.at ≡ now + delay)
 each_at delay now (item ∷ added) (answer ∷ answers) moments =
     let M : ℕ × Body → Type 0 = λ i. i.0 ≡ now in
-    All-append (λ (d : Delivery). d.at ≡ now + delay) (deliveries_to delay answer.ops.items item.0 item.1) (deliveries_each delay added answers)
-    (to_at delay now answer.ops.items item.0 item.1 (All-head M item added moments)) (each_at delay now added answers (All-tail M item added moments))
+    All-append (λ (d : Delivery). d.at ≡ now + delay) (deliveries_to delay (operations_in answer.instructions) item.0 item.1) (deliveries_each delay added answers)
+    (to_at delay now (operations_in answer.instructions) item.0 item.1 (All-head M item added moments)) (each_at delay now added answers (All-tail M item added moments))
 
 -- ---- once the answers to a round are heard
 

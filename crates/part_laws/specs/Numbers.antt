@@ -2,7 +2,7 @@
 use Rattle.std.specs.Prelude.{List, map}
 use Rattle.account_core.specs.Asked.{Asked, Credits, Reserves, Settles, Returns}
 use Rattle.account_core.specs.Entries.{EntryData}
-use Rattle.cap_values.specs.Orders.{orders_of}
+use Rattle.cap_values.specs.Orders.{orders_in}
 use Rattle.run_values.specs.declared.post.Answer.{Answer}
 use Rattle.shared_account.specs.Closed.{Closed}
 use Rattle.workers_core.specs.Handled.{AnswerView}
@@ -29,4 +29,4 @@ unnumbered_book book =
 
 -- what an answer says, so
 abbrev pub unnumbered_answer : Answer → AnswerView
-unnumbered_answer answer = record { number = 0; orders = orders_of answer.ops.items; stray = answer.stray; refused = answer.refused }
+unnumbered_answer answer = record { number = 0; orders = orders_in answer.instructions; stray = answer.stray; refused = answer.refused }

@@ -1,6 +1,6 @@
 -- A gsmSSF has one way to go on, and a play goes one way: what it gives is known by its rows and by what it hears.
 use Rattle.std.specs.Prelude.{◌≡◌, ℕ, List, map}
-use Rattle.cap_values.specs.Orders.{Order, orders_of}
+use Rattle.cap_values.specs.Orders.{Order, orders_in}
 use Rattle.run_texts.specs.declared.script.ScriptRow.{ScriptRow}
 use Rattle.run_values.specs.declared.post.Answer.{Answer}
 use Rattle.script_player.specs.Plays.{Play}
@@ -20,7 +20,7 @@ TimersRunOneWay =
 
 -- what a play hears of an answer: the number of its item, and what its operations say
 abbrev pub order_heard : Answer → ℕ × List Order
-order_heard answer = (answer.number, orders_of answer.ops.items)
+order_heard answer = (answer.number, orders_in answer.instructions)
 
 -- the same of all answers, round by round
 abbrev pub orders_heard : List (List Answer) → List (List (ℕ × List Order))

@@ -1,10 +1,9 @@
 //! A player that counts the refusals in the answers that it hears, and may keep the answers.
 
-ghost use Rattle.std.specs.Prelude.{◌≡◌, ◌++◌, [], OnOk};
+ghost use Rattle.std.specs.Prelude.{◌≡◌, ◌++◌, []};
 ghost use Rattle.run_outputs.specs.Refused.{none_refused};
 ghost use Rattle.run_values.specs.Options.{is_trace};
 
-use arrayvec::ArrayVec;
 use run_outputs::{Played, Refusals};
 use run_values::{Answer, Body, Driver, RunOutput};
 use script_player::ScriptPlayer;
@@ -90,35 +89,9 @@ impl Driver for Listener {
 
     fn round(&mut self, answers: &[Answer]) -> Result<bool, AllocError> {
         if self.keeps {
-            keep(&mut self.heard, answers)?;
+            self.heard.extend_from_slice(answers)?;
         }
         self.refusals.hear(answers);
         self.player.round(answers)
-    }
-}
-
-/// Puts copies of answers behind others.
-fn keep(heard: &mut Vec<Answer>, answers: &[Answer]) -> Result<(), AllocError>
-    ensures { OnOk result (heard.new.items ≡ heard.old.items ++ answers.now) }
-{
-    for answer in answers {
-        heard.push(copy_of(answer))?;
-    }
-    Ok(())
-}
-
-/// A copy of an answer.
-fn copy_of(answer: &Answer) -> Answer
-    ensures { result ≡ answer.now }
-{
-    let mut ops = ArrayVec::new();
-    for op in answer.ops.as_slice() {
-        ops.push(*op);
-    }
-    Answer {
-        number: answer.number,
-        ops,
-        stray: answer.stray,
-        refused: answer.refused,
     }
 }

@@ -4,8 +4,7 @@ ghost use Rattle.std.specs.Prelude.{◌≤◌};
 ghost use Rattle.price_core.specs.declared.times.TheConstants.{HORIZON};
 
 use account_core::AccountFault;
-use arrayvec::ArrayVec;
-use cap_values::{ScfOp, SsfMsg};
+use cap_values::{Instructions, SsfMsg};
 
 /// What a post is about.
 #[derive(Clone, Copy, Debug, PartialEq, Eq)]
@@ -41,12 +40,12 @@ pub struct Post {
 }
 
 /// What a worker answers to a post.
-#[derive(Drop)]
+#[derive(Clone, Copy)]
 pub struct Answer {
     /// The number of the post.
     pub number: u64,
-    /// The operations that the gsmSSF of the post's call is sent, in order.
-    pub ops: ArrayVec<ScfOp, 4>,
+    /// What the gsmSSF of the post's call is sent.
+    pub instructions: Instructions,
     /// Whether the post has no place here. No account was asked then.
     pub stray: bool,
     /// The last fault that an ask of an account got.

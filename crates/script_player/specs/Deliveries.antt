@@ -7,6 +7,7 @@ use Rattle.ssf_core.specs.declared.deliveries.Delivery.{Delivery}
 use Rattle.run_values.specs.declared.post.Answer.{Answer}
 use Rattle.run_values.specs.declared.post.Body.{Body}
 use Rattle.run_values.specs.declared.post.Body.TheVariants as body
+use Rattle.cap_values.specs.Orders.{operations_in}
 
 -- operations that answer an item: they are for its call, and delivered a delay after its moment
 abbrev pub deliveries_to : ℕ → List ScfOp → ℕ → Body → List Delivery
@@ -22,4 +23,4 @@ deliveries_for delay ops (Some item) = deliveries_to delay ops item.0 item.1
 abbrev pub deliveries_of : ℕ → List (ℕ × Body) → List Answer → List Delivery
 deliveries_of delay given [] = []
 deliveries_of delay given (answer ∷ answers) =
-    deliveries_for delay answer.ops.items (slice_get given answer.number) ++ deliveries_of delay given answers
+    deliveries_for delay (operations_in answer.instructions) (slice_get given answer.number) ++ deliveries_of delay given answers

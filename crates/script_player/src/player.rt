@@ -1,6 +1,7 @@
 //! The driver that plays a script.
 
 ghost use Rattle.std.specs.Prelude.{◌≡◌, ◌≤◌, ◌+◌, ◌*◌, ◌++◌, All, IfOk, OnErr, OnOk, drop, length, take};
+ghost use Rattle.cap_values.specs.Orders.{operations_in};
 ghost use Rattle.script_player.specs.Networks.{Grows};
 ghost use Rattle.script_player.specs.Rows.{Adds, FollowsRows, TakesRow, next_row};
 ghost use Rattle.script_player.specs.Steps.{DeliversDue};
@@ -8,7 +9,7 @@ ghost use Rattle.script_player.specs.Unplaced.{PlaysDueWithout, PlaysRowWithFaul
 ghost use Rattle.script_player.specs.Deliveries.{deliveries_of, deliveries_to};
 
 use crate::network::{Input, MAX_SENT, Network};
-use cap_values::ScfOp;
+use cap_values::Instructions;
 use price_core::{DAY, HORIZON, MAX_MOMENT};
 use run_texts::{Happening, ScriptRow};
 use run_values::{Answer, Body, Driver};
@@ -339,27 +340,28 @@ fn put_down(
 {
     for answer in answers {
         if let Some(item) = given.get(answer.number as usize) {
-            send_to(deliveries, delay, *item, answer.ops.as_slice())?;
+            send_to(deliveries, delay, *item, answer.instructions)?;
         }
     }
     Ok(())
 }
 
-/// Puts down operations that answer an item. A recharge has none.
+/// Puts down the operations that answer an item. A recharge has none.
 fn send_to(
     deliveries: &mut VecDeque<Delivery>,
     delay: u32,
     item: (u64, Body),
-    ops: &[ScfOp],
+    instructions: Instructions,
 ) -> Result<(), AllocError>
     requires delay { delay ≤ DAY }
     requires in_range { item.0 ≤ HORIZON }
     ensures { OnOk result (deliveries.new.items
-        ≡ deliveries.old.items ++ deliveries_to delay ops.now item.0 item.1) }
+        ≡ deliveries.old.items ++ deliveries_to delay (operations_in instructions)
+        item.0 item.1) }
 {
     let (at, body) = item;
     match body {
-        Body::Ssf { call, .. } => send(deliveries, at + u64::from(delay), call, ops),
+        Body::Ssf { call, .. } => send(deliveries, at + u64::from(delay), call, instructions),
         Body::Recharge { .. } => Ok(()),
     }
 }

@@ -2,11 +2,12 @@
 
 ghost use Rattle.std.specs.Prelude.{◌≡◌, ◌++◌, ◌≤◌, OnOk};
 ghost use Rattle.std.specs.Option.{ForSome};
+ghost use Rattle.cap_values.specs.Orders.{operations_in};
 ghost use Rattle.ssf_core.specs.Deliveries.{TakesDue, deliveries_at, next_delivery};
 ghost use Rattle.ssf_core.specs.Moments.{in_reach, sooner};
 
-use crate::Moment;
-use cap_values::ScfOp;
+use crate::{Moment, operations_of};
+use cap_values::{Instructions, ScfOp};
 use price_core::HORIZON;
 use std::alloc::AllocError;
 use std::collections::VecDeque;
@@ -22,18 +23,19 @@ pub struct Delivery {
     pub op: ScfOp,
 }
 
-/// Sends operations on their way, one after the other, all to be delivered to one call at one
-/// moment. Where memory ran out, some of them may be on their way.
+/// Sends the operations of instructions on their way, one after the other, all to be delivered to
+/// one call at one moment. Where memory ran out, some of them may be on their way.
 pub fn send(
     deliveries: &mut VecDeque<Delivery>,
     at: Moment,
     call: u64,
-    ops: &[ScfOp],
+    instructions: Instructions,
 ) -> Result<(), AllocError>
     ensures sent { OnOk result (deliveries.new.items
-        ≡ deliveries.old.items ++ deliveries_at at call ops.now) }
+        ≡ deliveries.old.items ++ deliveries_at at call (operations_in instructions)) }
 {
-    for op in ops {
+    let operations = operations_of(instructions);
+    for op in operations.as_slice() {
         deliveries.push_back(Delivery { at, call, op: *op })?;
     }
     Ok(())

@@ -4,7 +4,7 @@ use Rattle.account_core.specs.Asked.{Credits}
 use Rattle.account_core.specs.Entries.{EntryData}
 use Rattle.account_core.specs.declared.fault.AccountFault.{AccountFault}
 use Rattle.cap_values.specs.NumberDigits.{digits_of_number}
-use Rattle.cap_values.specs.Orders.{Order, Release, orders_of}
+use Rattle.cap_values.specs.Orders.{Order, Release, orders_in}
 use Rattle.cap_values.specs.declared.number.Number.{Number}
 use Rattle.dialogue_core.specs.Phases.{Phase, Says, Asks}
 use Rattle.dialogue_core.specs.Rules.{on_begin}
@@ -30,7 +30,7 @@ pub record AnswerView : Type 0 where
 
 -- what an answer of the code says
 abbrev pub answer_view : Answer → AnswerView
-answer_view answer = record { number = answer.number; orders = orders_of answer.ops.items; stray = answer.stray; refused = answer.refused }
+answer_view answer = record { number = answer.number; orders = orders_in answer.instructions; stray = answer.stray; refused = answer.refused }
 
 -- the list at a place has gained entries, and no other list has grown
 abbrev pub grown : List (List EntryData) → ℕ → List EntryData → List (List EntryData)

@@ -1,6 +1,6 @@
 //! What is done about a post, in each case.
 
-ghost use Rattle.std.specs.Prelude.{◌≡◌, ◌≢◌, ◌==◌, ◌∷◌, ◌<◌, ◌≤◌, if◌then◌else◌, [], ℕ, List, None, Some, true, false, length, map, IfErr, IfOk, IsSome, OnOk};
+ghost use Rattle.std.specs.Prelude.{◌≡◌, ◌≢◌, ◌==◌, ◌<◌, ◌≤◌, if◌then◌else◌, ℕ, List, None, Some, true, false, length, map, IfErr, IfOk, IsSome, OnOk};
 ghost use Rattle.std.specs.BTreeMap.{is_at};
 ghost use Rattle.std.specs.Map.{lookup};
 ghost use Rattle.std.specs.Ordering.{nat_cmp};
@@ -12,14 +12,12 @@ ghost use Rattle.workers_core.specs.Workers.{talk_standing, standings_in};
 ghost use Rattle.dialogue_core.specs.Talks.{asks_after, asks_left};
 ghost use Rattle.account_core.specs.Entries.{EntryData, asked_of};
 ghost use Rattle.shared_account.specs.Refusals.{IsRefusedAt, Refusal};
-ghost use Rattle.cap_values.specs.Orders.{Release, orders_of};
 ghost use Rattle.dialogue_core.specs.Views.{phase_of, says_of};
 
 use crate::WorkerFault;
 use crate::worker::{Case, Talk};
 use account_core::{AccountFault, Op, Reply};
-use arrayvec::ArrayVec;
-use cap_values::{Cause, ScfOp};
+use cap_values::{Cause, Instructions};
 use dialogue_core::{Asker, Dialogue, Turn, converse};
 use rising_map::RisingMap;
 use run_values::{Answer, Body};
@@ -96,8 +94,12 @@ pub(crate) fn act<S: Shared, R: Wait, G: Gate>(
     ensures gate { result ≡ Err WorkerFault.GateClosed → G.may_shut gate.now }
 {
     match case {
-        Case::Stray => Ok(unasked(number, ArrayVec::new(), true)),
-        Case::Rejected => Ok(unasked(number, rejection(), false)),
+        Case::Stray => Ok(unasked(number, Instructions::Nothing, true)),
+        Case::Rejected => {
+            // Its caller isn't known.
+            let rejection = Instructions::Release(Cause::call_rejected());
+            Ok(unasked(number, rejection, false))
+        }
         Case::Recharge {
             place,
             amount,
@@ -124,11 +126,11 @@ pub(crate) fn act<S: Shared, R: Wait, G: Gate>(
                 refused: None,
             };
             match converse(&mut desk, &mut seats[place], &mut dialogue, turn) {
-                Ok(ops) => {
+                Ok(instructions) => {
                     keep(talks, call, Talk { dialogue, place });
                     Ok(Answer {
                         number,
-                        ops,
+                        instructions,
                         stray: false,
                         refused: desk.refused,
                     })
@@ -140,24 +142,20 @@ pub(crate) fn act<S: Shared, R: Wait, G: Gate>(
 }
 
 /// The answer to a post for which no account is asked.
-fn unasked(number: u64, ops: ArrayVec<ScfOp, 4>, stray: bool) -> Answer
-    ensures { result ≡ record { number = number; ops = ops; stray = stray; refused = None } }
+fn unasked(number: u64, instructions: Instructions, stray: bool) -> Answer
+    ensures { result ≡ record {
+      number = number;
+      instructions = instructions;
+      stray = stray;
+      refused = None;
+    } }
 {
     Answer {
         number,
-        ops,
+        instructions,
         stray,
         refused: None,
     }
-}
-
-/// The call is cleared, as its caller isn't known.
-fn rejection() -> ArrayVec<ScfOp, 4>
-    ensures { orders_of result.items ≡ Release 21 ∷ [] }
-{
-    let mut ops = ArrayVec::new();
-    ops.push(ScfOp::ReleaseCall(Cause::call_rejected()));
-    ops
 }
 
 /// Puts a credit to an account.
@@ -190,7 +188,7 @@ fn recharge<S: Shared, R: Wait, G: Gate>(
     };
     Ok(Answer {
         number,
-        ops: ArrayVec::new(),
+        instructions: Instructions::Nothing,
         stray: false,
         refused,
     })

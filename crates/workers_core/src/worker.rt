@@ -10,7 +10,7 @@ ghost use Rattle.workers_core.specs.Verdicts.{Recharges, Rejects, strays, verdic
 ghost use Rattle.workers_core.specs.Workers.{IsReady, accounts_of, holding, number_by, number_of, seats_of, setup_of, talks_of, standings_in};
 ghost use Rattle.workers_core.specs.Calls.{AreCalled};
 ghost use Rattle.workers_core.specs.Cases.{IsCase};
-ghost use Rattle.cap_values.specs.Orders.{Release, orders_of};
+ghost use Rattle.cap_values.specs.Orders.{Release, orders_in};
 ghost use Rattle.dialogue_core.specs.Rules.{on_message};
 ghost use Rattle.dialogue_core.specs.Views.{phase_of};
 ghost use Rattle.run_values.specs.Setups.{place_of};
@@ -108,7 +108,7 @@ impl<'s, S: Shared> Worker<'s, S> {
             → map S.reads.mine (seats_of self.new) ≡ map S.reads.mine (seats_of self.old)) }
         ensures rejected { IfOk result
             (λ answer. verdict (setup_of self.old) (talks_of self.old) post ≡ Rejects
-            → (orders_of answer.ops.items ≡ Release 21 ∷ []) × (map S.reads.mine (seats_of self.new)
+            → (orders_in answer.instructions ≡ Release 21 ∷ []) × (map S.reads.mine (seats_of self.new)
             ≡ map S.reads.mine (seats_of self.old))) }
         ensures recharged { IfOk result (λ answer. (place amount : ℕ) (until : Option ℕ)
             → verdict (setup_of self.old) (talks_of self.old) post

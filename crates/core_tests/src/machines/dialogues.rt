@@ -4,8 +4,7 @@ use crate::looking::gives;
 use crate::making::{arms, charge, number};
 use crate::plans::CHEAPER;
 use account_core::{AccountFault, Op, Reply};
-use arrayvec::ArrayVec;
-use cap_values::{Cause, Event, Leg, Mode, ScfOp, SsfMsg};
+use cap_values::{Cause, Event, Instructions, Leg, Mode, SsfMsg};
 use dialogue_core::{Dialogue, DialogueFault, ServiceConfig, Turn};
 use price_core::{Route, TimeInfo};
 use std::process::Abort;
@@ -306,35 +305,32 @@ fn report(active: bool) -> SsfMsg {
     }
 }
 
-/// The turn that sends these operations.
-fn sends(rt: &impl Abort, operations: &[ScfOp]) -> Turn {
-    let mut sent = ArrayVec::new();
-    sent.try_extend_from_slice(operations).expect(rt, "room");
-    Turn::Send(sent)
-}
-
 /// The turn that is wanted, where the last report was of this moment.
 fn wanted(rt: &impl Abort, want: &Want, reported: u64) -> Result<Turn, DialogueFault> {
     Ok(match *want {
         Want::Reserve => Turn::Ask(reserve(reported)),
         Want::Settle => Turn::Ask(SETTLE),
         Want::Return => Turn::Ask(Op::Return { call: 1 }),
-        Want::Nothing => sends(rt, &[]),
-        Want::Continue => sends(rt, &[ScfOp::Continue]),
-        Want::Release(cause) => sends(rt, &[release(rt, cause)]),
-        Want::Charge(period) => sends(rt, &[charge(rt, period, None, true)]),
+        Want::Nothing => Turn::Send(Instructions::Nothing),
+        Want::Continue => Turn::Send(Instructions::GoOn),
+        Want::Release(cause) => released(rt, cause),
+        Want::Charge(period) => {
+            let charge = charge(rt, period, None, true);
+            Turn::Send(Instructions::FurtherPeriod(charge))
+        }
         Want::Start(period, last) => {
-            let watch = arms(rt, Mode::NotifyAndContinue);
+            let arms = arms(rt, Mode::NotifyAndContinue);
             let charge = charge(rt, period, Some(60), last);
-            sends(rt, &[watch, charge, ScfOp::Continue])
+            Turn::Send(Instructions::FirstPeriod(arms, charge))
         }
         Want::Done => Turn::Done,
         Want::Fault(fault) => return Err(fault),
     })
 }
 
-fn release(rt: &impl Abort, cause: u8) -> ScfOp {
-    ScfOp::ReleaseCall(Cause::new(cause).expect(rt, "a cause"))
+/// The turn that clears the call with this cause.
+fn released(rt: &impl Abort, cause: u8) -> Turn {
+    Turn::Send(Instructions::Release(Cause::new(cause).expect(rt, "a cause")))
 }
 
 /// Hands a dialogue an input at a moment.
@@ -380,6 +376,6 @@ fn dialogues_play_every_row(rt: HostRuntime) {
         plays(&rt, name, rows);
     }
     let (_, turn) = Dialogue::begin(1, 0, None, &CONFIG);
-    let released = sends(&rt, &[release(&rt, UNALLOCATED_NUMBER)]);
+    let released = released(&rt, UNALLOCATED_NUMBER);
     gives(&rt, &"with no route", &turn, &released);
 }

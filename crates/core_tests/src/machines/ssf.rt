@@ -58,8 +58,8 @@ fn monitored(rt: &impl Abort, at: Moment, switch: Option<u32>, busy: Mode) -> Ss
     requires { at ≤ HORIZON }
 {
     let mut ssf = triggered(rt, DefaultHandling::Release);
-    let watched = ssf.operation(at, arms(rt, busy));
-    let charged = ssf.operation(at, charge(rt, 600, switch, false));
+    let watched = ssf.operation(at, ScfOp::RequestReport(arms(rt, busy)));
+    let charged = ssf.operation(at, ScfOp::ApplyCharging(charge(rt, 600, switch, false)));
     let step = ssf.operation(at, ScfOp::Continue);
     let proceed = Out {
         at,
@@ -105,7 +105,10 @@ fn handed(rt: &impl Abort, ssf: &mut Ssf, now: Moment, input: &Input) -> Step
     requires { now ≤ HORIZON }
 {
     match *input {
-        Input::Charge(period) => ssf.operation(now, charge(rt, period, None, false)),
+        Input::Charge(period) => {
+            let charge = charge(rt, period, None, false);
+            ssf.operation(now, ScfOp::ApplyCharging(charge))
+        }
         Input::Continue => ssf.operation(now, ScfOp::Continue),
         Input::Reject => ssf.operation(now, ScfOp::ReleaseCall(Cause::call_rejected())),
         Input::Event(event) => ssf.event(now, event),

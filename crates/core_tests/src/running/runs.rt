@@ -8,7 +8,7 @@ use super::shutting::{ALWAYS, Holding, Shutting};
 use crate::looking::gives;
 use crate::making::number;
 use account_core::{AccountFault, MIN_LIMIT};
-use arrayvec::ArrayVec;
+use cap_values::Instructions;
 use locked_account::SharedAccount;
 use run_values::{Answer, Body, OpeningCredit, RunFault, RunSetup};
 use runs_core::{refusals, serve_over};
@@ -197,7 +197,7 @@ fn posts_are_served_within_limits_and_past_gates(rt: HostRuntime) {
 fn answer(number: u64, refused: Option<AccountFault>) -> Answer {
     Answer {
         number,
-        ops: ArrayVec::new(),
+        instructions: Instructions::Nothing,
         stray: false,
         refused,
     }

@@ -20,6 +20,5 @@ returns-in-Ok-clause-rests g c = λ call now meter after queued rest sends.
 
 pub returns-in-Err-clause-rests : goal.returns-in-Err-clause-rests
 returns-in-Err-clause-rests g c = λ call now meter after queued rest sends.
-    rw c.new.ensures
-    (unheard call c.args.counts.now.messages c.args.at now meter after queued (g.P.Port.state c.args.port.now call) (phase_of c.args.dialogue.now) (phase_of c.take.new.self) c.args.message
-    c.in-Err.field-0 c.in-Err.ensures.fault (ap phase_of c.in-Err.ensures.unchanged) rest sends)
+    unheard call c.args.counts.now.messages c.args.at now meter after queued (g.P.Port.state c.args.port.now call) (phase_of c.args.dialogue.now) (phase_of c.take.new.self) c.args.message
+    c.in-Err.field-0 c.in-Err.ensures.fault (ap phase_of c.in-Err.ensures.unchanged) rest sends

@@ -1,4 +1,5 @@
 use Rattle.std.proofs.Common.{◌++◌}
+use Rattle.cap_values.specs.Orders.{operations_in}
 use Rattle.dialogue_core.specs.Views.{phase_of}
 use Rattle.one_call.specs.Deliveries.{queued_in}
 use Rattle.one_call.proofs.Hearing.{sent_rests}
@@ -6,14 +7,14 @@ use Rattle.one_call.proofs.hear.hear_one.Goals as goal
 
 pub returns-in_ok-send-in-Msg-clause-kept : goal.returns-in_ok-send-in-Msg-clause-kept
 returns-in_ok-send-in-Msg-clause-kept g c = λ call now meter after handed rest sends.
-    c.hear-ops.ensures.kept call now meter after (handed ++ queued_in c.args.deliveries.now.items) rest (rw c.in-Msg.is at sends)
+    c.hear-instructions.ensures.kept call now meter after (handed ++ queued_in c.args.deliveries.now.items) rest (rw c.in-Msg.is at sends)
 
 pub returns-in_err-send-in-Msg-clause-kept : goal.returns-in_err-send-in-Msg-clause-kept
 returns-in_err-send-in-Msg-clause-kept g c = λ call now meter after handed rest sends.
-    c.hear-ops.ensures.kept call now meter after (handed ++ queued_in c.args.deliveries.now.items) rest (rw c.in-Msg.is at sends)
+    c.hear-instructions.ensures.kept call now meter after (handed ++ queued_in c.args.deliveries.now.items) rest (rw c.in-Msg.is at sends)
 
 pub returns-in_ok-send-in-Msg-clause-rests : goal.returns-in_ok-send-in-Msg-clause-rests
 returns-in_ok-send-in-Msg-clause-rests g c = λ call now meter after handed rest sends.
-    sent_rests call c.args.due c.args.to after handed c.args.deliveries.now.items c.send.new.deliveries.items c.hear-ops.result.items (g.P.Port.state c.hear-ops.new.port call)
-    (phase_of c.hear-ops.new.dialogue) (rw c.as_slice.ensures.value at c.in_ok-send-in-Msg.ensures.sent)
-    (c.hear-ops.ensures.rests call now meter after (handed ++ queued_in c.args.deliveries.now.items) rest (rw c.in-Msg.is at sends))
+    sent_rests call c.args.due c.args.to after handed c.args.deliveries.now.items c.send.new.deliveries.items (operations_in c.hear-instructions.result) (g.P.Port.state c.hear-instructions.new.port call)
+    (phase_of c.hear-instructions.new.dialogue) c.in_ok-send-in-Msg.ensures.sent
+    (c.hear-instructions.ensures.rests call now meter after (handed ++ queued_in c.args.deliveries.now.items) rest (rw c.in-Msg.is at sends))

@@ -1,4 +1,5 @@
 use Rattle.std.proofs.Common.{[], ap, ◌∙◌, ◌+◌}
+use Rattle.cap_values.specs.Orders.{operations_in}
 use Rattle.dialogue_core.specs.Views.{phase_of, says_of}
 use Rattle.one_call.specs.declared.counts.Counts.{Counts}
 use Rattle.one_call.proofs.Counting.{input_counts}
@@ -12,12 +13,12 @@ inputs-init g c = λ new.
     let ready = begun_ready c.args.call.0 c.args.start c.args.service.now.wanted c.args.service.now.least c.args.route meter (g.P.Port.state c.args.port.now c.args.call.0)
     (phase_of c.begin-turn.result.0) (says_of c.begin-turn.result.1) c.begin-turn.ensures new unpaid in
     record {
-      none = c.converse-ops.ensures.kept c.args.call.0 meter [] ready ∙ c.started-ssf.ensures.none;
+      none = c.converse-instructions.ensures.kept c.args.call.0 meter [] ready ∙ c.started-ssf.ensures.none;
       meter = meter;
       shows = shows;
-      rests = first_rests c.args.call.0 (c.args.start + c.from-delay.result) c.args.call.0 meter c.new-deliveries.result.items c.send.new.deliveries.items c.converse-ops.result.items
-          (g.P.Port.state c.converse-ops.new.port c.args.call.0) (phase_of c.converse-ops.new.dialogue) c.new-deliveries.ensures.items (rw c.as_slice.ensures.value at c.in_ok-send.ensures.sent)
-          (c.converse-ops.ensures.rests c.args.call.0 meter [] ready);
+      rests = first_rests c.args.call.0 (c.args.start + c.from-delay.result) c.args.call.0 meter c.new-deliveries.result.items c.send.new.deliveries.items (operations_in c.converse-instructions.result)
+          (g.P.Port.state c.converse-instructions.new.port c.args.call.0) (phase_of c.converse-instructions.new.dialogue) c.new-deliveries.ensures.items c.in_ok-send.ensures.sent
+          (c.converse-instructions.ensures.rests c.args.call.0 meter [] ready);
     }
 
 pub inputs-preserved : goal.inputs-preserved

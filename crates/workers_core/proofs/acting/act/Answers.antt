@@ -1,7 +1,7 @@
 use Rattle.std.proofs.Common.{◌<◌, ◌∙◌, [], length, refl, map, ap, sym}
 use Rattle.std.proofs.lemmas.Result.{IfOk-weaker}
 use Rattle.account_core.specs.Asked.{Credits}
-use Rattle.cap_values.specs.Orders.{orders_of}
+use Rattle.cap_values.specs.Orders.{orders_in}
 use Rattle.dialogue_core.specs.Phases.{Asks}
 use Rattle.dialogue_core.specs.Views.{phase_of, says_of}
 use Rattle.dialogue_core.specs.Talks.{is_ask, orders_sent_by}
@@ -73,7 +73,7 @@ returns-in-Ok-clause-acted g c =
     let so =
     talked_by (IsRefusedAt (g.S.Shared.was c.converse.new.way)) (map g.S.Shared.reads.number c.args.seats.now.items) c.in-Talk.call c.in-Talk.talk.place (g.S.Shared.reads.number c.index_mut-in-Talk.result.now)
     (says_of c.in-Talk.turn, phase_of c.in-Talk.talk.dialogue) (phase_of c.converse.new.dialogue) _ _ (standings_in c.args.talks.now) (standings_in c.keep.new.talks)
-    (g.S.Shared.reads.mine c.index_mut-in-Talk.result.now) (g.S.Shared.reads.mine c.converse.new.way) (orders_of c.in-Ok.ops.items) c.converse.new.asker.refused _
+    (g.S.Shared.reads.mine c.index_mut-in-Talk.result.now) (g.S.Shared.reads.mine c.converse.new.way) (orders_in c.in-Ok.instructions) c.converse.new.asker.refused _
     (so_ended _ _ _ _ _ talk.last _ _ _ (spoken_out _ _ g.S.Shared.reads g.S.Shared.was g.S.Shared.calls _ _ _ _ _ talk refl).so_far talk.rests talk.sends)
     (numbered_at g.S.Shared.reads.number c.args.seats.now.items c.in-Talk.talk.place c.index_mut-in-Talk.result.now there c.index_mut-in-Talk.ensures.value)
     (mine_at g.S.Shared.reads.mine c.args.seats.now.items c.in-Talk.talk.place c.index_mut-in-Talk.result.now there c.index_mut-in-Talk.ensures.value)
