@@ -1,6 +1,7 @@
 pub mod CallLemmas
 pub mod CheckLemmas
 pub mod LineLemmas
+pub mod ReplayLemmas
 pub mod SumLines
 pub mod TextLemmas
 pub mod AboveLemmas

@@ -1,3 +1,5 @@
+pub mod AskingOf
+pub mod Asks
 pub mod Audits
 pub mod BookRows
 pub mod BookTexts
@@ -7,6 +9,8 @@ pub mod Column
 pub mod Columns
 pub mod Fits
 pub mod Operations
+pub mod ReplayLines
+pub mod Replays
 pub mod Replies
 pub mod Responses
 pub mod RunTexts

@@ -1,8 +1,8 @@
 //! The texts of books: the lines of the accounts and calls that a run ends with, the table of all
-//! entries, and the audit of such a table.
+//! entries, the audit of such a table, and the answers to a table of operations.
 //!
 //! What an account is asked and what it replies is written and read here, in words and in the
-//! columns of the table, side by side: `replay` reads its operations by the same functions.
+//! columns of both tables, side by side.
 #![tactic(auto)]
 
 mod account_checks;
@@ -13,6 +13,7 @@ mod lines;
 mod offsets;
 mod operation;
 mod ranges;
+mod replaying;
 mod reply;
 mod response;
 mod seat;
@@ -24,10 +25,7 @@ mod wrong_row;
 
 pub use audit::{Audit, audit_books};
 pub use lines::{RunLines, run_lines};
-pub use operation::{is_op_blank, read_op};
-pub use response::write_response;
-pub use seat::read_seat;
+pub use replaying::replay;
 pub use size::{AuditAsk, BookSize, MAX_LONG_ROWS, MAX_ROWS};
 pub use table::book_table;
 pub use version::Version;
-pub use words::{OpWord, read_op_word};

@@ -32,7 +32,7 @@ use Rattle.table_commands.specs.Faults.{GivesAnswer, GivesOne, meaning_in, meani
 use Rattle.table_commands.specs.Input.{sized, sized_as}
 use Rattle.table_commands.specs.PriceLines.{price_lines}
 use Rattle.table_commands.specs.Printouts.{Printout, plain}
-use Rattle.table_commands.specs.Replays.{replayed}
+use Rattle.book_texts.specs.Replays.{replayed}
 use Rattle.table_commands.specs.Reports.{table_reports_of}
 use Rattle.table_commands.specs.Writers.{Written}
 use Rattle.table_commands.specs.declared.fault.Fault.{Fault}

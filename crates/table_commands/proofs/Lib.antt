@@ -2,7 +2,6 @@ pub mod InputLemmas
 pub mod LineLemmas
 pub mod QuoteLemmas
 pub mod RateLemmas
-pub mod ReplayLemmas
 pub mod ReportLemmas
 pub mod SaidLemmas
 pub mod WriteLemmas

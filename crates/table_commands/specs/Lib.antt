@@ -1,6 +1,4 @@
 pub mod Answers
-pub mod AskingOf
-pub mod Asks
 pub mod Explanations
 pub mod Faults
 pub mod Input
@@ -9,8 +7,6 @@ pub mod PriceLines
 pub mod Printouts
 pub mod Quotes
 pub mod Ratings
-pub mod ReplayLines
-pub mod Replays
 pub mod Reports
 pub mod Summaries
 pub mod Writers

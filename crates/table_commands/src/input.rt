@@ -13,9 +13,6 @@ use std::io::{Error, ErrorKind, Read};
 /// The most bytes that an input may have.
 pub const MAX_INPUT: u64 = 16_777_216;
 
-/// The most rows that a table of reports or of operations may have, its header not counted.
-pub(crate) const MAX_ROWS: u32 = 10_000;
-
 /// All the bytes of the input, or `TooLong` where they are more than `MAX_INPUT`.
 pub fn read_input<I: Read + Drop>(alloc: Global, input: I) -> Result<Vec<u8>, Fault>
     ensures read { IfSome (I.remaining input)

@@ -11,7 +11,6 @@ mod noting;
 mod price_lines;
 mod quoting;
 mod rating_rows;
-mod replaying;
 mod reports;
 
 pub use commands::{audit_input, price_input, quote_input, replay_input};

@@ -7,12 +7,14 @@ ghost use Rattle.table_core.specs.Faults.{GivesTable};
 ghost use Rattle.table_core.specs.Rows.{rows_of};
 ghost use Rattle.price_core.specs.RatesOf.{rates_of};
 
-use crate::input::MAX_ROWS;
 use csv::ByteRecord;
 use price_core::{DAY, Plan, Times, lawful};
 use std::alloc::Global;
 use std::io::Read;
 use table_core::{RowKind, Table, TableFault, number};
+
+/// The most rows of a table of reports, its header not counted.
+const MAX_ROWS: u32 = 10_000;
 
 /// The reports, each lawful after the one before it and the first after no time at all.
 pub fn read_reports<I: Read + Drop>(

@@ -8,8 +8,8 @@ use Rattle.account_core.specs.declared.entry.Reply.{Reply}
 use Rattle.account_core.specs.declared.fault.AccountFault.{AccountFault}
 use Rattle.table_core.specs.Judging.{and_then}
 use Rattle.table_core.specs.declared.fault.RowFault.{RowFault}
-use Rattle.table_commands.specs.Asks.{SeatAsk, asks_of}
-use Rattle.table_commands.specs.ReplayLines.{response_line}
+use Rattle.book_texts.specs.Asks.{SeatAsk, asks_of}
+use Rattle.book_texts.specs.ReplayLines.{response_line}
 
 -- the line of an operation: its refusal, or else its reply
 abbrev pub line_by : Option AccountFault → Reply → List ℕ

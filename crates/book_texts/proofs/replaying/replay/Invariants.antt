@@ -3,9 +3,9 @@ use Rattle.account_core.specs.Ledger.{Ledger}
 use Rattle.account_core.specs.Tellers.{IsTellerOf}
 use Rattle.table_core.specs.Reading.{room_of}
 use Rattle.table_core.proofs.TableLemmas.{IsRead}
-use Rattle.table_commands.specs.Asks.{SeatAsk, asks_form}
-use Rattle.table_commands.proofs.ReplayLemmas.{IsReplayed}
-use Rattle.table_commands.proofs.replaying.replay.Given as goal
+use Rattle.book_texts.specs.Asks.{SeatAsk, asks_form}
+use Rattle.book_texts.proofs.ReplayLemmas.{IsReplayed}
+use Rattle.book_texts.proofs.replaying.replay.Given as goal
 
 -- what was asked so far is replayed, and the teller stands for its ledger
 abbrev pub invariant-loop-text : goal.invariant-loop-text

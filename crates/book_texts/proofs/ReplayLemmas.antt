@@ -10,9 +10,9 @@ use Rattle.account_core.specs.declared.teller.Teller.{Teller}
 use Rattle.account_core.specs.declared.entry.Reply.{Reply}
 use Rattle.account_core.specs.declared.fault.AccountFault.{AccountFault}
 use Rattle.account_core.specs.declared.fault.AccountFault.TheVariants as fault
-use Rattle.table_commands.specs.Asks.{SeatAsk}
-use Rattle.table_commands.specs.ReplayLines.{response_line}
-use Rattle.table_commands.specs.Replays.{history_after, line_of_ask, replay_lines}
+use Rattle.book_texts.specs.Asks.{SeatAsk}
+use Rattle.book_texts.specs.ReplayLines.{response_line}
+use Rattle.book_texts.specs.Replays.{history_after, line_of_ask, replay_lines}
 
 -- ---- one more ask
 

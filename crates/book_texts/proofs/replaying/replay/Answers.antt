@@ -3,11 +3,11 @@ use Rattle.account_core.specs.Entries.{asked_of}
 use Rattle.table_core.specs.Rows.{rows_of}
 use Rattle.table_core.proofs.Known.{map_known}
 use Rattle.table_core.proofs.TableLemmas.{ended, not_opened, opened, refused, refuses, stopped, taken, fault_says}
-use Rattle.table_commands.specs.AskingOf.{asking_of}
-use Rattle.table_commands.specs.Asks.{asks_form, asks_of}
-use Rattle.table_commands.specs.Replays.{replayed_lines, replayed}
-use Rattle.table_commands.proofs.ReplayLemmas.{ledger_after, none_replayed, one_replayed, step, teller_after}
-use Rattle.table_commands.proofs.replaying.replay.Goals as goal
+use Rattle.book_texts.specs.AskingOf.{asking_of}
+use Rattle.book_texts.specs.Asks.{asks_form, asks_of}
+use Rattle.book_texts.specs.Replays.{replayed_lines, replayed}
+use Rattle.book_texts.proofs.ReplayLemmas.{ledger_after, none_replayed, one_replayed, step, teller_after}
+use Rattle.book_texts.proofs.replaying.replay.Goals as goal
 
 pub returns-in_err-table : goal.returns-in_err-table
 returns-in_err-table g c =

@@ -2,23 +2,29 @@
 
 ghost use Rattle.std.specs.Prelude.{◌≡◌, ◌≢◌, ◌++◌, ◌≤◌, Err, IfErr, IfSome, OnOk, string_bytes};
 ghost use Rattle.std.specs.Result.{result_map_both};
-ghost use Rattle.table_commands.specs.ReplayLines.{response_line};
-ghost use Rattle.table_commands.specs.Replays.{replayed};
-ghost use Rattle.table_commands.specs.Asks.{seat_ask_in};
-ghost use Rattle.table_commands.specs.AskingOf.{asking_of};
+ghost use Rattle.book_texts.specs.ReplayLines.{response_line};
+ghost use Rattle.book_texts.specs.Replays.{replayed};
+ghost use Rattle.book_texts.specs.Asks.{seat_ask_in};
+ghost use Rattle.book_texts.specs.AskingOf.{asking_of};
 ghost use Rattle.table_core.specs.Faults.{GivesTable};
 ghost use Rattle.table_core.specs.Rows.{rows_of};
 ghost use Rattle.csv.specs.Records.{fields_of};
 ghost use Rattle.table_core.specs.declared.fault.TableFault.TheVariants as out;
 
-use crate::input::MAX_ROWS;
+use crate::Version;
+use crate::operation::{is_op_blank, read_op};
+use crate::response::write_response;
+use crate::seat::read_seat;
+use crate::words::read_op_word;
 use account_core::{AccountFault, Op, Reply, Teller};
-use book_texts::{Version, is_op_blank, read_op, read_op_word, read_seat, write_response};
 use csv::ByteRecord;
 use price_core::MAX_MONEY;
 use std::alloc::Global;
 use std::io::Read;
 use table_core::{RowKind, Table, TableFault};
+
+/// The most rows of a table of operations, its header not counted.
+const MAX_OPERATIONS: u32 = 10_000;
 
 /// Where the seat is in a row.
 const SEAT: usize = 0;
@@ -48,7 +54,7 @@ pub fn replay<I: Read + Drop>(
             "seat", "op", "call", "x1", "x2", "x3", "x4", "x5", "x6", "x7", "x8", "x9",
         ],
     ];
-    let mut table = Table::open(alloc, reader, headers, MAX_ROWS)?;
+    let mut table = Table::open(alloc, reader, headers, MAX_OPERATIONS)?;
     let mut teller = Teller::new(alloc, opening, None, limit);
     let mut text = String::new(alloc);
     while table.next_row()? {

@@ -1,7 +1,7 @@
 -- What an ask of the code says.
 use Rattle.account_core.specs.Entries.{asked_of}
-use Rattle.table_commands.specs.Asks.{SeatAsk}
-use Rattle.table_commands.specs.declared.replaying.Ask.{Ask}
+use Rattle.book_texts.specs.Asks.{SeatAsk}
+use Rattle.book_texts.specs.declared.replaying.Ask.{Ask}
 
 -- the seat and what it asks
 abbrev pub asking_of : Ask → SeatAsk
