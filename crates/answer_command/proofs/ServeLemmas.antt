@@ -7,7 +7,7 @@ use Rattle.std.specs.Prelude.{IfErr, IsErrAnd, IsSome}
 use Rattle.std.specs.Io.KnownBytes.{Appends}
 use Rattle.std.proofs.Math.Seq.{take-append-add}
 use Rattle.live_answers.proofs.Growing.{grow_twice}
-use Rattle.call_records.specs.Records.{Run}
+use Rattle.run_outputs.specs.Records.{Run}
 use Rattle.live_answers.specs.Live.{heard_in, replayed_text}
 use Rattle.live_answers.specs.Runs.{AnswersLines, IsLiveRunTo, PrintsText}
 use Rattle.live_answers.specs.declared.replay.Replay.{Replay}

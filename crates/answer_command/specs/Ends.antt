@@ -2,8 +2,8 @@
 use Rattle.std.specs.Prelude.{◌≡◌, ◌++◌, ℕ, Bool, true, false, List, [], Option, Some, None, ⊤, codes}
 use Rattle.book_texts.specs.BookTexts.{book_text, version_of}
 use Rattle.book_texts.specs.RunTexts.{IsRunText}
-use Rattle.call_records.specs.Records.{Run}
-use Rattle.call_records.specs.Tables.{IsCallText}
+use Rattle.run_outputs.specs.Records.{Run}
+use Rattle.run_outputs.specs.Tables.{IsCallText}
 use Rattle.live_answers.specs.declared.stage.LiveFault.{LiveFault}
 use Rattle.live_answers.specs.declared.stage.LiveFault.TheVariants as fault
 use Rattle.moment_texts.specs.declared.clock.Clock.TheVariants as clock

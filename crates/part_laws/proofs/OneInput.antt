@@ -7,8 +7,8 @@ use Rattle.std.specs.Map.{keys_of}
 use Rattle.std.specs.Ordering.{nat_cmp}
 use Rattle.std.proofs.lemmas.List.{get_or-map, length-map, map-id}
 use Rattle.book_texts.specs.RunTexts.{IsRunText}
-use Rattle.call_records.specs.Records.{AreRecords}
-use Rattle.call_records.specs.declared.call_record.CallRecord.{CallRecord}
+use Rattle.run_outputs.specs.Records.{AreRecords}
+use Rattle.run_outputs.specs.declared.call_record.CallRecord.{CallRecord}
 use Rattle.live_recovery.specs.Laws.{NoneIsRefused}
 use Rattle.part_laws.proofs.InOrder.{ComesInOrder, rise}
 use Rattle.part_laws.proofs.Joined.{all_by_account}

@@ -10,11 +10,11 @@ use Rattle.std.proofs.lemmas.Bool.Decides.{nat_tests}
 use Rattle.std.proofs.lemmas.Cmp.{nat_cmp_total}
 use Rattle.std.proofs.lemmas.List.Elements.{All-contains, All-head, All-tail}
 use Rattle.std.proofs.lemmas.Map.Lookups.{btree_set_from_contains, exact_unsigned}
-use Rattle.call_records.specs.Calls.{call_reports_of, start_of}
-use Rattle.call_records.specs.Records.{AreRecords, IsPrefixOf, IsRecord, Run, outcome_of, prefix_of}
-use Rattle.call_records.specs.Standings.{past_of, standing_of}
-use Rattle.call_records.specs.Tables.{record_row}
-use Rattle.call_records.specs.declared.call_record.CallRecord.{CallRecord}
+use Rattle.run_outputs.specs.Calls.{call_reports_of, start_of}
+use Rattle.run_outputs.specs.Records.{AreRecords, IsPrefixOf, IsRecord, Run, outcome_of, prefix_of}
+use Rattle.run_outputs.specs.Standings.{past_of, standing_of}
+use Rattle.run_outputs.specs.Tables.{record_row}
+use Rattle.run_outputs.specs.declared.call_record.CallRecord.{CallRecord}
 use Rattle.cap_values.specs.NumberDigits.{digits_of_number}
 use Rattle.cap_values.specs.declared.number.Number.{Number}
 use Rattle.moment_texts.specs.declared.clock.Clock.{Clock}

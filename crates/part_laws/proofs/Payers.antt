@@ -3,14 +3,14 @@ use Rattle.std.proofs.Common.{◌≡◌, ◌==◌, ◌∙◌, ℕ, Bool, true, f
 use Rattle.std.specs.Option.{option_map, option_or}
 use Rattle.std.proofs.lemmas.Bool.{eq-eqb}
 use Rattle.std.specs.Prelude.{if◌then◌else◌, slice_index_or}
-use Rattle.call_records.specs.Calls.{first_said, message_of_call, start_by}
+use Rattle.run_outputs.specs.Calls.{first_said, message_of_call, start_by}
 use Rattle.cap_values.specs.NumberDigits.{digits_of_number}
 use Rattle.cap_values.specs.declared.message.SsfMsg.TheVariants.{InitialDp, EventReport, ChargingReport, Ended}
 use Rattle.cap_values.specs.declared.number.Number.{Number}
 use Rattle.part_laws.specs.ScriptParts.{payer_in_rows}
 use Rattle.part_laws.specs.Parts.{ArePaidBy, IsPaidBy}
 use Rattle.run_laws.specs.Starts.{HasItsStart, HaveTheirStarts, begins_with}
-use Rattle.run_outputs.proofs.Accounts.{by_its_digits}
+use Rattle.run_outputs.proofs.ListedAccounts.{by_its_digits}
 use Rattle.run_outputs.specs.Parts.{account_of_digits, payer_by}
 use Rattle.run_texts.specs.Views.{happens_of, with_digits}
 use Rattle.run_texts.specs.declared.script.Happening.{Happening}

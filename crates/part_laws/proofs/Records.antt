@@ -12,10 +12,10 @@ use Rattle.account_core.specs.Asked.{Asked, Credits, Reserves, Settles, Returns,
 use Rattle.account_core.specs.Entries.{EntryData}
 use Rattle.account_core.specs.Known.{CallFacts, known, paid_if_granted}
 use Rattle.account_core.specs.declared.entry.Reply.{Reply}
-use Rattle.call_records.specs.Calls.{end_by, first_said, report_by, call_reports_of, start_by, start_of, message_of_call}
-use Rattle.call_records.specs.Records.{IsRecord, outcome_of}
-use Rattle.call_records.specs.Standings.{book_of, denies, denies_call, is_denied, is_denied_later, last_by, last_grant, past_in, past_of, standing_of}
-use Rattle.call_records.specs.declared.call_record.CallRecord.{CallRecord}
+use Rattle.run_outputs.specs.Calls.{end_by, first_said, report_by, call_reports_of, start_by, start_of, message_of_call}
+use Rattle.run_outputs.specs.Records.{IsRecord, outcome_of}
+use Rattle.run_outputs.specs.Standings.{book_of, denies, denies_call, is_denied, is_denied_later, last_by, last_grant, past_in, past_of, standing_of}
+use Rattle.run_outputs.specs.declared.call_record.CallRecord.{CallRecord}
 use Rattle.cap_values.specs.declared.event.Event.TheVariants as event
 use Rattle.cap_values.specs.declared.message.SsfMsg.{SsfMsg}
 use Rattle.cap_values.specs.declared.message.SsfMsg.TheVariants.{InitialDp, EventReport, ChargingReport, Ended}

@@ -2,8 +2,8 @@
 use Rattle.std.proofs.Common.{◌≡◌, ◌==◌, ◌<◌, ◌+◌, ◌∙◌, ℕ, Bool, true, false, Option, List, [], ◌∷◌, length, map, refl, sym, ap, subst, arith}
 use Rattle.std.specs.Prelude.{if◌then◌else◌, slice_index_or}
 use Rattle.std.specs.List.{filter, flat_map}
-use Rattle.call_records.specs.Records.{AreRecords}
-use Rattle.call_records.specs.declared.call_record.CallRecord.{CallRecord}
+use Rattle.run_outputs.specs.Records.{AreRecords}
+use Rattle.run_outputs.specs.declared.call_record.CallRecord.{CallRecord}
 use Rattle.part_laws.proofs.Apart.{accounts_apart}
 use Rattle.part_laws.proofs.InOrder.{rise}
 use Rattle.part_laws.proofs.Joined.{all_by_account, parts_joined}

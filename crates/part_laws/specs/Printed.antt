@@ -2,8 +2,8 @@
 use Rattle.std.specs.Prelude.{◌≡◌, ℕ, List, map}
 use Rattle.std.specs.List.{filter}
 use Rattle.book_texts.specs.RunTexts.{IsRunText}
-use Rattle.call_records.specs.Records.{AreRecords, Run}
-use Rattle.call_records.specs.declared.call_record.CallRecord.{CallRecord}
+use Rattle.run_outputs.specs.Records.{AreRecords, Run}
+use Rattle.run_outputs.specs.declared.call_record.CallRecord.{CallRecord}
 use Rattle.part_laws.specs.Chosen.{AreByAccount, Choice, HasBooksOf, chosen}
 use Rattle.part_laws.specs.Numbers.{unnumbered_book}
 use Rattle.run_values.specs.Setups.{Setup}

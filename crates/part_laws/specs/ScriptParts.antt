@@ -4,9 +4,9 @@ use Rattle.std.specs.List.{flat_map}
 use Rattle.std.specs.List.Sorted.{IsStrictlySortedBy}
 use Rattle.std.specs.Map.{keys_of}
 use Rattle.std.specs.Ordering.{nat_cmp}
-use Rattle.call_records.specs.Records.{AreRecords}
-use Rattle.call_records.specs.Tables.{IsCallText}
-use Rattle.call_records.specs.declared.call_record.CallRecord.{CallRecord}
+use Rattle.run_outputs.specs.Records.{AreRecords}
+use Rattle.run_outputs.specs.Tables.{IsCallText}
+use Rattle.run_outputs.specs.declared.call_record.CallRecord.{CallRecord}
 use Rattle.live_recovery.specs.Laws.{NoneIsRefused}
 use Rattle.moment_texts.specs.declared.clock.Clock.{Clock}
 use Rattle.part_laws.specs.Parts.{AreAsOfOneRun}

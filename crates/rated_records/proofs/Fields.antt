@@ -10,11 +10,11 @@ use Rattle.std.proofs.lemmas.Bool.Decides.{nat_tests}
 use Rattle.std.proofs.lemmas.Fmt.{length-decimal-le}
 use Rattle.std.proofs.lemmas.List.Elements.{All-from_recursion, All-head, All-tail}
 use Rattle.std.proofs.lemmas.List.Folds.{list_all-append, list_any-append}
-use Rattle.call_records.specs.Records.{IsPrefixOf, prefix_of}
-use Rattle.call_records.specs.Tables.{outcome_word}
-use Rattle.call_records.specs.declared.call_record.CallRecord.{CallRecord}
-use Rattle.call_records.specs.declared.outcome.Outcome.{Outcome}
-use Rattle.call_records.specs.declared.outcome.Outcome.TheVariants as outcome
+use Rattle.run_outputs.specs.Records.{IsPrefixOf, prefix_of}
+use Rattle.run_outputs.specs.Tables.{outcome_word}
+use Rattle.run_outputs.specs.declared.call_record.CallRecord.{CallRecord}
+use Rattle.run_outputs.specs.declared.outcome.Outcome.{Outcome}
+use Rattle.run_outputs.specs.declared.outcome.Outcome.TheVariants as outcome
 use Rattle.cap_values.specs.NumberDigits.{digits_of_number}
 use Rattle.cap_values.specs.declared.number.Number.{Number}
 use Rattle.csv.specs.Writing.{comma, default_writer, field_text, needs_byte}

@@ -7,9 +7,9 @@ use Rattle.std.specs.List.{AllZip, flat_map}
 use Rattle.std.proofs.lemmas.Bool.Decides.{nat_tests}
 use Rattle.std.proofs.lemmas.Fmt.{decimal_nonempty}
 use Rattle.std.proofs.lemmas.List.Elements.{All-cons, All-from_recursion, All-head, All-nil, All-tail}
-use Rattle.call_records.specs.Records.{IsPrefixOf, IsRecord, Run, prefix_of}
-use Rattle.call_records.specs.Tables.{IsCallText, call_text, record_row}
-use Rattle.call_records.specs.declared.call_record.CallRecord.{CallRecord}
+use Rattle.run_outputs.specs.Records.{IsPrefixOf, IsRecord, Run, prefix_of}
+use Rattle.run_outputs.specs.Tables.{IsCallText, call_text, record_row}
+use Rattle.run_outputs.specs.declared.call_record.CallRecord.{CallRecord}
 use Rattle.cap_values.specs.NumberDigits.{digits_of_number}
 use Rattle.cap_values.specs.Numbers.{is_number}
 use Rattle.cap_values.specs.declared.number.Number.{Number}

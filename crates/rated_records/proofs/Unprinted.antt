@@ -5,9 +5,9 @@ use Rattle.std.specs.List.{AllZip, flat_map}
 use Rattle.std.specs.Option.{option_map}
 use Rattle.std.proofs.lemmas.Bool.{eq-eqb}
 use Rattle.std.proofs.lemmas.List.Elements.{All-cons, All-head, All-nil, All-tail}
-use Rattle.call_records.specs.Records.{prefix_of}
-use Rattle.call_records.specs.declared.call_record.CallRecord.{CallRecord}
-use Rattle.call_records.specs.declared.outcome.Outcome.TheVariants as outcome
+use Rattle.run_outputs.specs.Records.{prefix_of}
+use Rattle.run_outputs.specs.declared.call_record.CallRecord.{CallRecord}
+use Rattle.run_outputs.specs.declared.outcome.Outcome.TheVariants as outcome
 use Rattle.moment_texts.specs.declared.clock.Clock.{Clock}
 use Rattle.rated_records.specs.Laws.{paid_rightly}
 use Rattle.rated_records.specs.Tables.{IsRowOf, NoRowIsPrinted, header_fields}

@@ -1,8 +1,8 @@
 -- What `rate` says of the records of a run's calls.
 use Rattle.std.specs.Prelude.{◌≡◌, ◌≢◌, ℕ, List, Option, Some, None, Result, Ok, MatchResult}
-use Rattle.call_records.specs.Records.{IsRecord, Run, prefix_of}
-use Rattle.call_records.specs.declared.call_record.CallRecord.{CallRecord}
-use Rattle.call_records.specs.declared.outcome.Outcome.TheVariants as outcome
+use Rattle.run_outputs.specs.Records.{IsRecord, Run, prefix_of}
+use Rattle.run_outputs.specs.declared.call_record.CallRecord.{CallRecord}
+use Rattle.run_outputs.specs.declared.outcome.Outcome.TheVariants as outcome
 use Rattle.cap_values.specs.NumberDigits.{digits_of_number}
 use Rattle.tariff_core.specs.Laws.{IsProper}
 use Rattle.rating.specs.Calls.{CallSaid, talk_split}

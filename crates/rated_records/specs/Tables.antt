@@ -2,10 +2,10 @@
 use Rattle.std.specs.Prelude.{◌≡◌, ◌≢◌, ◌<◌, ◌≤◌, ◌^◌, ℕ, Bool, true, List, [], ◌∷◌, codes, All, None, Ok, IfSome, is_some, unwrap_or}
 use Rattle.std.specs.Fmt.{decimal}
 use Rattle.std.specs.List.{AllZip}
-use Rattle.call_records.specs.Records.{Run, prefix_of}
-use Rattle.call_records.specs.Tables.{IsCallText, outcome_word}
-use Rattle.call_records.specs.declared.call_record.CallRecord.{CallRecord}
-use Rattle.call_records.specs.declared.outcome.Outcome.TheVariants as outcome
+use Rattle.run_outputs.specs.Records.{Run, prefix_of}
+use Rattle.run_outputs.specs.Tables.{IsCallText, outcome_word}
+use Rattle.run_outputs.specs.declared.call_record.CallRecord.{CallRecord}
+use Rattle.run_outputs.specs.declared.outcome.Outcome.TheVariants as outcome
 use Rattle.cap_values.specs.NumberDigits.{digits_of_number}
 use Rattle.moment_texts.specs.Printing.{moment_or_empty, moment_text}
 use Rattle.moment_texts.specs.declared.clock.Clock.{Clock}

@@ -1,7 +1,7 @@
 -- What a listener has heard and kept over the rounds of a run.
 use Rattle.std.proofs.Common.{◌≡◌, ℕ, true, false, List, [], ◌∷◌, ◌++◌, refl, sym, ◌∙◌, ap, append_assoc}
 use Rattle.std.proofs.lemmas.List.{append-nil}
-use Rattle.call_records.specs.Records.{Run}
+use Rattle.run_outputs.specs.Records.{Run}
 use Rattle.run_command.proofs.PlayLemmas.{Rounds}
 use Rattle.run_outputs.specs.Texts.{IsTextOf}
 use Rattle.run_command.specs.Listening.{Listens}

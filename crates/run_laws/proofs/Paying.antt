@@ -1,6 +1,6 @@
 -- What the records of the calls of a played script have paid.
 use Rattle.std.proofs.Common.{ℕ, List, sym, subst}
-use Rattle.call_records.specs.Records.{Run}
+use Rattle.run_outputs.specs.Records.{Run}
 use Rattle.run_values.specs.Openings.{HasAccounts}
 use Rattle.run_laws.proofs.Starts.{played_starts, started_parties}
 use Rattle.run_laws.specs.Played.{PlayedCallsHavePaid}

@@ -9,9 +9,9 @@ use Rattle.account_core.specs.Entries.{EntryData}
 use Rattle.account_core.specs.Known.{CallFacts, known, paid_of, paid_under}
 use Rattle.account_core.specs.Sound.{IsSoundPast, IsSoundUnder}
 use Rattle.account_core.specs.TariffLaws.{TariffLaws}
-use Rattle.call_records.specs.Records.{IsRecord, Run}
-use Rattle.call_records.specs.Standings.{past_in, past_of}
-use Rattle.call_records.specs.declared.call_record.CallRecord.{CallRecord}
+use Rattle.run_outputs.specs.Records.{IsRecord, Run}
+use Rattle.run_outputs.specs.Standings.{past_in, past_of}
+use Rattle.run_outputs.specs.declared.call_record.CallRecord.{CallRecord}
 use Rattle.run_laws.proofs.Openings.{opened_within}
 use Rattle.run_laws.proofs.Unrouted.{all_found}
 use Rattle.run_laws.specs.Records.{RecordIsInRange, IsServedRun, RecordsAreInRange}

@@ -4,8 +4,8 @@ use Rattle.std.specs.Prelude.{is_some, slice_index_or}
 use Rattle.std.proofs.lemmas.List.Elements.{All-contains, All-contains_itself}
 use Rattle.account_core.specs.Asked.{Asked, Credits, Reserves, Settles, Returns}
 use Rattle.account_core.specs.Entries.{EntryData}
-use Rattle.call_records.specs.Calls.{parties_of}
-use Rattle.call_records.specs.Records.{Run}
+use Rattle.run_outputs.specs.Calls.{parties_of}
+use Rattle.run_outputs.specs.Records.{Run}
 use Rattle.cap_values.specs.NumberDigits.{digits_of_number}
 use Rattle.cap_values.specs.declared.message.SsfMsg.TheVariants.{InitialDp}
 use Rattle.cap_values.specs.declared.number.Number.{Number}

@@ -6,12 +6,12 @@ use Rattle.std.proofs.lemmas.List.Elements.{All-contains}
 use Rattle.account_core.specs.Entries.{EntryData}
 use Rattle.account_core.specs.TariffLaws.{TariffLaws}
 use Rattle.account_core.specs.Known.{CallFacts, known, paid_if_granted}
-use Rattle.call_records.proofs.LawLemmas.{ungranted_pays_nothing}
-use Rattle.call_records.specs.Calls.{call_reports_of}
-use Rattle.call_records.specs.Records.{IsPrefixOf, IsRecord, Run, outcome_of}
-use Rattle.call_records.specs.Standings.{past_of, standing_of}
-use Rattle.call_records.specs.declared.call_record.CallRecord.{CallRecord}
-use Rattle.call_records.specs.declared.outcome.Outcome.TheVariants as outcome
+use Rattle.run_outputs.proofs.LawLemmas.{ungranted_pays_nothing}
+use Rattle.run_outputs.specs.Calls.{call_reports_of}
+use Rattle.run_outputs.specs.Records.{IsPrefixOf, IsRecord, Run, outcome_of}
+use Rattle.run_outputs.specs.Standings.{past_of, standing_of}
+use Rattle.run_outputs.specs.declared.call_record.CallRecord.{CallRecord}
+use Rattle.run_outputs.specs.declared.outcome.Outcome.TheVariants as outcome
 use Rattle.cap_values.specs.NumberDigits.{digits_of_number}
 use Rattle.cap_values.specs.declared.message.SsfMsg.TheVariants.{InitialDp}
 use Rattle.cap_values.specs.declared.number.Number.{Number}

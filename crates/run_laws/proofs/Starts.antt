@@ -4,7 +4,7 @@ use Rattle.std.specs.Prelude.{◌==◌, drop, if◌then◌else◌, slice_index_o
 use Rattle.std.specs.Option.{option_map, option_or}
 use Rattle.std.proofs.lemmas.Bool.{eq-eqb}
 use Rattle.std.proofs.lemmas.List.Elements.{All-append, All-cons, All-drop, All-head, All-nil, All-tail}
-use Rattle.call_records.specs.Calls.{first_said, start_by, start_of}
+use Rattle.run_outputs.specs.Calls.{first_said, start_by, start_of}
 use Rattle.cap_values.specs.declared.message.SsfMsg.{SsfMsg}
 use Rattle.cap_values.specs.declared.message.SsfMsg.TheVariants as message
 use Rattle.cap_values.specs.declared.number.Number.{Number}

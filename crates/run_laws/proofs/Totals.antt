@@ -13,10 +13,10 @@ use Rattle.account_core.proofs.Sums.{times_in}
 use Rattle.account_core.specs.Available.{calls}
 use Rattle.account_core.specs.Entries.{EntryData}
 use Rattle.account_core.specs.Known.{known, paid_if_granted}
-use Rattle.call_records.proofs.LawLemmas.{none_paid, parties_start, started_by}
-use Rattle.call_records.specs.Records.{AreRecords, IsRecord, Run}
-use Rattle.call_records.specs.Standings.{past_in, past_of}
-use Rattle.call_records.specs.declared.call_record.CallRecord.{CallRecord}
+use Rattle.run_outputs.proofs.LawLemmas.{none_paid, parties_start, started_by}
+use Rattle.run_outputs.specs.Records.{AreRecords, IsRecord, Run}
+use Rattle.run_outputs.specs.Standings.{past_in, past_of}
+use Rattle.run_outputs.specs.declared.call_record.CallRecord.{CallRecord}
 use Rattle.cap_values.specs.declared.number.Number.{Number}
 use Rattle.run_laws.proofs.Openings.{accounts_rise, book_of}
 use Rattle.run_laws.proofs.Grants.{IfReserves, granted_has}

@@ -6,9 +6,9 @@ use Rattle.std.proofs.lemmas.List.{reverse-append}
 use Rattle.std.proofs.lemmas.List.Elements.{All-append, All-cons, All-head, All-nil, All-same, All-tail}
 use Rattle.account_core.specs.Entries.{EntryData}
 use Rattle.account_core.specs.Known.{known}
-use Rattle.call_records.proofs.LawLemmas.{parties_start, ungranted_pays_nothing, unrouted_has_none}
-use Rattle.call_records.specs.Records.{Run}
-use Rattle.call_records.specs.Standings.{past_in, past_of}
+use Rattle.run_outputs.proofs.LawLemmas.{parties_start, ungranted_pays_nothing, unrouted_has_none}
+use Rattle.run_outputs.specs.Records.{Run}
+use Rattle.run_outputs.specs.Standings.{past_in, past_of}
 use Rattle.cap_values.specs.NumberDigits.{digits_of_number}
 use Rattle.cap_values.specs.declared.number.Number.{Number}
 use Rattle.run_laws.proofs.Grants.{IfReserves, granted_has}

@@ -1,7 +1,7 @@
 -- What holds of what `run` and `run_tables` answer.
 use Rattle.std.specs.Prelude.{◌≡◌, ◌<◌, ℕ, List, length, map, slice_index_or}
 use Rattle.std.specs.Map.{keys_of}
-use Rattle.call_records.specs.Records.{Run}
+use Rattle.run_outputs.specs.Records.{Run}
 use Rattle.run_command.specs.Answers.{IsRunOf}
 use Rattle.run_command.specs.InParts.{IsPartOf, IsRunInParts}
 use Rattle.run_command.specs.Tables.{AreTablesOf}

@@ -5,9 +5,9 @@ use Rattle.book_texts.specs.Sizes.{most_rows}
 use Rattle.book_texts.specs.Typed.{IsTyped}
 use Rattle.book_texts.specs.declared.size.BookSize.TheVariants as size
 use Rattle.run_laws.specs.Books.{PassTheAudit}
-use Rattle.call_records.specs.Records.{AreRecords, IsRecord, Run}
-use Rattle.call_records.specs.declared.call_record.CallRecord.{CallRecord}
-use Rattle.call_records.specs.declared.outcome.Outcome.TheVariants as outcome
+use Rattle.run_outputs.specs.Records.{AreRecords, IsRecord, Run}
+use Rattle.run_outputs.specs.declared.call_record.CallRecord.{CallRecord}
+use Rattle.run_outputs.specs.declared.outcome.Outcome.TheVariants as outcome
 use Rattle.run_command.specs.Books.{AreBooksOf}
 use Rattle.run_command.specs.Plays.{IsGivenBy}
 use Rattle.run_command.specs.Starts.{InputIsInRange}

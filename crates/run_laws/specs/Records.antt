@@ -2,9 +2,9 @@
 use Rattle.std.specs.Prelude.{◌≡◌, ◌≢◌, ◌⊎◌, ◌+◌, ◌≤◌, ℕ, true, List, reverse, sum_by, unwrap_or}
 use Rattle.account_core.specs.Available.{calls}
 use Rattle.account_core.specs.Known.{known, paid_if_granted}
-use Rattle.call_records.specs.Records.{AreRecords, IsRecord, Run}
-use Rattle.call_records.specs.declared.call_record.CallRecord.{CallRecord}
-use Rattle.call_records.specs.declared.outcome.Outcome.TheVariants as outcome
+use Rattle.run_outputs.specs.Records.{AreRecords, IsRecord, Run}
+use Rattle.run_outputs.specs.declared.call_record.CallRecord.{CallRecord}
+use Rattle.run_outputs.specs.declared.outcome.Outcome.TheVariants as outcome
 use Rattle.cap_values.specs.NumberDigits.{digits_of_number}
 use Rattle.run_values.specs.Openings.{HasAccounts}
 use Rattle.run_laws.specs.Starts.{HaveTheirParties, HaveTheirStarts}

@@ -1,7 +1,7 @@
 -- The starts of a run's calls.
 use Rattle.std.specs.Prelude.{◌≡◌, ℕ, Option, Some, List, All}
 use Rattle.std.specs.Option.{option_map}
-use Rattle.call_records.specs.Calls.{parties_of, start_of}
+use Rattle.run_outputs.specs.Calls.{parties_of, start_of}
 use Rattle.cap_values.specs.declared.message.SsfMsg.{SsfMsg}
 use Rattle.cap_values.specs.declared.message.SsfMsg.TheVariants.{InitialDp, EventReport, ChargingReport, Ended}
 use Rattle.cap_values.specs.declared.number.Number.{Number}

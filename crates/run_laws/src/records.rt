@@ -10,7 +10,7 @@ use shared_account::Shared;
 /// A call to a number without a route has paid nothing.
 ///
 /// What it takes is in clauses: `IsRun` in that of `runs_core::serve`, `HasAccounts` in those
-/// of `RunSetup::accounts`, `IsRecord` in that of `call_records::records`. One thing is left to the
+/// of `RunSetup::accounts`, `IsRecord` in that of `run_outputs::records`. One thing is left to the
 /// driver: where it starts a call more than once, each InitialDP of the call names the same parties
 /// (`HaveTheirParties`). A script starts no call twice.
 pub fn unrouted_calls_pay_nothing<S: Shared>()

@@ -1,8 +1,14 @@
-pub mod Accounts
+pub mod AccountLemmas
 pub mod Beginnings
+pub mod CallLemmas
 pub mod Joins
+pub mod KeptLemmas
 pub mod KindLemmas
+pub mod LawLemmas
+pub mod ListedAccounts
+pub mod MarkLemmas
 pub mod Merging
 pub mod Orders
 pub mod Piles
+pub mod RecordLemmas
 pub mod RefusalLemmas

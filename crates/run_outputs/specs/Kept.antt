@@ -4,9 +4,9 @@ use Rattle.std.specs.List.{All, filter, flat_map}
 use Rattle.book_texts.specs.BookTexts.{book_text, version_of}
 use Rattle.book_texts.specs.RunTexts.{AreLinesOf, IsRunText, LinesSaid}
 use Rattle.book_texts.specs.Typed.{IsTyped}
-use Rattle.call_records.specs.Records.{AreRecords, Run}
-use Rattle.call_records.specs.Tables.{call_text}
-use Rattle.call_records.specs.declared.call_record.CallRecord.{CallRecord}
+use Rattle.run_outputs.specs.Records.{AreRecords, Run}
+use Rattle.run_outputs.specs.Tables.{call_text}
+use Rattle.run_outputs.specs.declared.call_record.CallRecord.{CallRecord}
 use Rattle.moment_texts.specs.declared.clock.Clock.{Clock}
 use Rattle.run_values.specs.declared.options.RunOutput.{RunOutput}
 use Rattle.run_values.specs.declared.options.RunOutput.TheVariants as output

@@ -1,7 +1,13 @@
+pub mod Calls
 pub mod Kept
+pub mod KeptRecords
+pub mod Laws
 pub mod Lists
 pub mod Parts
+pub mod Records
 pub mod Refused
 pub mod RefusedLines
+pub mod Standings
+pub mod Tables
 pub mod Texts
 pub mod Unplaced

@@ -2,8 +2,8 @@
 use Rattle.std.specs.Prelude.{◌≡◌, ℕ, List, string_bytes}
 use Rattle.book_texts.specs.BookTexts.{book_text, version_of}
 use Rattle.book_texts.specs.RunTexts.{IsRunText}
-use Rattle.call_records.specs.Records.{Run}
-use Rattle.call_records.specs.Tables.{IsCallText}
+use Rattle.run_outputs.specs.Records.{Run}
+use Rattle.run_outputs.specs.Tables.{IsCallText}
 use Rattle.moment_texts.specs.declared.clock.Clock.{Clock}
 use Rattle.moment_texts.specs.declared.clock.Clock.TheVariants as clock
 use Rattle.run_values.specs.declared.options.RunOutput.{RunOutput}

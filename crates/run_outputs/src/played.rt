@@ -5,9 +5,8 @@ ghost use Rattle.book_texts.specs.Typed.{IsTyped};
 ghost use Rattle.run_outputs.specs.Texts.{IsTextOf, run_of};
 ghost use Rattle.run_outputs.specs.Unplaced.{AreByCall, events_in_rows};
 
-use crate::{Refusals, UnplacedEvent, events_by_call};
+use crate::{Refusals, UnplacedEvent, call_table, events_by_call, records};
 use book_texts::{book_table, run_lines};
-use call_records::{call_table, records};
 use message_rows::trace_table;
 use run_texts::ScriptRow;
 use run_values::{Answer, Body, RunOutput, RunSetup};

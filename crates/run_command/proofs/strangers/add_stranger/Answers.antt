@@ -1,7 +1,7 @@
 use Rattle.std.proofs.Common.{◌++◌, ◌∷◌, [], ℕ, Option, ap, ◌∙◌}
 use Rattle.std.proofs.lemmas.Result.{on_ok_weaker}
 use Rattle.std.specs.Prelude.{if◌then◌else◌, is_some}
-use Rattle.run_outputs.proofs.Accounts.{by_its_digits}
+use Rattle.run_outputs.proofs.ListedAccounts.{by_its_digits}
 use Rattle.run_command.proofs.strangers.add_stranger.Goals as goal
 
 pub returns-in-Start : goal.returns-in-Start

@@ -1,5 +1,5 @@
 use Rattle.std.proofs.Common.{◌≡◌, None, rules}
-use Rattle.run_outputs.proofs.Accounts.{keeps}
+use Rattle.run_outputs.proofs.ListedAccounts.{keeps}
 use Rattle.run_outputs.specs.Parts.{payer_in}
 use Rattle.run_outputs.proofs.payers.keep.Goals as goal
 

@@ -3,7 +3,7 @@ use Rattle.std.proofs.lemmas.Result.{on_ok_weaker}
 use Rattle.std.specs.Prelude.{if◌then◌else◌}
 use Rattle.std.specs.Option.{option_or}
 use Rattle.run_outputs.specs.Parts.{payer_in}
-use Rattle.run_outputs.proofs.Accounts.{by_its_digits}
+use Rattle.run_outputs.proofs.ListedAccounts.{by_its_digits}
 use Rattle.run_outputs.proofs.payers.note.Goals as goal
 
 pub returns-in-Start : goal.returns-in-Start

@@ -1,6 +1,6 @@
 use Rattle.std.proofs.Common.{sym, ap, ◌∙◌, Option, ℕ}
 use Rattle.std.specs.Option.{option_or}
-use Rattle.run_outputs.proofs.Accounts.{payer_next}
+use Rattle.run_outputs.proofs.ListedAccounts.{payer_next}
 use Rattle.run_outputs.specs.Parts.{payer_by}
 use Rattle.run_texts.specs.Views.{row_data, with_digits}
 use Rattle.run_outputs.proofs.payers.payers_in.Goals as goal
