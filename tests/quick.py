@@ -75,7 +75,7 @@ def copy_sources(folder):
     shutil.copytree(f"{ROOT}/crates", f"{folder}/crates", ignore=shutil.ignore_patterns("out"))
     for name in ("crates.txt", "HANDLES"):
         shutil.copy(f"{ROOT}/{name}", folder)
-    path = f"{folder}/crates/command_words/src/help.rt"
+    path = f"{folder}/crates/table_commands/src/help.rt"
     with open(path, encoding="utf-8") as it:
         text, count = re.subn(r'(VERSION: &str = ")([^"]*)"', r'\1\2 (unproved)"', it.read())
     assert count == 1, f"{path} names {count} versions"

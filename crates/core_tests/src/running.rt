@@ -1,8 +1,7 @@
-//! The tests of `run_values`, `workers_core`, `runs_core`, `run_texts` and `live_log`.
+//! The tests of `run_values`, `runs_core`, `run_texts` and `live_log`.
 
 mod faults;
 mod live_logs;
-mod mailboxes;
 mod meeting;
 mod messages;
 mod rounds;

@@ -1,4 +1,4 @@
-//! The tests of `table_core`, `price_core`, `tariff_core`, `moment_texts` and `cap_values`.
+//! The tests of `table_core`, `price_core`, `tariff_core` and `cap_values`.
 
 mod codes;
 mod faults;

@@ -3,10 +3,9 @@
 use crate::forms::Part;
 use crate::found_rows::push_column;
 use csv::ByteRecord;
-use moment_texts::moment;
 use std::alloc::AllocError;
 use table_core::{are_digits, decimal, field, is_decimal};
-use tariff_core::time_of_day;
+use tariff_core::{moment, time_of_day};
 
 /// What a column of a row takes.
 #[derive(Clone, Copy)]

@@ -17,7 +17,7 @@ use Rattle.shared_account.specs.Refusals.{Knowing}
 use Rattle.turn_account.specs.Seen.{CallsOfOneSeatAreAlone, IsBySeat, StoodIn}
 use Rattle.held_calls.proofs.Refusing.{never_refused}
 use Rattle.held_calls.specs.Workers.{EntriesComeFromPosts}
-use Rattle.workers_core.specs.Served.{AreServed, IsServed, Report, begun_by, begun_of, held_in, held_calls_of, reported_in, reports_of, settled_in, settles_of}
+use Rattle.runs_core.specs.Served.{AreServed, IsServed, Report, begun_by, begun_of, held_in, held_calls_of, reported_in, reports_of, settled_in, settles_of}
 use Rattle.held_calls.proofs.InBooks.{lists_worked}
 use Rattle.held_calls.proofs.Listed.{all_joined, all_part, all_passing, all_pieces, all_unmapped}
 use Rattle.runs_core.proofs.HandOuts.{agrees}

@@ -17,16 +17,16 @@ use Rattle.tariff_core.specs.Routes.{HasNoRoute}
 use Rattle.price_core.specs.declared.route.Route.{Route}
 use Rattle.held_calls.proofs.Chaining.{all_sound, first_sound}
 use Rattle.held_calls.proofs.Growing.{place_within}
-use Rattle.workers_core.proofs.Handling.{Means, home_within, means_on, same_number}
+use Rattle.runs_core.proofs.Handling.{Means, home_within, means_on, same_number}
 use Rattle.held_calls.proofs.Sound.{many_keys, own_of}
-use Rattle.workers_core.specs.Chains.{at_first, seat_numbers}
+use Rattle.runs_core.specs.Chains.{at_first, seat_numbers}
 use Rattle.held_calls.specs.Chains.{AreHandled, IsHandledOnce}
-use Rattle.workers_core.specs.Handled.{Holding, IsBegun, IsDone, IsTalked, AnswerView, grown}
+use Rattle.runs_core.specs.Handled.{Holding, IsBegun, IsDone, IsTalked, AnswerView, grown}
 use Rattle.held_calls.specs.Workers.{CallsAreReserved, HasNoDialogue, IsHandledAfter, IsReserved, IsRunning, PostsAreHandled, asked_at}
 use Rattle.run_values.specs.Setups.{Setup, account_of}
 use Rattle.dialogue_core.specs.Talks.{Got, is_ask, talked}
-use Rattle.workers_core.specs.Talks.{entries_of, entry_of, last_fault}
-use Rattle.workers_core.specs.Verdicts.{DialogueAt, IsRouted, Verdict, Strays, Rejects, Recharges, Begins, GoesOn, begins, goes_on, home_of, spoken, verdict_on}
+use Rattle.runs_core.specs.Talks.{entries_of, entry_of, last_fault}
+use Rattle.runs_core.specs.Verdicts.{DialogueAt, IsRouted, Verdict, Strays, Rejects, Recharges, Begins, GoesOn, begins, goes_on, home_of, spoken, verdict_on}
 use Rattle.held_calls.specs.Sound.{IsSoundHolding}
 use Rattle.run_values.specs.declared.post.Body.TheVariants.{Ssf}
 use Rattle.run_values.specs.declared.post.Post.{Post}

@@ -3,7 +3,7 @@ use Rattle.std.proofs.Common.{◌≡◌, ◌∙◌, false, List, [], ◌∷◌, 
 use Rattle.dialogue_core.specs.Phases.{Phase, Says}
 use Rattle.held_calls.specs.Workers.{WhatIsSaidIsSent}
 use Rattle.dialogue_core.specs.Talks.{Got, is_ask, orders_sent_by}
-use Rattle.workers_core.specs.Talks.{AllAsk, last_fault}
+use Rattle.runs_core.specs.Talks.{AllAsk, last_fault}
 
 -- the first of the replies would need a pending ask
 pub nothing_asked : (first : Says × Phase) (gots : List Got) → is_ask first.0 ≡ false → AllAsk first gots → gots ≡ []

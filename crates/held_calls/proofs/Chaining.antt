@@ -5,12 +5,12 @@ use Rattle.std.proofs.lemmas.List.Elements.{All-nil}
 use Rattle.account_core.specs.Entries.{EntryData}
 use Rattle.account_core.specs.declared.fault.AccountFault.{AccountFault}
 use Rattle.held_calls.proofs.Sound.{sound_after}
-use Rattle.workers_core.specs.Chains.{AreAnswered, AnswersItsPosts, at_first, refusals_in, seat_numbers}
+use Rattle.runs_core.specs.Chains.{AreAnswered, AnswersItsPosts, at_first, refusals_in, seat_numbers}
 use Rattle.held_calls.specs.Chains.{AreHandled, IsHandledOnce, IsWorked}
-use Rattle.workers_core.specs.Handled.{AnswerView, Holding}
+use Rattle.runs_core.specs.Handled.{AnswerView, Holding}
 use Rattle.held_calls.specs.Workers.{EntriesComeFromPosts}
-use Rattle.workers_core.specs.Served.{AreServed}
-use Rattle.workers_core.specs.Talks.{Showing}
+use Rattle.runs_core.specs.Served.{AreServed}
+use Rattle.runs_core.specs.Talks.{Showing}
 use Rattle.held_calls.specs.Sound.{IsSoundHolding}
 use Rattle.run_values.specs.Setups.{Setup}
 use Rattle.run_values.specs.declared.directory.OpeningCredit.{OpeningCredit}

@@ -20,20 +20,20 @@ use Rattle.run_values.specs.Setups.{Setup}
 use Rattle.run_values.specs.declared.post.Body.TheVariants.{Ssf}
 use Rattle.run_values.specs.declared.post.Post.{Post}
 use Rattle.price_core.specs.declared.times.TimeInfo.{TimeInfo}
-use Rattle.workers_core.proofs.OwnCalls.{kept_got, talked_about}
+use Rattle.runs_core.proofs.OwnCalls.{kept_got, talked_about}
 use Rattle.held_calls.proofs.Talked.{no_settle}
 use Rattle.held_calls.proofs.Chaining.{all_sound, first_sound, handled_so}
 use Rattle.held_calls.proofs.Growing.{place_within, read_talked}
 use Rattle.held_calls.proofs.Sound.{many_keys, own_of}
 use Rattle.held_calls.proofs.ReturnedOnce.{gives_back, sequel_to}
-use Rattle.workers_core.specs.Chains.{at_first, refusals_in, seat_numbers}
-use Rattle.workers_core.specs.Handled.{AnswerView, AreRefusedRightly, Holding, IsDone, IsRightlyHandled, IsTalked}
+use Rattle.runs_core.specs.Chains.{at_first, refusals_in, seat_numbers}
+use Rattle.runs_core.specs.Handled.{AnswerView, AreRefusedRightly, Holding, IsDone, IsRightlyHandled, IsTalked}
 use Rattle.held_calls.specs.Workers.{IsRunning, ends_call}
 use Rattle.held_calls.specs.Owed.{NeverRefusesOwed}
-use Rattle.workers_core.specs.Served.{returned_in, settled_in, settles_of, returns_of}
-use Rattle.workers_core.specs.Talks.{AllAsk, AreRightlyGot, Showing, entries_of, entry_of}
-use Rattle.workers_core.specs.Verdicts.{DialogueAt, Verdict, GoesOn, goes_on, spoken, verdict_on}
-use Rattle.workers_core.specs.Workers.{IsAbout}
+use Rattle.runs_core.specs.Served.{returned_in, settled_in, settles_of, returns_of}
+use Rattle.runs_core.specs.Talks.{AllAsk, AreRightlyGot, Showing, entries_of, entry_of}
+use Rattle.runs_core.specs.Verdicts.{DialogueAt, Verdict, GoesOn, goes_on, spoken, verdict_on}
+use Rattle.runs_core.specs.Workers.{IsAbout}
 use Rattle.held_calls.specs.Sound.{IsSoundHolding}
 
 -- ---- what a talk asks first got a reply

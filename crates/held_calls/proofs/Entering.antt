@@ -10,22 +10,22 @@ use Rattle.account_core.specs.declared.fault.AccountFault.{AccountFault}
 use Rattle.cap_values.specs.declared.message.SsfMsg.{SsfMsg}
 use Rattle.dialogue_core.specs.Phases.{Says, Asks}
 use Rattle.dialogue_core.specs.Rules.{Step, on_begin}
-use Rattle.workers_core.proofs.OwnCalls.{TakesTo, begun_about, takes_answer}
+use Rattle.runs_core.proofs.OwnCalls.{TakesTo, begun_about, takes_answer}
 use Rattle.held_calls.proofs.Talked.{begun_says, talk_credits}
 use Rattle.held_calls.proofs.Chaining.{first_sound, once_sound}
 use Rattle.held_calls.proofs.Growing.{place_within, read_grown}
-use Rattle.workers_core.proofs.Handling.{Means, at_place, means_on, same_number}
+use Rattle.runs_core.proofs.Handling.{Means, at_place, means_on, same_number}
 use Rattle.held_calls.proofs.Sound.{own_of}
-use Rattle.workers_core.specs.Chains.{at_first}
+use Rattle.runs_core.specs.Chains.{at_first}
 use Rattle.held_calls.specs.Chains.{AreHandled}
-use Rattle.workers_core.specs.Handled.{Holding, IsDone, IsTalked, AnswerView}
+use Rattle.runs_core.specs.Handled.{Holding, IsDone, IsTalked, AnswerView}
 use Rattle.held_calls.specs.Workers.{RechargesAreEntered, accepted_of, credited_by}
 use Rattle.run_values.specs.Openings.{no_credit}
-use Rattle.workers_core.specs.Served.{credited_in, credits_of}
+use Rattle.runs_core.specs.Served.{credited_in, credits_of}
 use Rattle.run_values.specs.Setups.{Setup, place_of}
 use Rattle.dialogue_core.specs.Talks.{Got}
-use Rattle.workers_core.specs.Talks.{entries_of, entry_of, last_fault}
-use Rattle.workers_core.specs.Verdicts.{Verdict, Strays, Rejects, Recharges, Begins, GoesOn, recharged, verdict_on}
+use Rattle.runs_core.specs.Talks.{entries_of, entry_of, last_fault}
+use Rattle.runs_core.specs.Verdicts.{Verdict, Strays, Rejects, Recharges, Begins, GoesOn, recharged, verdict_on}
 use Rattle.held_calls.specs.Sound.{IsSoundHolding}
 use Rattle.run_values.specs.declared.directory.OpeningCredit.{OpeningCredit}
 use Rattle.run_values.specs.declared.post.Body.{Body}

@@ -18,11 +18,11 @@ use Rattle.held_calls.specs.Held.{entries_at, facts_at}
 use Rattle.shared_account.proofs.Knowing.{known_here}
 use Rattle.shared_account.proofs.Owning.{known_alike}
 use Rattle.shared_account.specs.Own.{asks_of_call, of_call}
-use Rattle.workers_core.proofs.OwnCalls.{SaysOf}
+use Rattle.runs_core.proofs.OwnCalls.{SaysOf}
 use Rattle.held_calls.proofs.Talked.{says_of_call}
-use Rattle.workers_core.specs.Handled.{grown}
-use Rattle.workers_core.specs.Talks.{AllAsk, entries_of, entry_of}
-use Rattle.workers_core.specs.Workers.{IsAbout}
+use Rattle.runs_core.specs.Handled.{grown}
+use Rattle.runs_core.specs.Talks.{AllAsk, entries_of, entry_of}
+use Rattle.runs_core.specs.Workers.{IsAbout}
 
 -- an entry with a reply of the kind that an account gives to what was asked
 abbrev pub IsHonestEntry : EntryData → Type 0

@@ -26,19 +26,19 @@ use Rattle.runs_core.specs.Shares.{item_of}
 use Rattle.shared_account.proofs.Beginnings.{begins_further}
 use Rattle.shared_account.specs.Own.{of_call}
 use Rattle.shared_account.specs.Prefixes.{IsPrefix}
-use Rattle.workers_core.proofs.OwnCalls.{TakesTo, begun_about, takes_answer}
+use Rattle.runs_core.proofs.OwnCalls.{TakesTo, begun_about, takes_answer}
 use Rattle.held_calls.proofs.Talked.{begun_says}
 use Rattle.held_calls.proofs.Chaining.{first_sound}
 use Rattle.held_calls.proofs.Entering.{none_at_first}
-use Rattle.workers_core.proofs.Handling.{Means, means_on, same_number}
+use Rattle.runs_core.proofs.Handling.{Means, means_on, same_number}
 use Rattle.held_calls.proofs.Sound.{is_itself, own_of, sound_after}
-use Rattle.workers_core.specs.Chains.{AreAnswered, AnswersItsPosts, at_first, seat_numbers}
-use Rattle.workers_core.specs.Handled.{AnswerView, Holding, IsDone, IsRightlyHandled}
+use Rattle.runs_core.specs.Chains.{AreAnswered, AnswersItsPosts, at_first, seat_numbers}
+use Rattle.runs_core.specs.Handled.{AnswerView, Holding, IsDone, IsRightlyHandled}
 use Rattle.held_calls.specs.Workers.{IsRunning, ends_call}
 use Rattle.held_calls.specs.Owed.{NeverRefusesOwed}
-use Rattle.workers_core.specs.Served.{Report, report_in, reported_in, returns_of, settles_of}
-use Rattle.workers_core.specs.Talks.{Showing, entry_of}
-use Rattle.workers_core.specs.Verdicts.{DialogueAt, Verdict, Strays, Rejects, Recharges, Begins, GoesOn, verdict_on}
+use Rattle.runs_core.specs.Served.{Report, report_in, reported_in, returns_of, settles_of}
+use Rattle.runs_core.specs.Talks.{Showing, entry_of}
+use Rattle.runs_core.specs.Verdicts.{DialogueAt, Verdict, Strays, Rejects, Recharges, Begins, GoesOn, verdict_on}
 use Rattle.held_calls.specs.Sound.{IsSoundHolding}
 
 -- ---- a post that is of no message of a call

@@ -6,12 +6,12 @@ use Rattle.std.proofs.lemmas.Bool.Decides.{nat_tests}
 use Rattle.std.proofs.lemmas.Grind.{flat_map-append}
 use Rattle.account_core.specs.Entries.{EntryData}
 use Rattle.dialogue_core.specs.Phases.{Phase, Says}
-use Rattle.workers_core.proofs.Handling.{same_number}
+use Rattle.runs_core.proofs.Handling.{same_number}
 use Rattle.held_calls.proofs.Sound.{many_keys}
-use Rattle.workers_core.specs.Handled.{AnswerView, Holding, IsTalked, grown}
-use Rattle.workers_core.specs.Served.{AreServed}
+use Rattle.runs_core.specs.Handled.{AnswerView, Holding, IsTalked, grown}
+use Rattle.runs_core.specs.Served.{AreServed}
 use Rattle.run_values.specs.Setups.{Setup}
-use Rattle.workers_core.specs.Talks.{entries_of}
+use Rattle.runs_core.specs.Talks.{entries_of}
 use Rattle.held_calls.specs.Sound.{IsSoundHolding}
 use Rattle.run_values.specs.declared.post.Post.{Post}
 

@@ -18,21 +18,21 @@ use Rattle.run_values.specs.Setups.{Setup}
 use Rattle.run_values.specs.declared.post.Post.{Post}
 use Rattle.shared_account.proofs.Owning.{known_alike}
 use Rattle.shared_account.specs.Own.{of_call}
-use Rattle.workers_core.proofs.OwnCalls.{SaysOf, TakesTo, begun_about, takes_answer}
+use Rattle.runs_core.proofs.OwnCalls.{SaysOf, TakesTo, begun_about, takes_answer}
 use Rattle.held_calls.proofs.Talked.{begun_says}
 use Rattle.held_calls.proofs.Chaining.{first_sound, once_sound}
 use Rattle.held_calls.proofs.Entering.{none_at_first}
 use Rattle.held_calls.proofs.Growing.{place_within}
-use Rattle.workers_core.proofs.Handling.{Means, means_on, same_number}
+use Rattle.runs_core.proofs.Handling.{Means, means_on, same_number}
 use Rattle.held_calls.proofs.Sound.{is_itself, many_keys, own_of}
 use Rattle.held_calls.proofs.Through.{ReturnsLast, StepReturnsLast, is_through, last_begun, last_answer, not_before, over_answer, returns_none, through_still, StepIsOver}
-use Rattle.workers_core.specs.Chains.{at_first, seat_numbers}
+use Rattle.runs_core.specs.Chains.{at_first, seat_numbers}
 use Rattle.held_calls.specs.Chains.{AreHandled}
-use Rattle.workers_core.specs.Handled.{AnswerView, Holding, IsDone, IsTalked}
-use Rattle.workers_core.specs.Served.{returned_in, returns_of}
-use Rattle.workers_core.specs.Talks.{entries_of, entry_of}
-use Rattle.workers_core.specs.Verdicts.{DialogueAt, Verdict, Strays, Rejects, Recharges, Begins, GoesOn, verdict_on}
-use Rattle.workers_core.specs.Workers.{IsAbout}
+use Rattle.runs_core.specs.Handled.{AnswerView, Holding, IsDone, IsTalked}
+use Rattle.runs_core.specs.Served.{returned_in, returns_of}
+use Rattle.runs_core.specs.Talks.{entries_of, entry_of}
+use Rattle.runs_core.specs.Verdicts.{DialogueAt, Verdict, Strays, Rejects, Recharges, Begins, GoesOn, verdict_on}
+use Rattle.runs_core.specs.Workers.{IsAbout}
 use Rattle.held_calls.specs.Sound.{IsSoundHolding}
 
 -- ---- a call that is held, and has no Return before its dialogue is through

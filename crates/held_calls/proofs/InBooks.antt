@@ -10,10 +10,10 @@ use Rattle.shared_account.specs.Closed.{Closed}
 use Rattle.shared_account.specs.Own.{own}
 use Rattle.shared_account.specs.Refusals.{Knowing}
 use Rattle.held_calls.proofs.Chaining.{worked_so}
-use Rattle.workers_core.proofs.Handling.{at_place, same_number}
+use Rattle.runs_core.proofs.Handling.{at_place, same_number}
 use Rattle.held_calls.proofs.Sound.{many_keys}
 use Rattle.held_calls.specs.Workers.{EntriesComeFromPosts, IsOnTerms, RechargesAreEntered, ReservesAreOnTerms}
-use Rattle.workers_core.specs.Served.{AreServed, IsServed}
+use Rattle.runs_core.specs.Served.{AreServed, IsServed}
 use Rattle.run_values.specs.Openings.{no_credit}
 use Rattle.run_values.specs.Setups.{Setup}
 use Rattle.run_values.specs.declared.directory.OpeningCredit.{OpeningCredit}

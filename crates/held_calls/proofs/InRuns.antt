@@ -38,10 +38,10 @@ use Rattle.shared_account.specs.Own.{asks_of_call, of_call, own}
 use Rattle.shared_account.specs.Refusals.{Refusal}
 use Rattle.turn_account.specs.Seen.{CallsOfOneSeatAreAlone, IsBySeat, StoodIn}
 use Rattle.price_core.specs.declared.plan.TheConstants.{MAX_MONEY}
-use Rattle.workers_core.proofs.Handling.{same_number}
-use Rattle.workers_core.specs.Handled.{AnswerView, answer_view}
+use Rattle.runs_core.proofs.Handling.{same_number}
+use Rattle.runs_core.specs.Handled.{AnswerView, answer_view}
 use Rattle.held_calls.specs.Workers.{ends_call}
-use Rattle.workers_core.specs.Served.{Report, reported_in, returns_of, settles_of}
+use Rattle.runs_core.specs.Served.{Report, reported_in, returns_of, settles_of}
 
 -- ---- an item of another worker is of no message of the call
 

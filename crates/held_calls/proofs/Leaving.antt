@@ -24,12 +24,12 @@ use Rattle.held_calls.proofs.Rules.{Awaits, Fits, Stands}
 use Rattle.held_calls.specs.Held.{IsShown}
 use Rattle.held_calls.proofs.Listed.{all_first, all_later}
 use Rattle.price_core.specs.declared.times.TheConstants.{DAY}
-use Rattle.workers_core.proofs.OwnCalls.{SaysOf}
+use Rattle.runs_core.proofs.OwnCalls.{SaysOf}
 use Rattle.held_calls.proofs.Talked.{says_of_call}
 use Rattle.held_calls.specs.Owed.{NeverRefusesOwed}
-use Rattle.workers_core.specs.Served.{returned_in, returns_of}
-use Rattle.workers_core.specs.Talks.{AllAsk, AreRightlyGot, IsRightlyGot, Showing, entries_of, entry_of}
-use Rattle.workers_core.specs.Workers.{IsAbout}
+use Rattle.runs_core.specs.Served.{returned_in, returns_of}
+use Rattle.runs_core.specs.Talks.{AllAsk, AreRightlyGot, IsRightlyGot, Showing, entries_of, entry_of}
+use Rattle.runs_core.specs.Workers.{IsAbout}
 
 -- a call that had a grant owes its Return until it was asked for and answered
 abbrev pub Owes : ℕ → List ℕ → Says × Phase → Type 0

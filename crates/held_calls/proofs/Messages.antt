@@ -30,14 +30,14 @@ use Rattle.price_core.specs.declared.route.Route.{Route}
 use Rattle.held_calls.proofs.Talked.{begun_settles}
 use Rattle.held_calls.proofs.AtRest.{nothing_asked}
 use Rattle.held_calls.proofs.Growing.{place_within}
-use Rattle.workers_core.proofs.Handling.{home_within, same_number}
+use Rattle.runs_core.proofs.Handling.{home_within, same_number}
 use Rattle.held_calls.proofs.Through.{is_through, returns_none, through_still}
-use Rattle.workers_core.specs.Handled.{AnswerView, Holding, IsDone, IsRightlyHandled, IsTalked}
+use Rattle.runs_core.specs.Handled.{AnswerView, Holding, IsDone, IsRightlyHandled, IsTalked}
 use Rattle.held_calls.specs.Workers.{IsRunning, ends_call}
 use Rattle.held_calls.specs.Owed.{NeverRefusesOwed}
-use Rattle.workers_core.specs.Served.{report_in, returned_in, returns_of, settled_in, settles_of}
-use Rattle.workers_core.specs.Talks.{AllAsk, Showing, entries_of}
-use Rattle.workers_core.specs.Verdicts.{DialogueAt, begins, fresh_call, goes_on, home_of, spoken, verdict_on}
+use Rattle.runs_core.specs.Served.{report_in, returned_in, returns_of, settled_in, settles_of}
+use Rattle.runs_core.specs.Talks.{AllAsk, Showing, entries_of}
+use Rattle.runs_core.specs.Verdicts.{DialogueAt, begins, fresh_call, goes_on, home_of, spoken, verdict_on}
 use Rattle.held_calls.specs.Sound.{IsSoundHolding}
 
 -- ---- the first message of a call

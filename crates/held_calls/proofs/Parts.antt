@@ -5,8 +5,8 @@ use Rattle.std.proofs.lemmas.Grind.{flat_map-append}
 use Rattle.std.proofs.lemmas.List.{flat_map_more}
 use Rattle.std.proofs.lemmas.List.Elements.{All-append, All-weaker, Contains-append_left}
 use Rattle.account_core.specs.Entries.{EntryData}
-use Rattle.workers_core.specs.Handled.{grown}
-use Rattle.workers_core.specs.Served.{AreServed, IsPart, IsServed, begun_by, begun_of, credited_in, credits_of, held_in, held_calls_of, recharged_in, recharges_of, reported_in, reports_of, settled_in, settles_of}
+use Rattle.runs_core.specs.Handled.{grown}
+use Rattle.runs_core.specs.Served.{AreServed, IsPart, IsServed, begun_by, begun_of, credited_in, credits_of, held_in, held_calls_of, recharged_in, recharges_of, reported_in, reports_of, settled_in, settles_of}
 use Rattle.run_values.specs.declared.post.Post.{Post}
 
 -- ---- parts

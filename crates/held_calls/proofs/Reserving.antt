@@ -22,15 +22,15 @@ use Rattle.price_core.specs.Rates.{Rates}
 use Rattle.price_core.specs.RatesOf.{rates_of}
 use Rattle.price_core.specs.declared.route.Route.{Route}
 use Rattle.held_calls.proofs.Entering.{none_at_first}
-use Rattle.workers_core.proofs.Handling.{Means, means_on, same_number}
-use Rattle.workers_core.specs.Chains.{at_first}
+use Rattle.runs_core.proofs.Handling.{Means, means_on, same_number}
+use Rattle.runs_core.specs.Chains.{at_first}
 use Rattle.held_calls.specs.Chains.{AreHandled}
-use Rattle.workers_core.specs.Handled.{Holding, IsDone, IsTalked, Stay, AnswerView, grown}
+use Rattle.runs_core.specs.Handled.{Holding, IsDone, IsTalked, Stay, AnswerView, grown}
 use Rattle.held_calls.specs.Workers.{HasBegun, IsOnTerms, ReservesAreOnTerms}
 use Rattle.run_values.specs.Setups.{Setup}
 use Rattle.dialogue_core.specs.Talks.{Got, after_got, or_done, talked}
-use Rattle.workers_core.specs.Talks.{entries_of, entry_of}
-use Rattle.workers_core.specs.Verdicts.{DialogueAt, IsRouted, Verdict, Strays, Rejects, Recharges, Begins, GoesOn, home_of, verdict_on}
+use Rattle.runs_core.specs.Talks.{entries_of, entry_of}
+use Rattle.runs_core.specs.Verdicts.{DialogueAt, IsRouted, Verdict, Strays, Rejects, Recharges, Begins, GoesOn, home_of, verdict_on}
 use Rattle.run_values.specs.declared.post.Body.TheVariants.{Ssf}
 use Rattle.run_values.specs.declared.post.Post.{Post}
 

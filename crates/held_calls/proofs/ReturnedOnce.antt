@@ -14,26 +14,26 @@ use Rattle.cap_values.specs.declared.message.SsfMsg.TheVariants as msg
 use Rattle.dialogue_core.specs.Phases.{Conditions, Phase, Says, Sequel, Running, Returning, Asks}
 use Rattle.dialogue_core.specs.Phases as phase
 use Rattle.dialogue_core.specs.Rules.{Step, going_on, on_begin, on_message}
-use Rattle.workers_core.proofs.OwnCalls.{SaysOf, TakesTo, begun_about, takes_answer}
+use Rattle.runs_core.proofs.OwnCalls.{SaysOf, TakesTo, begun_about, takes_answer}
 use Rattle.held_calls.proofs.Talked.{begun_says}
 use Rattle.held_calls.proofs.Asking.{taken_on}
 use Rattle.held_calls.proofs.AtRest.{nothing_asked}
 use Rattle.held_calls.proofs.Chaining.{first_sound, once_sound}
 use Rattle.held_calls.proofs.Entering.{none_at_first}
 use Rattle.held_calls.proofs.Growing.{place_within, read_as_before, read_talked}
-use Rattle.workers_core.proofs.Handling.{Means, at_place, means_on, same_number}
+use Rattle.runs_core.proofs.Handling.{Means, at_place, means_on, same_number}
 use Rattle.held_calls.proofs.Sound.{is_itself, many_keys, own_of}
 use Rattle.held_calls.proofs.Through.{IsOver, ReturnsLast, StepIsOver, StepReturnsLast, is_through, last_begun, last_answer, not_before, over_answer, returns_none, talk_returns, talk_returns_once, through_still}
-use Rattle.workers_core.specs.Chains.{at_first, seat_numbers}
+use Rattle.runs_core.specs.Chains.{at_first, seat_numbers}
 use Rattle.held_calls.specs.Chains.{AreHandled}
-use Rattle.workers_core.specs.Handled.{Holding, IsDone, IsTalked, AnswerView}
+use Rattle.runs_core.specs.Handled.{Holding, IsDone, IsTalked, AnswerView}
 use Rattle.held_calls.specs.Workers.{AreReturnedFor, CallsAreReturned, ends_call}
-use Rattle.workers_core.specs.Served.{returned_in, returns_of}
+use Rattle.runs_core.specs.Served.{returned_in, returns_of}
 use Rattle.run_values.specs.Setups.{Setup}
 use Rattle.dialogue_core.specs.Talks.{Got, talked}
-use Rattle.workers_core.specs.Talks.{entries_of, entry_of}
-use Rattle.workers_core.specs.Verdicts.{DialogueAt, Verdict, Strays, Rejects, Recharges, Begins, GoesOn, verdict_on}
-use Rattle.workers_core.specs.Workers.{IsAbout}
+use Rattle.runs_core.specs.Talks.{entries_of, entry_of}
+use Rattle.runs_core.specs.Verdicts.{DialogueAt, Verdict, Strays, Rejects, Recharges, Begins, GoesOn, verdict_on}
+use Rattle.runs_core.specs.Workers.{IsAbout}
 use Rattle.held_calls.specs.Sound.{IsSoundHolding}
 use Rattle.run_values.specs.declared.post.Post.{Post}
 

@@ -11,24 +11,24 @@ use Rattle.cap_values.specs.declared.message.SsfMsg.TheVariants as msg
 use Rattle.dialogue_core.specs.Phases.{Phase, Says, Settling, Asks}
 use Rattle.dialogue_core.specs.Rules.{Step, on_begin}
 use Rattle.price_core.specs.declared.times.TimeInfo.{TimeInfo}
-use Rattle.workers_core.proofs.OwnCalls.{TakesTo, begun_about, kept_got, settled_by, takes_answer, talked_about}
+use Rattle.runs_core.proofs.OwnCalls.{TakesTo, begun_about, kept_got, settled_by, takes_answer, talked_about}
 use Rattle.held_calls.proofs.Talked.{begun_settles, no_settle, talk_settles}
 use Rattle.held_calls.proofs.Asking.{taken_on}
 use Rattle.held_calls.proofs.Chaining.{once_sound}
 use Rattle.held_calls.proofs.Growing.{place_within, read_as_before, read_talked}
-use Rattle.workers_core.proofs.Handling.{Means, at_place, means_on}
+use Rattle.runs_core.proofs.Handling.{Means, at_place, means_on}
 use Rattle.held_calls.proofs.Sound.{many_keys, own_of}
 use Rattle.held_calls.proofs.Parts.{part_both, part_through}
-use Rattle.workers_core.specs.Chains.{seat_numbers}
+use Rattle.runs_core.specs.Chains.{seat_numbers}
 use Rattle.held_calls.specs.Chains.{AreHandled}
-use Rattle.workers_core.specs.Handled.{Holding, IsDone, IsTalked, AnswerView}
+use Rattle.runs_core.specs.Handled.{Holding, IsDone, IsTalked, AnswerView}
 use Rattle.held_calls.specs.Workers.{AreSettledFor, ReportsAreSettled}
-use Rattle.workers_core.specs.Served.{AreServed, IsPart, Report, reported_in, reports_of, settled_in, settles_of}
+use Rattle.runs_core.specs.Served.{AreServed, IsPart, Report, reported_in, reports_of, settled_in, settles_of}
 use Rattle.run_values.specs.Setups.{Setup}
 use Rattle.dialogue_core.specs.Talks.{Got, is_ask, talked}
-use Rattle.workers_core.specs.Talks.{entries_of, entry_of, last_fault}
-use Rattle.workers_core.specs.Verdicts.{Verdict, Strays, Rejects, Recharges, Begins, GoesOn, verdict_on}
-use Rattle.workers_core.specs.Workers.{IsAbout}
+use Rattle.runs_core.specs.Talks.{entries_of, entry_of, last_fault}
+use Rattle.runs_core.specs.Verdicts.{Verdict, Strays, Rejects, Recharges, Begins, GoesOn, verdict_on}
+use Rattle.runs_core.specs.Workers.{IsAbout}
 use Rattle.held_calls.specs.Sound.{IsSoundHolding}
 use Rattle.run_values.specs.declared.post.Post.{Post}
 

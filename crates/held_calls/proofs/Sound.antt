@@ -8,22 +8,22 @@ use Rattle.std.proofs.lemmas.List.Elements.{All-nil, Contains-push}
 use Rattle.account_core.specs.Asked.{Credits}
 use Rattle.dialogue_core.specs.Phases.{Phase, Says, Asks}
 use Rattle.dialogue_core.specs.Rules.{Step, on_begin}
-use Rattle.workers_core.proofs.OwnCalls.{SaysOf, TakesTo, begun_about, settled_by, takes_answer}
+use Rattle.runs_core.proofs.OwnCalls.{SaysOf, TakesTo, begun_about, settled_by, takes_answer}
 use Rattle.held_calls.proofs.Talked.{begun_says, begun_settles, talk_credits, talk_held, talk_settles}
 use Rattle.held_calls.proofs.Parts.{IsEntered, all_served_grown, all_served_more, begun_more, part_through}
-use Rattle.workers_core.specs.Handled.{AnswerView, Holding, IsDone, IsTalked, Stay}
-use Rattle.workers_core.specs.Served.{IsPart, Money, Report, begun_by, begun_of, recharged_in, reported_in, settles_of}
+use Rattle.runs_core.specs.Handled.{AnswerView, Holding, IsDone, IsTalked, Stay}
+use Rattle.runs_core.specs.Served.{IsPart, Money, Report, begun_by, begun_of, recharged_in, reported_in, settles_of}
 use Rattle.run_values.specs.Openings.{no_credit}
 use Rattle.run_values.specs.Setups.{Setup}
 use Rattle.dialogue_core.specs.Talks.{Got}
-use Rattle.workers_core.specs.Talks.{entries_of, entry_of}
-use Rattle.workers_core.specs.Verdicts.{DialogueAt, Verdict, Strays, Rejects, Recharges, Begins, GoesOn, verdict}
-use Rattle.workers_core.specs.Workers.{IsAbout}
+use Rattle.runs_core.specs.Talks.{entries_of, entry_of}
+use Rattle.runs_core.specs.Verdicts.{DialogueAt, Verdict, Strays, Rejects, Recharges, Begins, GoesOn, verdict}
+use Rattle.runs_core.specs.Workers.{IsAbout}
 use Rattle.held_calls.specs.Sound.{IsOwn, IsSoundHolding}
 use Rattle.run_values.specs.declared.directory.OpeningCredit.{OpeningCredit}
 use Rattle.run_values.specs.declared.post.Body.{Body}
 use Rattle.run_values.specs.declared.post.Post.{Post}
-use Rattle.workers_core.proofs.Handling.{IsOfAccount, Means, at_place, ended_about, means_on, now_each, same_number, standing_so, stay_each}
+use Rattle.runs_core.proofs.Handling.{IsOfAccount, Means, at_place, ended_about, means_on, now_each, same_number, standing_so, stay_each}
 
 pub own_of : (count : ℕ) (posts : List Post) (call : ℕ) (standing : DialogueAt) (found : Option DialogueAt) → found ≡ Some standing → IfSome found (λ s. IsOwn count posts call s)
     → IsOwn count posts call standing

@@ -21,18 +21,18 @@ use Rattle.held_calls.specs.Held.{entries_at}
 use Rattle.run_values.specs.Setups.{Setup}
 use Rattle.shared_account.specs.Own.{of_call}
 use Rattle.shared_account.specs.Prefixes.{IsPrefix}
-use Rattle.workers_core.proofs.OwnCalls.{settled_by}
+use Rattle.runs_core.proofs.OwnCalls.{settled_by}
 use Rattle.held_calls.proofs.Talked.{part_of_none, talk_settles}
 use Rattle.held_calls.proofs.AtRest.{nothing_asked}
-use Rattle.workers_core.proofs.Handling.{same_number}
+use Rattle.runs_core.proofs.Handling.{same_number}
 use Rattle.held_calls.proofs.Sound.{is_itself}
 use Rattle.held_calls.proofs.Through.{StepIsOver, is_through, over_answer}
-use Rattle.workers_core.specs.Handled.{AnswerView, Holding, IsDone, IsTalked}
+use Rattle.runs_core.specs.Handled.{AnswerView, Holding, IsDone, IsTalked}
 use Rattle.held_calls.specs.Workers.{ends_call}
-use Rattle.workers_core.specs.Served.{IsPart, Report, report_in, returns_of, settles_of}
-use Rattle.workers_core.specs.Talks.{AllAsk, entries_of}
-use Rattle.workers_core.specs.Verdicts.{DialogueAt, Strays, goes_on}
-use Rattle.workers_core.specs.Workers.{IsAbout}
+use Rattle.runs_core.specs.Served.{IsPart, Report, report_in, returns_of, settles_of}
+use Rattle.runs_core.specs.Talks.{AllAsk, entries_of}
+use Rattle.runs_core.specs.Verdicts.{DialogueAt, Strays, goes_on}
+use Rattle.runs_core.specs.Workers.{IsAbout}
 
 -- ---- where a dialogue is
 

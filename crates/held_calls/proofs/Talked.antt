@@ -8,11 +8,11 @@ use Rattle.account_core.specs.Entries.{EntryData}
 use Rattle.dialogue_core.specs.Phases.{Phase, Says, Asks, Sends, Finished}
 use Rattle.dialogue_core.specs.Rules.{on_begin}
 use Rattle.price_core.specs.declared.route.Route.{Route}
-use Rattle.workers_core.specs.Served.{IsPart, Report, credited_in, credits_of, held_in, held_calls_of, settled_in, settles_of}
+use Rattle.runs_core.specs.Served.{IsPart, Report, credited_in, credits_of, held_in, held_calls_of, settled_in, settles_of}
 use Rattle.dialogue_core.specs.Talks.{Got, talked}
-use Rattle.workers_core.specs.Talks.{entries_of, entry_of}
-use Rattle.workers_core.specs.Workers.{IsAbout}
-use Rattle.workers_core.proofs.OwnCalls.{SaysOf, kept_got, settled_by, talked_about}
+use Rattle.runs_core.specs.Talks.{entries_of, entry_of}
+use Rattle.runs_core.specs.Workers.{IsAbout}
+use Rattle.runs_core.proofs.OwnCalls.{SaysOf, kept_got, settled_by, talked_about}
 
 pub says_of_call : (call : ℕ) (first : Says × Phase) (gots : List Got) → IsAbout call first.1 → SaysOf call first.0 → SaysOf call (talked first gots).0
 says_of_call call first [] about says = says

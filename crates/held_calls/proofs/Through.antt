@@ -16,12 +16,12 @@ use Rattle.dialogue_core.specs.Phases as phase
 use Rattle.dialogue_core.specs.Rules.{Step, are_units, on_begin, on_message, on_refusal, on_reply, sequel}
 use Rattle.dialogue_core.specs.declared.fault.DialogueFault.TheVariants.{Unexpected}
 use Rattle.price_core.specs.declared.route.Route.{Route}
-use Rattle.workers_core.proofs.OwnCalls.{SaysOf}
+use Rattle.runs_core.proofs.OwnCalls.{SaysOf}
 use Rattle.held_calls.proofs.Talked.{says_of_call}
-use Rattle.workers_core.specs.Served.{returned_in, returns_of}
+use Rattle.runs_core.specs.Served.{returned_in, returns_of}
 use Rattle.dialogue_core.specs.Talks.{Got, after_got, is_ask, or_done, talked}
-use Rattle.workers_core.specs.Talks.{AllAsk, entries_of, entry_of, last_fault}
-use Rattle.workers_core.specs.Workers.{IsAbout}
+use Rattle.runs_core.specs.Talks.{AllAsk, entries_of, entry_of, last_fault}
+use Rattle.runs_core.specs.Workers.{IsAbout}
 
 -- ---- a dialogue is through with its call once it has asked for the Return, or has nothing to return
 

@@ -2,11 +2,11 @@
 use Rattle.std.specs.Prelude.{◌≡◌, ℕ, Option, List, [], ◌∷◌}
 use Rattle.account_core.specs.Entries.{EntryData}
 use Rattle.account_core.specs.declared.fault.AccountFault.{AccountFault}
-use Rattle.workers_core.specs.Handled.{AnswerView, Holding, IsHandled}
+use Rattle.runs_core.specs.Handled.{AnswerView, Holding, IsHandled}
 use Rattle.run_values.specs.Setups.{Setup}
-use Rattle.workers_core.specs.Verdicts.{DialogueAt}
+use Rattle.runs_core.specs.Verdicts.{DialogueAt}
 use Rattle.run_values.specs.declared.post.Post.{Post}
-use Rattle.workers_core.specs.Chains.{at_first, seat_numbers}
+use Rattle.runs_core.specs.Chains.{at_first, seat_numbers}
 
 -- a post is handled, and this is the last fault that an ask for it got, or none, where every ask for it was entered
 pub record IsHandledOnce (setup : Setup) (numbers : List ℕ) (post : Post) (refusal : Option AccountFault) (old new : Holding) : Type 0 where

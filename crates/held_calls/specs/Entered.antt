@@ -7,12 +7,12 @@ use Rattle.shared_account.specs.Closed.{Closed}
 use Rattle.shared_account.specs.Own.{own}
 use Rattle.shared_account.specs.Refusals.{Knowing}
 use Rattle.turn_account.specs.Seen.{IsBySeat, StoodIn}
-use Rattle.workers_core.specs.Chains.{refusals_in}
+use Rattle.runs_core.specs.Chains.{refusals_in}
 use Rattle.held_calls.specs.Chains.{IsWorked}
-use Rattle.workers_core.specs.Handled.{answer_view}
+use Rattle.runs_core.specs.Handled.{answer_view}
 use Rattle.held_calls.specs.Workers.{IsOnTerms, accepted_of}
 use Rattle.held_calls.specs.Owed.{NeverRefusesOwed}
-use Rattle.workers_core.specs.Served.{IsServed, credits_of}
+use Rattle.runs_core.specs.Served.{IsServed, credits_of}
 use Rattle.run_values.specs.Setups.{Setup, place_of}
 use Rattle.run_values.specs.declared.post.Answer.{Answer}
 use Rattle.run_values.specs.declared.post.Body.{Body}

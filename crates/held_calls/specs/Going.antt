@@ -9,12 +9,12 @@ use Rattle.run_values.specs.declared.post.Body.{Body}
 use Rattle.run_values.specs.declared.post.Body.TheVariants.{Ssf, Recharge}
 use Rattle.run_values.specs.declared.post.Post.{Post}
 use Rattle.runs_core.specs.Shares.{Item, item_of}
-use Rattle.workers_core.specs.Chains.{AreAnswered, at_first, seat_numbers}
-use Rattle.workers_core.specs.Handled.{AnswerView, Holding}
+use Rattle.runs_core.specs.Chains.{AreAnswered, at_first, seat_numbers}
+use Rattle.runs_core.specs.Handled.{AnswerView, Holding}
 use Rattle.held_calls.specs.Workers.{IsRunning, ends_call}
-use Rattle.workers_core.specs.Served.{Report, reported_in}
-use Rattle.workers_core.specs.Talks.{Showing}
-use Rattle.workers_core.specs.Verdicts.{home_of}
+use Rattle.runs_core.specs.Served.{Report, reported_in}
+use Rattle.runs_core.specs.Talks.{Showing}
+use Rattle.runs_core.specs.Verdicts.{home_of}
 
 -- whether operations pay for a period of a call: an ApplyCharging is among them
 abbrev pub pays : List Order → Bool

@@ -7,10 +7,10 @@ use Rattle.dialogue_core.specs.Phases.{Phase, FirstAsk, Running, Settling, MoreA
 use Rattle.run_values.specs.Setups.{Setup}
 use Rattle.run_values.specs.declared.post.Post.{Post}
 use Rattle.shared_account.specs.Own.{of_call}
-use Rattle.workers_core.specs.Chains.{at_first, seat_numbers}
+use Rattle.runs_core.specs.Chains.{at_first, seat_numbers}
 use Rattle.held_calls.specs.Chains.{AreHandled}
-use Rattle.workers_core.specs.Handled.{Holding}
-use Rattle.workers_core.specs.Verdicts.{DialogueAt}
+use Rattle.runs_core.specs.Handled.{Holding}
+use Rattle.runs_core.specs.Verdicts.{DialogueAt}
 
 -- a worker's own entries of a call at the account at a place, in order
 abbrev pub entries_at : ℕ → List (List EntryData) → ℕ → List EntryData

@@ -10,12 +10,12 @@ use Rattle.run_values.specs.declared.post.Body.TheVariants.{Ssf}
 use Rattle.run_values.specs.declared.post.Post.{Post}
 use Rattle.runs_core.specs.Shares.{item_of}
 use Rattle.price_core.specs.declared.times.TimeInfo.{TimeInfo}
-use Rattle.workers_core.specs.Chains.{AreAnswered, AnswersItsPosts, at_first, seat_numbers}
-use Rattle.workers_core.specs.Handled.{AnswerView, Holding, IsRightlyHandled}
+use Rattle.runs_core.specs.Chains.{AreAnswered, AnswersItsPosts, at_first, seat_numbers}
+use Rattle.runs_core.specs.Handled.{AnswerView, Holding, IsRightlyHandled}
 use Rattle.held_calls.specs.Workers.{IsRunning, ends_call}
 use Rattle.held_calls.specs.Owed.{NeverRefusesOwed}
-use Rattle.workers_core.specs.Served.{returns_of, settles_of}
-use Rattle.workers_core.specs.Talks.{Showing}
+use Rattle.runs_core.specs.Served.{returns_of, settles_of}
+use Rattle.runs_core.specs.Talks.{Showing}
 
 -- a worker has answered posts, and then this one, and each ask that was refused was refused rightly
 pub record IsAnsweredNext (Shows : ℕ → Showing) (setup : Setup) (number : ℕ) (before : List Post) (post : Post) (old new : Holding) : Type 0 where

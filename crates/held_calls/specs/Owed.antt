@@ -5,8 +5,8 @@ use Rattle.account_core.specs.Entries.{EntryData}
 use Rattle.account_core.specs.Places.{IsOwed}
 use Rattle.account_core.specs.declared.fault.AccountFault.{AccountFault}
 use Rattle.shared_account.specs.Refusals.{IsAlone, Knowing}
-use Rattle.workers_core.specs.Talks.{Showing}
-use Rattle.workers_core.specs.Refusals.{WasAt}
+use Rattle.runs_core.specs.Talks.{Showing}
+use Rattle.runs_core.specs.Refusals.{WasAt}
 
 -- a call is of the seat at each place alone
 abbrev pub IsAloneWith : {T : Type 0} → (T → Knowing) → List T → ℕ → Type 0

@@ -11,8 +11,8 @@ use Rattle.shared_account.specs.Closed.{Closed}
 use Rattle.shared_account.specs.Own.{of_call}
 use Rattle.turn_account.specs.Seen.{StoodIn}
 use Rattle.price_core.specs.declared.plan.TheConstants.{MAX_MONEY}
-use Rattle.workers_core.specs.Handled.{answer_view}
-use Rattle.workers_core.specs.Served.{returns_of, settles_of}
+use Rattle.runs_core.specs.Handled.{answer_view}
+use Rattle.runs_core.specs.Served.{returns_of, settles_of}
 
 -- in a run over accounts by turns, the Settles of a call in the book of an account are just the reports of the call that came while it went on there, in order, each with the
 -- number of its item

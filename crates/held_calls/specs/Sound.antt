@@ -1,10 +1,10 @@
 -- What a worker holds is in order after each post.
 use Rattle.std.specs.Prelude.{ℕ, List, Contains, IfSome, length}
-use Rattle.workers_core.specs.Handled.{Holding}
-use Rattle.workers_core.specs.Served.{AreServed, begun_of}
-use Rattle.workers_core.specs.Verdicts.{DialogueAt}
+use Rattle.runs_core.specs.Handled.{Holding}
+use Rattle.runs_core.specs.Served.{AreServed, begun_of}
+use Rattle.runs_core.specs.Verdicts.{DialogueAt}
 use Rattle.run_values.specs.declared.post.Post.{Post}
-use Rattle.workers_core.specs.Workers.{IsPlaced}
+use Rattle.runs_core.specs.Workers.{IsPlaced}
 
 -- a dialogue of a call, as `IsPlaced` says, whose call had an InitialDp among the posts
 pub record IsOwn (count : ℕ) (posts : List Post) (call : ℕ) (standing : DialogueAt) : Type 0 where

@@ -15,13 +15,13 @@ use Rattle.price_core.specs.RatesOf.{rates_of}
 use Rattle.tariff_core.specs.Routes.{HasNoRoute, IsRoute}
 use Rattle.price_core.specs.declared.route.Route.{Route}
 use Rattle.price_core.specs.declared.times.TimeInfo.{TimeInfo}
-use Rattle.workers_core.specs.Chains.{at_first, seat_numbers}
+use Rattle.runs_core.specs.Chains.{at_first, seat_numbers}
 use Rattle.held_calls.specs.Chains.{AreHandled, IsHandledOnce, IsWorked}
-use Rattle.workers_core.specs.Handled.{Holding, IsTalked, AnswerView}
-use Rattle.workers_core.specs.Served.{AreServed, IsPart, Money, Report, credits_of, recharged_in, reports_of, returns_of, settles_of}
+use Rattle.runs_core.specs.Handled.{Holding, IsTalked, AnswerView}
+use Rattle.runs_core.specs.Served.{AreServed, IsPart, Money, Report, credits_of, recharged_in, reports_of, returns_of, settles_of}
 use Rattle.run_values.specs.Setups.{Setup, place_of}
 use Rattle.dialogue_core.specs.Talks.{is_ask, orders_sent_by}
-use Rattle.workers_core.specs.Verdicts.{home_of}
+use Rattle.runs_core.specs.Verdicts.{home_of}
 use Rattle.run_values.specs.declared.post.Body.{Body}
 use Rattle.run_values.specs.declared.post.Body.TheVariants.{Ssf}
 use Rattle.run_values.specs.declared.post.Post.{Post}

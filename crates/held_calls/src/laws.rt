@@ -5,7 +5,7 @@ ghost use Rattle.held_calls.specs.Going.{PaidCallsGoOn};
 ghost use Rattle.held_calls.specs.Held.{CallsAreHeld};
 ghost use Rattle.held_calls.specs.Laws.{EndedCallsAreReturned, TakenReportsAreSettled, WorkedCallsAreReturned, WorkedReportsAreSettled};
 ghost use Rattle.held_calls.specs.Runs.{RunCallsAreReturned, RunCallsThatEndAreReturned, RunReportsAreSettled};
-ghost use Rattle.workers_core.specs.Refusals.{RefusesAt};
+ghost use Rattle.runs_core.specs.Refusals.{RefusesAt};
 
 use crate::runs::{run_calls_are_of_one_worker, run_owed_is_never_refused};
 use account_core::answers_fit_their_operations;

@@ -2,7 +2,7 @@
 
 ghost use Rattle.std.specs.Prelude.{ℕ, List};
 ghost use Rattle.held_calls.specs.Workers.{CallsAreReserved, CallsAreReturned, EntriesComeFromPosts, PostsAreHandled, RechargesAreEntered, ReportsAreSettled, ReservesAreOnTerms, WhatIsSaidIsSent};
-ghost use Rattle.workers_core.specs.Refusals.{RefusesAt};
+ghost use Rattle.runs_core.specs.Refusals.{RefusesAt};
 ghost use Rattle.held_calls.specs.Owed.{IsAloneWith, NeverRefusesOwed};
 
 use shared_account::Shared;

@@ -9,9 +9,9 @@ use Rattle.live_answers.specs.Laws.{LogsAreHeardAgain, accepted, last_behind, ne
 use Rattle.live_answers.specs.Lines.{with_line_end, kept, live_lines}
 use Rattle.live_answers.specs.Live.{Heard, heard_after, last_after, logged_of, next_after}
 use Rattle.live_answers.specs.Standing.{LineView, said_after, standing}
-use Rattle.message_rows.specs.declared.kind.LineKind.TheVariants as kind
-use Rattle.message_rows.specs.Lines.{line_message}
-use Rattle.message_rows.specs.Messages.{MessageView}
+use Rattle.run_texts.specs.declared.kind.LineKind.TheVariants as kind
+use Rattle.run_texts.specs.Lines.{line_message}
+use Rattle.run_texts.specs.Messages.{MessageView}
 use Rattle.run_texts.specs.Sections.{with_first_byte, lines_in_text}
 
 -- ---- the lines of a text

@@ -27,7 +27,7 @@ use Rattle.live_answers.specs.declared.stage.LiveFault.{LiveFault}
 use Rattle.live_answers.specs.declared.stage.LiveFault.TheVariants as fault
 use Rattle.live_answers.specs.declared.stage.Stage.{Stage}
 use Rattle.live_answers.specs.declared.stage.Stage.TheVariants as stage
-use Rattle.message_rows.specs.Messages.{Speech}
+use Rattle.run_texts.specs.Messages.{Speech}
 use Rattle.run_values.specs.declared.post.Answer.{Answer}
 use Rattle.run_values.specs.declared.post.Body.{Body}
 use Rattle.runs_core.specs.Hearing.{AnswersEach, HearsRounds, all_heard}

@@ -2,6 +2,8 @@ pub mod Again
 pub mod Chain
 pub mod GroupLemmas
 pub mod Growing
+pub mod HeadLemmas
 pub mod LineLemmas
-pub mod Replaying
+pub mod ReplayLemmas
+pub mod ServeLemmas
 pub mod Silence

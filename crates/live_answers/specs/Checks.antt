@@ -4,8 +4,8 @@ use Rattle.live_answers.specs.Live.{Heard}
 use Rattle.live_answers.specs.Standing.{LineView}
 use Rattle.live_answers.specs.declared.checking.ReplayFault.{ReplayFault}
 use Rattle.live_answers.specs.declared.checking.ReplayFault.TheVariants as fault
-use Rattle.message_rows.specs.declared.kind.LineKind.{LineKind}
-use Rattle.message_rows.specs.declared.kind.LineKind.TheVariants as kind
+use Rattle.run_texts.specs.declared.kind.LineKind.{LineKind}
+use Rattle.run_texts.specs.declared.kind.LineKind.TheVariants as kind
 use Rattle.table_core.specs.declared.fault.RowKind.TheVariants as row
 
 -- the moment of a line of a log, or what is wrong with it: it has to be accepted, and an empty one has no row

@@ -4,7 +4,7 @@ use Rattle.live_answers.specs.Lines.{live_lines}
 use Rattle.live_answers.specs.Rows.{line_behind_log, put_down, rows_of_line}
 use Rattle.live_answers.specs.Standing.{LineView, said_after}
 use Rattle.live_answers.specs.declared.replay.Replay.{Replay}
-use Rattle.message_rows.specs.Messages.{Speech, speech_of}
+use Rattle.run_texts.specs.Messages.{Speech, speech_of}
 use Rattle.run_values.specs.declared.post.Answer.{Answer}
 use Rattle.run_values.specs.declared.post.Body.{Body}
 

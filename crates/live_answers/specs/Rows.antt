@@ -1,13 +1,13 @@
 -- The rows that a live run prints of a line, and what it logs of it.
 use Rattle.std.specs.Prelude.{◌+◌, ℕ, Option, Some, None, List, [], ◌++◌, Ok, Err, codes, min, if◌then◌else◌, nat_lt}
 use Rattle.std.specs.Fmt.{decimal}
-use Rattle.message_rows.specs.Kinds.{line_kind_name}
+use Rattle.run_texts.specs.Kinds.{line_kind_name}
 use Rattle.live_answers.specs.Standing.{LineView}
-use Rattle.message_rows.specs.declared.kind.LineKind.{LineKind}
+use Rattle.run_texts.specs.declared.kind.LineKind.{LineKind}
 use Rattle.live_answers.specs.declared.replay.Replay.{Replay}
-use Rattle.message_rows.specs.Messages.{MessageView}
-use Rattle.moment_texts.specs.declared.clock.Clock.TheVariants as clock
-use Rattle.message_rows.specs.Tables.{answer_rows, head_text, trace_row}
+use Rattle.run_texts.specs.Messages.{MessageView}
+use Rattle.tariff_core.specs.declared.clock.Clock.TheVariants as clock
+use Rattle.run_texts.specs.Tables.{answer_rows, head_text, trace_row}
 use Rattle.run_values.specs.declared.post.Answer.{Answer}
 
 -- the row of the message of a number, and those of its answer, as in a trace

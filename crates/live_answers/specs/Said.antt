@@ -3,7 +3,7 @@ use Rattle.std.specs.Prelude.{◌≤◌, ℕ, Some, None, Ok, Err}
 use Rattle.live_answers.specs.Standing.{LineView}
 use Rattle.live_answers.specs.declared.judging.Said.{Said}
 use Rattle.live_answers.specs.declared.judging.Said.TheVariants as said
-use Rattle.message_rows.specs.Views.{view_of}
+use Rattle.run_texts.specs.MessageViews.{view_of}
 use Rattle.price_core.specs.declared.times.TheConstants.{HORIZON}
 
 -- what is said, as a trace prints it

@@ -1,11 +1,11 @@
 -- What a line says, after those before it.
 use Rattle.std.specs.Prelude.{◌-◌, ℕ, Option, Some, None, List, Result, Ok, Err, if◌then◌else◌, length, nat_lt, slice_get}
 use Rattle.std.specs.Result.{result_map_both}
-use Rattle.message_rows.specs.declared.kind.LineKind.{LineKind}
-use Rattle.message_rows.specs.declared.kind.LineKind.TheVariants as kind
+use Rattle.run_texts.specs.declared.kind.LineKind.{LineKind}
+use Rattle.run_texts.specs.declared.kind.LineKind.TheVariants as kind
 use Rattle.live_answers.specs.declared.line.TheConstants.{MAX_LINE}
-use Rattle.message_rows.specs.Lines.{line_message}
-use Rattle.message_rows.specs.Messages.{MessageView}
+use Rattle.run_texts.specs.Lines.{line_message}
+use Rattle.run_texts.specs.Messages.{MessageView}
 use Rattle.run_values.specs.declared.post.Body.{Body}
 use Rattle.table_core.specs.Judging.{and_then}
 use Rattle.table_core.specs.declared.fault.RowKind.{RowKind}

@@ -15,7 +15,7 @@ use std::thread::Threads;
 
 /// What a live run has come to.
 #[derive(Drop)]
-pub struct Answered {
+pub(crate) struct Answered {
     /// What was given, in order, each with its moment.
     pub given: Vec<(u64, Body)>,
     /// The books of the accounts.
@@ -27,18 +27,18 @@ pub struct Answered {
 /// Serves the messages of an input, each on a line of its own, by one worker, until the input ends.
 /// The lines are behind a header, which is line 1.
 ///
-/// A line is a row of a trace that a switch or an operator says, as `message_rows::read_line` reads
-/// it, ended by LF, or by the end of the input. It is accepted where its moment is not below that
-/// of the last accepted one, and where its number, if it has one, is how many were accepted before
-/// it. A line that isn't accepted changes nothing: its row `,,,service,fault,KIND,LINE,,` goes to
-/// the output. KIND is `TooLong` where it has more than `MAX_LINE` bytes; else what `read_line`
-/// says of it; else `Repeated` where its number is one that was accepted before; else `Order`, for
-/// a number that is too high, or for its moment. An empty line is passed over.
+/// A line is a row of a trace that a switch or an operator says, as `run_texts::read_message_line`
+/// reads it, ended by LF, or by the end of the input. It is accepted where its moment is not below
+/// that of the last accepted one, and where its number, if it has one, is how many were accepted
+/// before it. A line that isn't accepted changes nothing: its row `,,,service,fault,KIND,LINE,,`
+/// goes to the output. KIND is `TooLong` where it has more than `MAX_LINE` bytes; else what
+/// `read_message_line` says of it; else `Repeated` where its number is one that was accepted before;
+/// else `Order`, for a number that is too high, or for its moment. An empty line is passed over.
 ///
 /// The run waits for the next line, and takes with it the whole lines that the reader has at hand
 /// behind it, but no more than `MAX_GROUP` lines. The accepted ones are written to the log, each
 /// with its LF, by one write, and flushed; then they are handled; then the rows of all of them,
-/// with those of the answers as `message_rows::trace_table` has them, are written to the output in
+/// with those of the answers as `run_texts::trace_table` has them, are written to the output in
 /// order, by one write, and flushed. Only then the run waits for a further line. So lines that come
 /// together share a flush of the log and one of the output, and a line alone waits for no other.
 ///
@@ -54,7 +54,7 @@ pub struct Answered {
 ///   messages were given, and output and log have grown by just what the lines and the answers come
 ///   to.
 /// * `fault`: the errors are those of `runs_core::serve`, but for `Workers` and `GateClosed`.
-pub fn answer_live<R: Wait + Threads + Sync, I: BufRead + Drop, O: Write, L: Write>(
+pub(crate) fn answer_live<R: Wait + Threads + Sync, I: BufRead + Drop, O: Write, L: Write>(
     rt: &R,
     alloc: Global,
     setup: &RunSetup,

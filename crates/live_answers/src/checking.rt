@@ -10,13 +10,13 @@ ghost use Rattle.live_answers.specs.declared.checking.ReplayFault.TheVariants as
 use crate::fault::Stop;
 use crate::judging::{Said, judge};
 use crate::line::take_line;
-use message_rows::LineKind;
+use run_texts::LineKind;
 use std::alloc::{AllocError, Global};
 use table_core::RowKind;
 
 /// Why the lines of a log can't be heard again.
 #[derive(Clone, Copy, Debug, PartialEq, Eq)]
-pub enum ReplayFault {
+pub(crate) enum ReplayFault {
     /// A line isn't accepted: its row, where the header in front of the lines is row 1, and what is
     /// wrong with it.
     Line(u64, LineKind),
@@ -49,7 +49,7 @@ impl From<Stop> for ReplayFault {
 ///
 /// The error is the first line that it wouldn't accept, with its row and what is wrong with it: an
 /// empty line is `Csv`.
-pub fn check_replay(alloc: Global, lines: &[u8]) -> Result<usize, ReplayFault>
+pub(crate) fn check_replay(alloc: Global, lines: &[u8]) -> Result<usize, ReplayFault>
     ensures { IsChecked (heard_in lines.now) result }
 {
     let mut input = lines;

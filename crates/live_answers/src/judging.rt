@@ -5,13 +5,13 @@ ghost use Rattle.std.specs.Result.{result_map_both};
 ghost use Rattle.live_answers.specs.Live.{next_after};
 ghost use Rattle.live_answers.specs.Said.{IsInRange, line_view_of};
 ghost use Rattle.live_answers.specs.Standing.{in_time, last_item_moment, placed, said_after};
-ghost use Rattle.message_rows.specs.declared.kind.LineKind.TheVariants as kinds;
-ghost use Rattle.message_rows.specs.Views.{view_of};
+ghost use Rattle.run_texts.specs.declared.kind.LineKind.TheVariants as kinds;
+ghost use Rattle.run_texts.specs.MessageViews.{view_of};
 ghost use Rattle.table_core.specs.Judging.{and_then};
 
 use crate::MAX_LINE;
-use message_rows::{LineKind, Message, read_line};
 use price_core::HORIZON;
+use run_texts::{LineKind, Message, read_message_line};
 use run_values::Body;
 use std::alloc::{AllocError, Global};
 use table_core::RowKind;
@@ -48,7 +48,7 @@ pub(crate) fn judge(alloc: Global, next: u64, last: u64, line: &[u8]) -> Result<
     if line.len() > MAX_LINE {
         return Ok(Said::Fault(LineKind::TooLong));
     }
-    let Ok(found) = read_line(alloc, line) else {
+    let Ok(found) = read_message_line(alloc, line) else {
         return Err(AllocError);
     };
     let Some(read) = found else {

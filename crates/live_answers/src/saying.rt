@@ -13,13 +13,13 @@ ghost use Rattle.run_values.specs.declared.post.Body.{Body};
 use crate::fault::Stop;
 use crate::judging::Said;
 use crate::{LiveFault, Replay};
-use message_rows::write_rows;
-use moment_texts::Clock;
 use price_core::HORIZON;
 use rating::write_text;
+use run_texts::write_rows;
 use run_values::{Answer, Body};
 use std::alloc::{AllocError, Global};
 use std::io::Write;
+use tariff_core::Clock;
 
 /// Prints what lines said that are behind the line of a number: of each the rows of its message,
 /// with those of its answer, or the row of what is wrong with it. So many messages were accepted

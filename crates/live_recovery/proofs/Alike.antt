@@ -15,8 +15,8 @@ use Rattle.run_values.specs.Setups.{Setup, place_of}
 use Rattle.run_values.specs.declared.post.Body.{Body}
 use Rattle.run_values.specs.declared.post.Body.TheVariants.{Ssf, Recharge}
 use Rattle.runs_core.specs.Shares.{Item}
-use Rattle.workers_core.specs.Handled.{AnswerView, Holding, IsDone}
-use Rattle.workers_core.specs.Verdicts.{DialogueAt, IsRouted, Verdict, begins, fresh_call, goes_on, home_of, spoken, verdict_on}
+use Rattle.runs_core.specs.Handled.{AnswerView, Holding, IsDone}
+use Rattle.runs_core.specs.Verdicts.{DialogueAt, IsRouted, Verdict, begins, fresh_call, goes_on, home_of, spoken, verdict_on}
 
 -- ---- what is said
 

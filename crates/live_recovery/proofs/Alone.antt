@@ -25,8 +25,8 @@ use Rattle.shared_account.specs.Closed.{Closed}
 use Rattle.shared_account.specs.Own.{own}
 use Rattle.turn_account.specs.Seen.{StoodIn}
 use Rattle.shared_account.specs.Terms.{Terms}
-use Rattle.workers_core.specs.Chains.{at_first, seat_numbers}
-use Rattle.workers_core.specs.Handled.{AnswerView}
+use Rattle.runs_core.specs.Chains.{at_first, seat_numbers}
+use Rattle.runs_core.specs.Handled.{AnswerView}
 use native.Mathlib.Nat.{mod-one}
 
 -- ---- all is the one worker's

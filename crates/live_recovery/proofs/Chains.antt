@@ -9,12 +9,12 @@ use Rattle.run_values.specs.declared.post.Body.{Body}
 use Rattle.run_values.specs.declared.post.Body.TheVariants.{Ssf, Recharge}
 use Rattle.run_values.specs.declared.post.Post.{Post}
 use Rattle.runs_core.specs.Shares.{Item, item_of}
-use Rattle.workers_core.proofs.Handling.{means_on, placed_after}
-use Rattle.workers_core.specs.Chains.{AreAnswered}
-use Rattle.workers_core.specs.Handled.{AnswerView, Holding, IsDone}
-use Rattle.workers_core.specs.Talks.{Showing}
-use Rattle.workers_core.specs.Verdicts.{DialogueAt, Verdict, spoken, verdict, verdict_on}
-use Rattle.workers_core.specs.Workers.{ArePlaced}
+use Rattle.runs_core.proofs.Handling.{means_on, placed_after}
+use Rattle.runs_core.specs.Chains.{AreAnswered}
+use Rattle.runs_core.specs.Handled.{AnswerView, Holding, IsDone}
+use Rattle.runs_core.specs.Talks.{Showing}
+use Rattle.runs_core.specs.Verdicts.{DialogueAt, Verdict, spoken, verdict, verdict_on}
+use Rattle.runs_core.specs.Workers.{ArePlaced}
 
 -- no ask was refused for any of these answers
 abbrev pub NoFault : List AnswerView → Type 0

@@ -9,7 +9,7 @@ use Rattle.live_answers.specs.Live.{Heard, given_by, given_of, heard_after, hear
 use Rattle.live_answers.specs.Rows.{put_down}
 use Rattle.live_answers.specs.Standing.{LineView, said_after}
 use Rattle.live_recovery.specs.Recovery.{rest_heard_behind}
-use Rattle.message_rows.specs.Messages.{Speech}
+use Rattle.run_texts.specs.Messages.{Speech}
 use Rattle.run_texts.specs.Sections.{with_first_byte, lines_in_text}
 
 -- ---- the first lines of a text are a text

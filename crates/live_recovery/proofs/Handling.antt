@@ -17,11 +17,11 @@ use Rattle.run_values.specs.Setups.{Setup}
 use Rattle.run_values.specs.declared.post.Post.{Post}
 use Rattle.shared_account.proofs.Beginnings.{begins_itself, begins_further}
 use Rattle.shared_account.specs.Prefixes.{IsPrefix}
-use Rattle.workers_core.proofs.Handling.{Means, at_place, standing_so}
-use Rattle.workers_core.specs.Handled.{AnswerView, Holding, IsDone, IsRecharged, IsTalked, IsUnasked, Stay, StandsNow, grown}
-use Rattle.workers_core.specs.Talks.{AllAsk, entries_of, last_fault}
-use Rattle.workers_core.specs.Verdicts.{Begins, DialogueAt, GoesOn, Recharges, Rejects, Strays, Verdict}
-use Rattle.workers_core.specs.Workers.{ArePlaced, IsPlaced}
+use Rattle.runs_core.proofs.Handling.{Means, at_place, standing_so}
+use Rattle.runs_core.specs.Handled.{AnswerView, Holding, IsDone, IsRecharged, IsTalked, IsUnasked, Stay, StandsNow, grown}
+use Rattle.runs_core.specs.Talks.{AllAsk, entries_of, last_fault}
+use Rattle.runs_core.specs.Verdicts.{Begins, DialogueAt, GoesOn, Recharges, Rejects, Strays, Verdict}
+use Rattle.runs_core.specs.Workers.{ArePlaced, IsPlaced}
 
 -- ---- lists grow
 

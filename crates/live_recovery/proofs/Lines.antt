@@ -10,8 +10,8 @@ use Rattle.live_answers.specs.Lines.{with_line_end, kept}
 use Rattle.live_answers.specs.Live.{Heard, heard_after, last_after, logged_of, next_after}
 use Rattle.live_answers.specs.Rows.{put_down}
 use Rattle.live_answers.specs.Standing.{LineView, said_after, standing}
-use Rattle.message_rows.specs.declared.kind.LineKind.TheVariants as kind
-use Rattle.message_rows.specs.Lines.{line_message}
+use Rattle.run_texts.specs.declared.kind.LineKind.TheVariants as kind
+use Rattle.run_texts.specs.Lines.{line_message}
 use Rattle.run_texts.specs.Sections.{with_first_byte, lines_in_text}
 
 -- ---- texts that end with LF, and texts without one

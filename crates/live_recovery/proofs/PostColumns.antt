@@ -14,14 +14,14 @@ use Rattle.cap_values.specs.declared.mode.Mode.{Mode}
 use Rattle.cap_values.specs.declared.mode.Mode.TheVariants as mode
 use Rattle.book_texts.specs.Fits.{FitsReport, IsInterval, IsMoment, IsMoney, IsTime, IsWide}
 use Rattle.live_recovery.specs.Posts.{FitsMessage, FitsPost, message_of_post}
-use Rattle.message_rows.specs.Messages.{event_message_in, interval_in, leg_in, message_in, mode_in, report_state_in}
-use Rattle.moment_texts.specs.Laws.{MomentsAreRead}
-use Rattle.moment_texts.specs.Printing.{moment_or_empty, moment_text}
-use Rattle.moment_texts.specs.Reading.{date_and_time_of, moment_of}
-use Rattle.moment_texts.specs.declared.clock.Clock.{Clock}
+use Rattle.run_texts.specs.Messages.{event_message_in, interval_in, leg_in, message_in, mode_in, report_state_in}
+use Rattle.tariff_core.specs.MomentLaws.{MomentsAreRead}
+use Rattle.tariff_core.specs.Printing.{moment_or_empty, moment_text}
+use Rattle.tariff_core.specs.Reading.{date_and_time_of, moment_of}
+use Rattle.tariff_core.specs.declared.clock.Clock.{Clock}
 use Rattle.run_texts.specs.Setups.{until_in}
-use Rattle.message_rows.specs.Said.{Said, event_word, leg_number, mode_word, post_said, state_word}
-use Rattle.message_rows.specs.Tables.{call_of_post, sender_of}
+use Rattle.run_texts.specs.Said.{Said, event_word, leg_number, mode_word, post_said, state_word}
+use Rattle.run_texts.specs.Tables.{call_of_post, sender_of}
 use Rattle.run_values.specs.declared.post.Body.{Body}
 use Rattle.run_values.specs.declared.post.Body.TheVariants as body
 use Rattle.table_core.specs.Decimals.{decimal_of}

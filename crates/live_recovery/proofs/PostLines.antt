@@ -21,12 +21,12 @@ use Rattle.cap_values.specs.declared.number.Number.{Number}
 use Rattle.book_texts.specs.Fits.{IsInterval}
 use Rattle.live_recovery.proofs.PostColumns.{post_fields, post_read, row_fields}
 use Rattle.live_recovery.specs.Posts.{FitsBody, FitsPost, PostsAreRead}
-use Rattle.message_rows.proofs.PlainLines.{low_is_no_mark}
-use Rattle.moment_texts.specs.Laws.{MomentsArePlain, MomentsAreRead}
-use Rattle.moment_texts.specs.Printing.{moment_or_empty, moment_text}
-use Rattle.moment_texts.specs.declared.clock.Clock.{Clock}
-use Rattle.message_rows.specs.Said.{Said, event_word, leg_number, mode_word, post_said, state_word}
-use Rattle.message_rows.specs.Tables.{call_of_post, head_of, trace_row, sender_of}
+use Rattle.run_texts.proofs.PlainLines.{low_is_no_mark}
+use Rattle.tariff_core.specs.MomentLaws.{MomentsArePlain, MomentsAreRead}
+use Rattle.tariff_core.specs.Printing.{moment_or_empty, moment_text}
+use Rattle.tariff_core.specs.declared.clock.Clock.{Clock}
+use Rattle.run_texts.specs.Said.{Said, event_word, leg_number, mode_word, post_said, state_word}
+use Rattle.run_texts.specs.Tables.{call_of_post, head_of, trace_row, sender_of}
 use Rattle.run_values.specs.declared.post.Body.{Body}
 use Rattle.run_values.specs.declared.post.Body.TheVariants as body
 use Rattle.table_core.specs.Printed.{DecimalsArePlain, DecimalsAreRead, IsPlain, IsPlainRow, TablesAreRead, line_of, lines_of}

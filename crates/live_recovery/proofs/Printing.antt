@@ -14,12 +14,12 @@ use Rattle.live_answers.specs.Standing.{LineView}
 use Rattle.live_answers.specs.declared.replay.Replay.{Replay}
 use Rattle.live_recovery.proofs.Alone.{runs_alike}
 use Rattle.live_recovery.specs.Laws.{RestartsPrintTheRest, views_of}
-use Rattle.message_rows.specs.Messages.{MessageView}
-use Rattle.message_rows.specs.Said.{Said, alone, answer_said, operation_said, refused_said, release_word, stray_said}
-use Rattle.moment_texts.specs.declared.clock.Clock.TheVariants as clock
-use Rattle.message_rows.specs.Tables.{answer_rows, head_text, trace_row, service_rows}
+use Rattle.run_texts.specs.Messages.{MessageView}
+use Rattle.run_texts.specs.Said.{Said, alone, answer_said, operation_said, refused_said, release_word, stray_said}
+use Rattle.tariff_core.specs.declared.clock.Clock.TheVariants as clock
+use Rattle.run_texts.specs.Tables.{answer_rows, head_text, trace_row, service_rows}
 use Rattle.run_values.specs.declared.post.Answer.{Answer}
-use Rattle.workers_core.specs.Handled.{AnswerView, answer_view}
+use Rattle.runs_core.specs.Handled.{AnswerView, answer_view}
 use Rattle.table_core.specs.Fields.{number_or_empty}
 
 -- what an order says

@@ -9,14 +9,14 @@ use Rattle.cap_values.specs.declared.event.Event.{Event}
 use Rattle.cap_values.specs.declared.mode.Mode.{Mode}
 use Rattle.live_answers.specs.Live.{Heard, given_by, given_of, heard_after, last_after, next_after}
 use Rattle.live_answers.specs.Standing.{LineView, in_time, numbered_message, placed, said_after, standing}
-use Rattle.message_rows.specs.declared.kind.LineKind.TheVariants as kind
+use Rattle.run_texts.specs.declared.kind.LineKind.TheVariants as kind
 use Rattle.live_recovery.proofs.Decimals.{IsShort, is_short}
-use Rattle.message_rows.specs.Lines.{line_message, message_of, nine}
-use Rattle.message_rows.specs.Messages.{MessageView, Speech, message_call_in, charging_report_in, ended_message_in, event_message_in, event_report_in, initial_in, interval_in, leg_in, message_in, mode_in, report_without_switch, of_switch, recharge_message_in, report_state_in, report_with_switch, switched_in, message_when_blank}
-use Rattle.moment_texts.specs.Fields.{moment_in}
-use Rattle.moment_texts.specs.Reading.{at_most, date_and_time_of, moment_of}
+use Rattle.run_texts.specs.Lines.{line_message, message_of, nine}
+use Rattle.run_texts.specs.Messages.{MessageView, Speech, message_call_in, charging_report_in, ended_message_in, event_message_in, event_report_in, initial_in, interval_in, leg_in, message_in, mode_in, report_without_switch, of_switch, recharge_message_in, report_state_in, report_with_switch, switched_in, message_when_blank}
+use Rattle.tariff_core.specs.Fields.{moment_in}
+use Rattle.tariff_core.specs.Reading.{at_most, date_and_time_of, moment_of}
 use Rattle.run_texts.specs.Setups.{account_in, amount_in, party_in, until_in}
-use Rattle.message_rows.specs.Said.{Said, report_said}
+use Rattle.run_texts.specs.Said.{Said, report_said}
 use Rattle.table_core.specs.Decimals.{decimal_of}
 use Rattle.table_core.specs.Fields.{counted_if_any, field_in, has_word, number_in, number_or_empty, optional_in, present}
 use Rattle.table_core.specs.Judging.{and_then}

@@ -19,11 +19,11 @@ use Rattle.live_recovery.specs.Laws.{views_of}
 use Rattle.tariff_core.proofs.Proper.{read_is_proper}
 use Rattle.tariff_core.specs.Laws.{IsProper}
 use Rattle.live_recovery.specs.Recovery.{CutOffRunsGoOn, GoesOnBehind, HearsAgain, IsLive, IsResumed, IsUncut, LiveRun, LiveRunsAreAlike, StoppedLogsAreRight, StoppedRunsGoOn, front_of, rest_heard_behind, text_again, text_anew, with_further}
-use Rattle.message_rows.specs.Messages.{Speech}
+use Rattle.run_texts.specs.Messages.{Speech}
 use Rattle.run_values.specs.Setups.{Setup}
 use Rattle.run_values.specs.declared.post.Answer.{Answer}
 use Rattle.shared_account.specs.Closed.{Closed}
-use Rattle.workers_core.specs.Handled.{AnswerView}
+use Rattle.runs_core.specs.Handled.{AnswerView}
 
 -- ---- a run that was given the first of what another one was given
 

@@ -8,7 +8,7 @@ use Rattle.tariff_core.specs.Laws.{IsProper}
 use Rattle.price_core.specs.Rates.{Rates}
 use Rattle.price_core.specs.RatesOf.{rates_of}
 use Rattle.price_core.specs.declared.route.Route.{Route}
-use Rattle.workers_core.specs.Verdicts.{IsRouted}
+use Rattle.runs_core.specs.Verdicts.{IsRouted}
 
 -- what a dialogue asks first, by what its route costs and when that switches
 abbrev begun : ℕ → ℕ → ℕ → ℕ → Rates → Option ℕ → Says × Phase

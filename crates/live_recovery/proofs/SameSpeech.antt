@@ -10,10 +10,10 @@ use Rattle.cap_values.specs.declared.mode.Mode.TheVariants as mode
 use Rattle.live_answers.specs.Live.{item_view}
 use Rattle.live_recovery.proofs.Alike.{GoAlike, SaysAlike, SpeakAlike}
 use Rattle.live_recovery.proofs.Decimals.{IsShort, same_number, same_option}
-use Rattle.message_rows.specs.Messages.{Speech, event_message_in, mode_in, speech_of}
-use Rattle.moment_texts.specs.Printing.{moment_or_empty}
-use Rattle.moment_texts.specs.declared.clock.Clock.TheVariants as clock
-use Rattle.message_rows.specs.Said.{Said, event_word as word_of, message_said, mode_word, report_said, state_word}
+use Rattle.run_texts.specs.Messages.{Speech, event_message_in, mode_in, speech_of}
+use Rattle.tariff_core.specs.Printing.{moment_or_empty}
+use Rattle.tariff_core.specs.declared.clock.Clock.TheVariants as clock
+use Rattle.run_texts.specs.Said.{Said, event_word as word_of, message_said, mode_word, report_said, state_word}
 use Rattle.run_values.specs.declared.post.Body.{Body}
 use Rattle.run_values.specs.declared.post.Body.TheVariants.{Ssf, Recharge}
 use Rattle.runs_core.specs.Shares.{Item, numbered as items_from}

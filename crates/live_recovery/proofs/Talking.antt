@@ -10,7 +10,7 @@ use Rattle.dialogue_core.specs.Phases.{Phase, Says, Asks, Sends, Finished}
 use Rattle.dialogue_core.specs.Talks.{Got, is_ask, talked}
 use Rattle.shared_account.proofs.Beginnings.{begins_further, legal_begins}
 use Rattle.shared_account.specs.Prefixes.{IsPrefix}
-use Rattle.workers_core.specs.Talks.{AllAsk, entries_of, entry_of, last_fault}
+use Rattle.runs_core.specs.Talks.{AllAsk, entries_of, entry_of, last_fault}
 
 -- ---- lists that end alike
 

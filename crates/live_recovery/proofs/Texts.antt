@@ -13,7 +13,7 @@ use Rattle.live_recovery.proofs.Printing.{Agree, none_less, no_fewer, same_text}
 use Rattle.live_recovery.specs.Laws.{views_of}
 use Rattle.live_recovery.specs.Recovery.{rows_again, text_again}
 use Rattle.run_values.specs.declared.post.Answer.{Answer}
-use Rattle.workers_core.specs.Handled.{AnswerView, answer_view}
+use Rattle.runs_core.specs.Handled.{AnswerView, answer_view}
 
 -- nothing was heard before
 abbrev pub nothing : Replay

@@ -10,7 +10,7 @@ use Rattle.runs_core.specs.Runs.{IsRun}
 use Rattle.shared_account.specs.Closed.{Closed}
 use Rattle.turn_account.specs.Seen.{StoodIn}
 use Rattle.tariff_core.specs.Laws.{IsProper}
-use Rattle.workers_core.specs.Handled.{AnswerView, answer_view}
+use Rattle.runs_core.specs.Handled.{AnswerView, answer_view}
 
 -- no account has refused an ask for any of these answers
 abbrev pub NoneIsRefused : List Answer → Type 0

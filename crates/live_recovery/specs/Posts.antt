@@ -3,11 +3,11 @@ use Rattle.std.specs.Prelude.{◌≡◌, ◌≤◌, ℕ, IfSome, Some, Ok}
 use Rattle.cap_values.specs.declared.message.SsfMsg.{SsfMsg}
 use Rattle.cap_values.specs.declared.message.SsfMsg.TheVariants as message
 use Rattle.book_texts.specs.Fits.{FitsReport, IsMoment, IsMoney, IsWide}
-use Rattle.moment_texts.specs.declared.clock.Clock.{Clock}
-use Rattle.message_rows.specs.Lines.{line_message}
-use Rattle.message_rows.specs.Messages.{MessageView, speech_of}
-use Rattle.message_rows.specs.Said.{post_said}
-use Rattle.message_rows.specs.Tables.{head_of, trace_row, sender_of}
+use Rattle.tariff_core.specs.declared.clock.Clock.{Clock}
+use Rattle.run_texts.specs.Lines.{line_message}
+use Rattle.run_texts.specs.Messages.{MessageView, speech_of}
+use Rattle.run_texts.specs.Said.{post_said}
+use Rattle.run_texts.specs.Tables.{head_of, trace_row, sender_of}
 use Rattle.run_values.specs.declared.post.Body.{Body}
 use Rattle.run_values.specs.declared.post.Body.TheVariants as body
 use Rattle.price_core.specs.declared.times.TheConstants.{MAX_MOMENT}

@@ -21,7 +21,7 @@ use Rattle.runs_core.specs.Runs.{IsRun}
 use Rattle.shared_account.specs.Closed.{Closed}
 use Rattle.turn_account.specs.Seen.{StoodIn}
 use Rattle.tariff_core.specs.Laws.{IsReadTariff}
-use Rattle.workers_core.specs.Handled.{AnswerView}
+use Rattle.runs_core.specs.Handled.{AnswerView}
 
 -- ---- runs
 

@@ -35,7 +35,8 @@ pub fn live_runs_are_alike()
 
 /// What is left of the log of a run that was stopped at any byte, as where its process was killed:
 /// its whole lines are those of the messages in the first lines of the input, so many of them as
-/// are left, each once and in order. `live_answers::check_replay` finds none of them wrong.
+/// are left, each once and in order. A check of them, before they are heard, finds none of them
+/// wrong.
 pub fn stopped_logs_are_right()
     ensures { StoppedLogsAreRight }
 {
@@ -62,7 +63,7 @@ pub fn stopped_runs_go_on()
     logs_are_heard_again();
 }
 
-/// The same by what two live runs come to (`live_answers::answer_live`). The first was cut off
+/// The same by what two live runs come to. The first was cut off
 /// anywhere, be it that the output, the log or the input failed, or it has ended; its log was a
 /// head alone before. The second begins with the whole lines of that log (`live_log::find_lines`),
 /// and goes on with further lines. Besides what `stopped_runs_go_on` says:

@@ -30,8 +30,8 @@ use Rattle.runs_core.specs.Teams.{terms_with}
 use Rattle.shared_account.specs.Closed.{Closed}
 use Rattle.turn_account.specs.Seen.{StoodIn}
 use Rattle.shared_account.specs.Terms.{Terms}
-use Rattle.workers_core.specs.Chains.{AreAnswered, at_first, seat_numbers}
-use Rattle.workers_core.specs.Handled.{AnswerView, Holding, answer_view}
+use Rattle.runs_core.specs.Chains.{AreAnswered, at_first, seat_numbers}
+use Rattle.runs_core.specs.Handled.{AnswerView, Holding, answer_view}
 
 module _ (setup : Setup) (choice : Choice) where
   -- ---- the posts of both

@@ -11,11 +11,11 @@ use Rattle.run_values.specs.Setups.{Setup, account_of, place_of}
 use Rattle.run_values.specs.declared.post.Body.{Body}
 use Rattle.run_values.specs.declared.post.Body.TheVariants.{Ssf, Recharge}
 use Rattle.run_values.specs.declared.post.Post.{Post}
-use Rattle.workers_core.proofs.Handling.{Means, at_place, means_on}
-use Rattle.workers_core.specs.Chains.{AreAnswered}
-use Rattle.workers_core.specs.Handled.{AnswerView, Holding, IsDone, IsRightlyHandled, IsTalked, StandsNow, Stay, grown}
-use Rattle.workers_core.specs.Talks.{Showing}
-use Rattle.workers_core.specs.Verdicts.{Begins, DialogueAt, GoesOn, Recharges, Rejects, Strays, Verdict, spoken, verdict, verdict_on}
+use Rattle.runs_core.proofs.Handling.{Means, at_place, means_on}
+use Rattle.runs_core.specs.Chains.{AreAnswered}
+use Rattle.runs_core.specs.Handled.{AnswerView, Holding, IsDone, IsRightlyHandled, IsTalked, StandsNow, Stay, grown}
+use Rattle.runs_core.specs.Talks.{Showing}
+use Rattle.runs_core.specs.Verdicts.{Begins, DialogueAt, GoesOn, Recharges, Rejects, Strays, Verdict, spoken, verdict, verdict_on}
 
 -- ---- the lists of some places
 

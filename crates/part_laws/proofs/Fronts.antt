@@ -15,12 +15,12 @@ use Rattle.runs_core.specs.Hearing.{IsAnsweredBy}
 use Rattle.runs_core.specs.Shares.{Item, item_of, numbered}
 use Rattle.turn_account.specs.Seen.{StoodIn}
 use Rattle.tariff_core.specs.Laws.{IsProper}
-use Rattle.workers_core.proofs.Handling.{placed_after}
-use Rattle.workers_core.specs.Chains.{AreAnswered, at_first, seat_numbers}
-use Rattle.workers_core.specs.Handled.{AnswerView, Holding}
-use Rattle.workers_core.specs.Talks.{Showing}
-use Rattle.workers_core.specs.Verdicts.{verdict}
-use Rattle.workers_core.specs.Workers.{ArePlaced}
+use Rattle.runs_core.proofs.Handling.{placed_after}
+use Rattle.runs_core.specs.Chains.{AreAnswered, at_first, seat_numbers}
+use Rattle.runs_core.specs.Handled.{AnswerView, Holding}
+use Rattle.runs_core.specs.Talks.{Showing}
+use Rattle.runs_core.specs.Verdicts.{verdict}
+use Rattle.runs_core.specs.Workers.{ArePlaced}
 
 same_items : (one other : Item) → one ≡ other → ItemsAlike one other
 same_items one other same = record {

@@ -13,8 +13,8 @@ use Rattle.part_laws.specs.Numbers.{unnumbered_answer}
 use Rattle.run_values.specs.declared.post.Answer.{Answer}
 use Rattle.run_values.specs.declared.post.Body.{Body}
 use Rattle.runs_core.specs.Shares.{Item, item_at}
-use Rattle.workers_core.specs.Chains.{at_first, seat_numbers}
-use Rattle.workers_core.specs.Handled.{AnswerView}
+use Rattle.runs_core.specs.Chains.{at_first, seat_numbers}
+use Rattle.runs_core.specs.Handled.{AnswerView}
 
 -- the answers to the first items are the first of all answers
 front_answers : (choice : Choice) (given more : List (ℕ × Body)) (answers : List Answer) → length given ≤ length answers

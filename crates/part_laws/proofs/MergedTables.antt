@@ -8,7 +8,7 @@ use Rattle.std.proofs.lemmas.List.{get_or-map, length-map}
 use Rattle.std.proofs.lemmas.Map.Keys.{non_decreasing_from_sorted}
 use Rattle.run_outputs.specs.Tables.{call_header, call_text, record_row}
 use Rattle.run_outputs.specs.declared.call_record.CallRecord.{CallRecord}
-use Rattle.moment_texts.specs.declared.clock.Clock.{Clock}
+use Rattle.tariff_core.specs.declared.clock.Clock.{Clock}
 use Rattle.part_laws.proofs.InOrder.{ComesInOrder, rise}
 use Rattle.part_laws.proofs.Merged.{at_number}
 use Rattle.part_laws.proofs.Joined.{part_within}

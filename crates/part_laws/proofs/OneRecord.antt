@@ -17,7 +17,7 @@ use Rattle.run_outputs.specs.Tables.{record_row}
 use Rattle.run_outputs.specs.declared.call_record.CallRecord.{CallRecord}
 use Rattle.cap_values.specs.NumberDigits.{digits_of_number}
 use Rattle.cap_values.specs.declared.number.Number.{Number}
-use Rattle.moment_texts.specs.declared.clock.Clock.{Clock}
+use Rattle.tariff_core.specs.declared.clock.Clock.{Clock}
 use Rattle.part_laws.proofs.MergedTables.{row_of}
 use Rattle.tariff_core.specs.Bands.{Band}
 use Rattle.tariff_core.specs.Laws.{OnePrefixCounts}

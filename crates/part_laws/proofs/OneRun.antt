@@ -30,7 +30,7 @@ use Rattle.shared_account.specs.Closed.{Closed}
 use Rattle.turn_account.specs.Seen.{StoodIn}
 use Rattle.ssf_core.specs.Calls.{View}
 use Rattle.tariff_core.specs.Laws.{IsProper}
-use Rattle.workers_core.specs.Handled.{AnswerView, answer_view}
+use Rattle.runs_core.specs.Handled.{AnswerView, answer_view}
 
 -- ---- what was given stays and grows
 

@@ -21,7 +21,7 @@ use Rattle.script_player.specs.Plays.{Play}
 use Rattle.script_player.specs.Rounds.{waiting}
 use Rattle.ssf_core.specs.Deliveries.{deliveries_at}
 use Rattle.ssf_core.specs.declared.deliveries.Delivery.{Delivery}
-use Rattle.workers_core.specs.Handled.{AnswerView}
+use Rattle.runs_core.specs.Handled.{AnswerView}
 use Rattle.cap_values.specs.Orders.{operations_in}
 
 -- ---- item by item

@@ -22,10 +22,10 @@ use Rattle.run_values.specs.declared.post.Body.{Body}
 use Rattle.run_values.specs.declared.post.Body.TheVariants.{Ssf, Recharge}
 use Rattle.run_values.specs.declared.post.Post.{Post}
 use Rattle.price_core.specs.declared.route.Route.{Route}
-use Rattle.workers_core.specs.Chains.{AreAnswered}
-use Rattle.workers_core.specs.Handled.{AnswerView, AreRefusedRightly, Holding, IsDone, IsRightlyHandled, IsTalked, grown}
-use Rattle.workers_core.specs.Talks.{AllAsk, AreRightlyGot, IsRightlyGot, Showing, entries_of, entry_of}
-use Rattle.workers_core.specs.Verdicts.{Begins, DialogueAt, GoesOn, Recharges, Rejects, Strays, Verdict, begins, fresh_call, goes_on, home_of, recharged, spoken, verdict, verdict_on}
+use Rattle.runs_core.specs.Chains.{AreAnswered}
+use Rattle.runs_core.specs.Handled.{AnswerView, AreRefusedRightly, Holding, IsDone, IsRightlyHandled, IsTalked, grown}
+use Rattle.runs_core.specs.Talks.{AllAsk, AreRightlyGot, IsRightlyGot, Showing, entries_of, entry_of}
+use Rattle.runs_core.specs.Verdicts.{Begins, DialogueAt, GoesOn, Recharges, Rejects, Strays, Verdict, begins, fresh_call, goes_on, home_of, recharged, spoken, verdict, verdict_on}
 
 -- ---- what is said
 

@@ -5,7 +5,7 @@ use Rattle.account_core.specs.Entries.{EntryData}
 use Rattle.cap_values.specs.Orders.{orders_in}
 use Rattle.run_values.specs.declared.post.Answer.{Answer}
 use Rattle.shared_account.specs.Closed.{Closed}
-use Rattle.workers_core.specs.Handled.{AnswerView}
+use Rattle.runs_core.specs.Handled.{AnswerView}
 
 -- an operation, where a settle has the number 0
 abbrev pub unnumbered : Asked → Asked

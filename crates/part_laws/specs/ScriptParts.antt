@@ -8,7 +8,7 @@ use Rattle.run_outputs.specs.Records.{AreRecords}
 use Rattle.run_outputs.specs.Tables.{IsCallText}
 use Rattle.run_outputs.specs.declared.call_record.CallRecord.{CallRecord}
 use Rattle.live_recovery.specs.Laws.{NoneIsRefused}
-use Rattle.moment_texts.specs.declared.clock.Clock.{Clock}
+use Rattle.tariff_core.specs.declared.clock.Clock.{Clock}
 use Rattle.part_laws.specs.Parts.{AreAsOfOneRun}
 use Rattle.part_laws.specs.Printed.{run_given}
 use Rattle.run_outputs.specs.Kept.{IsMergedText, own_books}

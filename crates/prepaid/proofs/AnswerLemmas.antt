@@ -7,11 +7,11 @@ use Rattle.book_texts.specs.Sizes.{most_rows}
 use Rattle.book_texts.specs.declared.size.AuditAsk.{AuditAsk}
 use Rattle.book_texts.specs.declared.size.BookSize.{BookSize}
 use Rattle.book_texts.specs.declared.size.BookSize.TheVariants as size
-use Rattle.command_words.specs.Arguments.{AsksFor, AsksHelp, AsksVersion, IsRead, explains}
-use Rattle.command_words.specs.QuoteWishes.{QuoteWish}
-use Rattle.command_words.specs.Wishes.{Wish, Audits, Prices, Quotes, Replays, Runs, RunsInto}
-use Rattle.command_words.specs.declared.fault.WordsFault.{WordsFault}
-use Rattle.command_words.specs.declared.fault.WordsFault.TheVariants as words_fault
+use Rattle.table_commands.specs.Arguments.{AsksFor, AsksHelp, AsksVersion, IsRead, explains}
+use Rattle.table_commands.specs.QuoteWishes.{QuoteWish}
+use Rattle.table_commands.specs.Wishes.{Wish, Audits, Prices, Quotes, Replays, Runs, RunsInto}
+use Rattle.table_commands.specs.declared.words_fault.WordsFault.{WordsFault}
+use Rattle.table_commands.specs.declared.words_fault.WordsFault.TheVariants as words_fault
 use Rattle.run_outputs.specs.Texts.{RunSaid, TablesSaid}
 use Rattle.run_command.specs.declared.error.RunError.{RunError}
 use Rattle.run_command.specs.declared.error.RunError.TheVariants as error

@@ -2,12 +2,12 @@
 use Rattle.std.specs.Prelude.{◌≡◌, ◌⊎◌, ◌++◌, ℕ, Bool, true, List, [], MatchResult, Option, Some, None, Result, Ok, Err, ⊤, IfErr, IfOk, IfSome, codes, false, unwrap_or}
 use Rattle.std.specs.Io.KnownBytes.{Appends, Keeps}
 use Rattle.std.specs.Result.{result_map_both}
-use Rattle.answer_command.specs.Inputs.{live_input_of}
-use Rattle.answer_command.specs.Serves.{ServesBy}
-use Rattle.answer_command.specs.declared.error.ServeError.{ServeError}
-use Rattle.command_words.specs.Arguments.{AsksFor, AsksHelp, AsksInVain, AsksNothing, AsksVersion, explains}
-use Rattle.command_words.specs.Wishes.{Wish, Audits, Prices, Quotes, RatesRecords, Replays, Runs, RunsInto, Serves}
-use Rattle.command_words.specs.declared.fault.WordsFault.TheVariants as words_fault
+use Rattle.live_answers.specs.Inputs.{live_input_of}
+use Rattle.live_answers.specs.Serves.{ServesBy}
+use Rattle.live_answers.specs.declared.error.ServeError.{ServeError}
+use Rattle.table_commands.specs.Arguments.{AsksFor, AsksHelp, AsksInVain, AsksNothing, AsksVersion, explains}
+use Rattle.table_commands.specs.Wishes.{Wish, Audits, Prices, Quotes, RatesRecords, Replays, Runs, RunsInto, Serves}
+use Rattle.table_commands.specs.declared.words_fault.WordsFault.TheVariants as words_fault
 use Rattle.rating.specs.Asks.{RateWish}
 use Rattle.rating.specs.Fronts.{AppendsFront}
 use Rattle.run_command.specs.Answers.{IsRunAnswer}

@@ -1,7 +1,7 @@
 -- What is said of a fault behind its line, and behind the answer of a run.
 use Rattle.std.specs.Prelude.{◌≡◌, ◌⊎◌, ◌++◌, Bool, true, false, List, ℕ}
-use Rattle.command_words.specs.Arguments.{AsksFor}
-use Rattle.command_words.specs.Wishes.{Wish, Runs, RunsInto}
+use Rattle.table_commands.specs.Arguments.{AsksFor}
+use Rattle.table_commands.specs.Wishes.{Wish, Runs, RunsInto}
 use Rattle.run_command.specs.Strangers.{AreStrangersOf}
 use Rattle.table_commands.specs.Explanations.{IsOfWords, IsSaidOfFault}
 use Rattle.table_commands.specs.Printouts.{Printout}

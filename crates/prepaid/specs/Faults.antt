@@ -1,8 +1,8 @@
 -- The faults of a run, of its files and of the service, as the program's.
 use Rattle.std.specs.Prelude.{Option, Some, None, if◌then◌else◌}
 use Rattle.std.specs.declared.io.ErrorKind.{ErrorKind}
-use Rattle.answer_command.specs.declared.error.ServeError.{ServeError}
-use Rattle.answer_command.specs.declared.error.ServeError.TheVariants as serve
+use Rattle.live_answers.specs.declared.error.ServeError.{ServeError}
+use Rattle.live_answers.specs.declared.error.ServeError.TheVariants as serve
 use Rattle.live_answers.specs.declared.stage.LiveFault.TheVariants as live
 use Rattle.live_log.specs.declared.fault.LogFault.{LogFault}
 use Rattle.live_log.specs.declared.fault.LogFault.TheVariants as log

@@ -4,8 +4,7 @@ ghost use Rattle.std.specs.Prelude.{◌≡◌};
 ghost use Rattle.std.specs.IoError.{error_kind};
 ghost use Rattle.prepaid.specs.Faults.{of_files, of_log, of_run, of_serve};
 
-use answer_command::ServeError;
-use live_answers::LiveFault;
+use live_answers::{LiveFault, ServeError};
 use live_log::LogFault;
 use run_command::RunError;
 use run_values::RunFault;

@@ -12,7 +12,6 @@ use crate::answer::Answer;
 use crate::ending::{audit_ending, text_ending};
 use crate::running::{run_input, run_input_into};
 use crate::serving::serve_messages;
-use command_words::{Request, explains, read_words};
 use rating::write_text;
 use run_command::Watch;
 use run_outputs::{Refusals, refused_line};
@@ -23,8 +22,8 @@ use std::rt::Files;
 use std::sync::Wait;
 use std::thread::Threads;
 use table_commands::{
-    Ending, Noting, audit_input, price_input, quote_input, rate_input, replay_input, report,
-    report_output, report_with, write_both,
+    Ending, Noting, Request, audit_input, explains, price_input, quote_input, rate_input,
+    read_words, replay_input, report, report_output, report_with, write_both,
 };
 
 /// Runs the program over the words after its name, and gives the exit status:

@@ -7,7 +7,7 @@ ghost use Rattle.run_values.specs.Options.{live_ask_of};
 ghost use Rattle.prepaid.specs.Answers.{IsServeEnd, IsServedInput};
 
 use crate::faults::fault_of_serve;
-use answer_command::{ServeError, serve_input};
+use live_answers::{ServeError, serve_input};
 use run_values::{LiveOptions, LogAsk};
 use std::fs::File;
 use std::io::{BufRead, Error, Write};

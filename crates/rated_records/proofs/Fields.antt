@@ -18,10 +18,10 @@ use Rattle.run_outputs.specs.declared.outcome.Outcome.TheVariants as outcome
 use Rattle.cap_values.specs.NumberDigits.{digits_of_number}
 use Rattle.cap_values.specs.declared.number.Number.{Number}
 use Rattle.csv.specs.Writing.{comma, default_writer, field_text, needs_byte}
-use Rattle.moment_texts.specs.Laws.{MomentsArePlain, MomentsAreRead}
-use Rattle.moment_texts.specs.Printing.{moment_or_empty, moment_text}
-use Rattle.moment_texts.specs.Reading.{at_most, both, date_and_time_of, day_of, moment_of, seconds_of, written_time}
-use Rattle.moment_texts.specs.declared.clock.Clock.{Clock}
+use Rattle.tariff_core.specs.MomentLaws.{MomentsArePlain, MomentsAreRead}
+use Rattle.tariff_core.specs.Printing.{moment_or_empty, moment_text}
+use Rattle.tariff_core.specs.Reading.{at_most, both, date_and_time_of, day_of, moment_of, seconds_of, written_time}
+use Rattle.tariff_core.specs.declared.clock.Clock.{Clock}
 use Rattle.rated_records.specs.Tables.{IsPrintable, record_fields}
 use Rattle.rating.specs.Calls.{row_size, with_commas}
 use Rattle.run_laws.specs.Records.{RecordIsInRange}

@@ -15,10 +15,10 @@ use Rattle.cap_values.specs.Numbers.{is_number}
 use Rattle.cap_values.specs.declared.number.Number.{Number}
 use Rattle.csv.specs.Reading.{strip_bom}
 use Rattle.tariff_core.specs.Laws.{IsProper, ReadTariffsAreProper}
-use Rattle.moment_texts.specs.Laws.{MomentsArePlain, MomentsAreRead}
-use Rattle.moment_texts.specs.Printing.{moment_text}
-use Rattle.moment_texts.specs.Reading.{moment_of}
-use Rattle.moment_texts.specs.declared.clock.Clock.{Clock}
+use Rattle.tariff_core.specs.MomentLaws.{MomentsArePlain, MomentsAreRead}
+use Rattle.tariff_core.specs.Printing.{moment_text}
+use Rattle.tariff_core.specs.Reading.{moment_of}
+use Rattle.tariff_core.specs.declared.clock.Clock.{Clock}
 use Rattle.rated_records.proofs.Fields.{fields_plain, record_size}
 use Rattle.rated_records.specs.Laws.{IsRatedBy, RecordsHaveNoDifference, record_says}
 use Rattle.rated_records.specs.Tables.{IsInputOf, IsPrintable, IsRatedTable, IsRowOf, TablesHaveNoDifference, header_fields, names_by_start, record_fields}

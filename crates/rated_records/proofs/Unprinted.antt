@@ -8,7 +8,7 @@ use Rattle.std.proofs.lemmas.List.Elements.{All-cons, All-head, All-nil, All-tai
 use Rattle.run_outputs.specs.Records.{prefix_of}
 use Rattle.run_outputs.specs.declared.call_record.CallRecord.{CallRecord}
 use Rattle.run_outputs.specs.declared.outcome.Outcome.TheVariants as outcome
-use Rattle.moment_texts.specs.declared.clock.Clock.{Clock}
+use Rattle.tariff_core.specs.declared.clock.Clock.{Clock}
 use Rattle.rated_records.specs.Laws.{paid_rightly}
 use Rattle.rated_records.specs.Tables.{IsRowOf, NoRowIsPrinted, header_fields}
 use Rattle.rating.specs.Lines.{header_line, rated_line}

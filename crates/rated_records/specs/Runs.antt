@@ -1,7 +1,7 @@
 -- What `rate` prints of the calls that `run --calls` prints.
 use Rattle.std.specs.Prelude.{ℕ, Bool, List, All}
 use Rattle.run_outputs.specs.Tables.{IsCallText}
-use Rattle.moment_texts.specs.declared.clock.Clock.{Clock}
+use Rattle.tariff_core.specs.declared.clock.Clock.{Clock}
 use Rattle.rated_records.specs.Tables.{IsInputOf, IsPrintable, IsRatedTable, names_by_start}
 use Rattle.rating.specs.Texts.{IsRatedText, rate_input_of}
 use Rattle.rating.specs.declared.score.Score.{Score}

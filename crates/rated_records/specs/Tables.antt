@@ -7,8 +7,8 @@ use Rattle.run_outputs.specs.Tables.{IsCallText, outcome_word}
 use Rattle.run_outputs.specs.declared.call_record.CallRecord.{CallRecord}
 use Rattle.run_outputs.specs.declared.outcome.Outcome.TheVariants as outcome
 use Rattle.cap_values.specs.NumberDigits.{digits_of_number}
-use Rattle.moment_texts.specs.Printing.{moment_or_empty, moment_text}
-use Rattle.moment_texts.specs.declared.clock.Clock.{Clock}
+use Rattle.tariff_core.specs.Printing.{moment_or_empty, moment_text}
+use Rattle.tariff_core.specs.declared.clock.Clock.{Clock}
 use Rattle.rated_records.specs.Laws.{paid_rightly}
 use Rattle.rating.specs.Asks.{NamesWish, ByUsualNames}
 use Rattle.rating.specs.Lines.{header_line}

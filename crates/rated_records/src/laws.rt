@@ -5,11 +5,10 @@ ghost use Rattle.rated_records.specs.Laws.{RecordsHaveNoDifference};
 ghost use Rattle.rated_records.specs.Runs.{RunsHaveNoDifference};
 ghost use Rattle.rated_records.specs.Tables.{NoRowIsPrinted, TablesHaveNoDifference};
 
-use moment_texts::printed_moments_are_read;
 use run_laws::{answered_calls_have_paid, calls_pay_their_route, records_are_in_range};
 use shared_account::Shared;
 use table_core::{printed_decimals_are_read, printed_tables_are_read};
-use tariff_core::read_tariffs_are_proper;
+use tariff_core::{printed_moments_are_read, read_tariffs_are_proper};
 use turn_account::TurnAccount;
 
 /// The records of a run have no difference: whatever `rate` says of a record, where its start is

@@ -3,7 +3,7 @@ use Rattle.std.specs.Prelude.{◌+◌, ◌-◌, ◌==◌, ◌≤◌, ◌++◌, �
 use Rattle.std.specs.List.{flat_map}
 use Rattle.cap_values.specs.Numbers.{is_number}
 use Rattle.csv.specs.Writing.{comma, default_writer, field_text}
-use Rattle.moment_texts.specs.Reading.{moment_of}
+use Rattle.tariff_core.specs.Reading.{moment_of}
 use Rattle.table_core.specs.Decimals.{decimal_of}
 use Rattle.table_core.specs.Fields.{field_in, is_blank}
 use Rattle.table_core.specs.Judging.{and_then}

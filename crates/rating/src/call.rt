@@ -10,9 +10,9 @@ use crate::RateKind;
 use crate::columns::{Columns, TimeColumns};
 use cap_values::MAX_DIGITS;
 use csv::ByteRecord;
-use moment_texts::moment;
 use price_core::{DAY, MAX_MOMENT, MAX_MONEY};
 use table_core::{are_digits, decimal, field, is_blank};
+use tariff_core::moment;
 
 /// The most bytes of a row, as `csv` writes it, the end of its line counted as one.
 pub const MAX_ROW: usize = 65_536;

@@ -10,7 +10,7 @@ use Rattle.run_command.specs.declared.listening.Listener.{Listener}
 use Rattle.run_values.specs.Options.{is_trace}
 use Rattle.run_values.specs.declared.options.RunOutput.{RunOutput}
 use Rattle.run_values.specs.declared.options.RunOutput.TheVariants as output
-use Rattle.message_rows.specs.Tables.{trace_text}
+use Rattle.run_texts.specs.Tables.{trace_text}
 use Rattle.run_values.specs.declared.post.Answer.{Answer}
 use Rattle.runs_core.specs.Hearing.{HearsRounds, all_heard}
 use Rattle.script_player.specs.Runs.{Hears}

@@ -2,7 +2,7 @@
 use Rattle.std.proofs.Common.{◌≡◌, ◌∙◌, true, List, None, refl, sym, subst}
 use Rattle.std.specs.List.{All}
 use Rattle.book_texts.specs.Typed.{IsTyped}
-use Rattle.moment_texts.specs.declared.clock.Clock.{Clock}
+use Rattle.tariff_core.specs.declared.clock.Clock.{Clock}
 use Rattle.run_command.specs.Played.{AreWhole, IsPlayedRun}
 use Rattle.run_outputs.specs.Texts.{AreTextsOf, TablesSaid, clock_of, run_of}
 use Rattle.run_outputs.specs.Unplaced.{AreByCall, events_in_rows}

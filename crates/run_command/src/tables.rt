@@ -14,7 +14,6 @@ use crate::RunError;
 use crate::playing::play;
 use crate::setting_up::{Start, set_up};
 use crate::watching::{Watch, Watching};
-use moment_texts::Clock;
 use price_core::MAX_MOMENT;
 use run_outputs::{RunTables, clock_of};
 use run_texts::ScriptRow;
@@ -22,6 +21,7 @@ use run_values::{RunOptions, RunOutput, RunSetup};
 use std::alloc::Global;
 use std::sync::Wait;
 use std::thread::Threads;
+use tariff_core::Clock;
 
 /// The texts of one run of the input's script, which isn't in parts: those that `run` gives for
 /// each output. The moments of the calls and of the trace are printed as those of the output that

@@ -15,7 +15,7 @@ use Rattle.run_values.specs.declared.post.Body.TheVariants.{Ssf, Recharge}
 use Rattle.run_values.specs.declared.post.Post.{Post}
 use Rattle.runs_core.specs.Shares.{Item, item_at, item_of, numbered, share, worker_of}
 use Rattle.held_calls.specs.Workers.{IsOnTerms}
-use Rattle.workers_core.specs.Served.{IsServed, Money, Report, credited_in, credits_of, recharged_in, recharges_of, report_in, reported_in, reports_of, settled_in, settles_of}
+use Rattle.runs_core.specs.Served.{IsServed, Money, Report, credited_in, credits_of, recharged_in, recharges_of, report_in, reported_in, reports_of, settled_in, settles_of}
 
 -- ---- what each worker handles
 

@@ -27,7 +27,7 @@ use Rattle.price_core.specs.RatesOf.{rates_of}
 use Rattle.tariff_core.specs.Routes.{IsRoute}
 use Rattle.price_core.specs.declared.route.Route.{Route}
 use Rattle.held_calls.specs.Workers.{IsOnTerms}
-use Rattle.workers_core.specs.Verdicts.{home_of}
+use Rattle.runs_core.specs.Verdicts.{home_of}
 
 -- a call has an InitialDP at a moment, from a subscriber of the account at a place, and this plan is that of the called number's route at the moment
 pub record IsBegun (run : Run) (place call : ℕ) (plan : Rates) : Type 0 where

@@ -29,8 +29,8 @@ use Rattle.held_calls.specs.Entered.{ReservesAreInTheBooks}
 use Rattle.shared_account.specs.Closed.{Closed}
 use Rattle.shared_account.specs.Refusals.{Knowing}
 use Rattle.price_core.specs.Rates.{Rates}
-use Rattle.workers_core.proofs.Handling.{at_place}
-use Rattle.workers_core.specs.Verdicts.{home_of}
+use Rattle.runs_core.proofs.Handling.{at_place}
+use Rattle.runs_core.specs.Verdicts.{home_of}
 
 -- ---- sums of sums
 

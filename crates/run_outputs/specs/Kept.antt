@@ -7,7 +7,7 @@ use Rattle.book_texts.specs.Typed.{IsTyped}
 use Rattle.run_outputs.specs.Records.{AreRecords, Run}
 use Rattle.run_outputs.specs.Tables.{call_text}
 use Rattle.run_outputs.specs.declared.call_record.CallRecord.{CallRecord}
-use Rattle.moment_texts.specs.declared.clock.Clock.{Clock}
+use Rattle.tariff_core.specs.declared.clock.Clock.{Clock}
 use Rattle.run_values.specs.declared.options.RunOutput.{RunOutput}
 use Rattle.run_values.specs.declared.options.RunOutput.TheVariants as output
 use Rattle.run_outputs.specs.Texts.{RunSaid, run_of}

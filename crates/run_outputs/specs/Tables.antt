@@ -3,8 +3,8 @@ use Rattle.std.specs.Prelude.{◌≡◌, ℕ, List, [], ◌++◌, codes, unwrap_
 use Rattle.std.specs.Fmt.{decimal}
 use Rattle.std.specs.List.{flat_map}
 use Rattle.cap_values.specs.NumberDigits.{digits_of_number}
-use Rattle.moment_texts.specs.Printing.{moment_or_empty, moment_text}
-use Rattle.moment_texts.specs.declared.clock.Clock.{Clock}
+use Rattle.tariff_core.specs.Printing.{moment_or_empty, moment_text}
+use Rattle.tariff_core.specs.declared.clock.Clock.{Clock}
 use Rattle.table_core.specs.Decimals.{digits_text}
 use Rattle.run_outputs.specs.Records.{AreRecords, Run, prefix_of}
 use Rattle.run_outputs.specs.declared.outcome.Outcome.{Outcome}

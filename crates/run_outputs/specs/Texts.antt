@@ -4,8 +4,8 @@ use Rattle.book_texts.specs.BookTexts.{book_text, version_of}
 use Rattle.book_texts.specs.RunTexts.{IsRunText}
 use Rattle.run_outputs.specs.Records.{Run}
 use Rattle.run_outputs.specs.Tables.{IsCallText}
-use Rattle.moment_texts.specs.declared.clock.Clock.{Clock}
-use Rattle.moment_texts.specs.declared.clock.Clock.TheVariants as clock
+use Rattle.tariff_core.specs.declared.clock.Clock.{Clock}
+use Rattle.tariff_core.specs.declared.clock.Clock.TheVariants as clock
 use Rattle.run_values.specs.declared.options.RunOutput.{RunOutput}
 use Rattle.run_values.specs.declared.options.RunOutput.TheVariants as output
 use Rattle.run_outputs.specs.declared.played.Played.{Played}
@@ -13,7 +13,7 @@ use Rattle.run_outputs.specs.declared.played.Ran.{Ran}
 use Rattle.run_outputs.specs.declared.tables.RunTables.{RunTables}
 use Rattle.run_outputs.specs.declared.refusals.Refusals.{Refusals}
 use Rattle.run_outputs.specs.declared.unplaced.UnplacedEvent.{UnplacedEvent}
-use Rattle.message_rows.specs.Tables.{trace_text}
+use Rattle.run_texts.specs.Tables.{trace_text}
 use Rattle.run_values.specs.Setups.{Setup}
 use Rattle.run_values.specs.declared.post.Answer.{Answer}
 use Rattle.tariff_core.specs.Bands.{have_steps}

@@ -12,10 +12,10 @@ use crate::{
     records,
 };
 use book_texts::{RunLines, book_table};
-use moment_texts::Clock;
 use run_values::{Body, RunOutput, RunSetup};
 use shared_account::Book;
 use std::alloc::{AllocError, Global};
+use tariff_core::Clock;
 
 /// What is kept of a part that was played, or of all.
 #[derive(Drop)]

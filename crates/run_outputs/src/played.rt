@@ -7,8 +7,7 @@ ghost use Rattle.run_outputs.specs.Unplaced.{AreByCall, events_in_rows};
 
 use crate::{Refusals, UnplacedEvent, call_table, events_by_call, records};
 use book_texts::{book_table, run_lines};
-use message_rows::trace_table;
-use run_texts::ScriptRow;
+use run_texts::{ScriptRow, trace_table};
 use run_values::{Answer, Body, RunOutput, RunSetup};
 use shared_account::Book;
 use std::alloc::{AllocError, Global};

@@ -6,9 +6,9 @@ ghost use Rattle.run_outputs.specs.Tables.{call_text, moments_text, record_row, 
 ghost use Rattle.table_core.specs.Decimals.{digits_text};
 
 use crate::{CallRecord, Outcome};
-use moment_texts::{Clock, MomentField};
 use std::alloc::{AllocError, Global};
 use table_core::{Field, write_digits};
+use tariff_core::{Clock, MomentField};
 
 /// The table of these calls, in order: a header, and a row of each, with its moments as the clock
 /// prints them.

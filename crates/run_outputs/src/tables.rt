@@ -6,9 +6,9 @@ ghost use Rattle.run_outputs.specs.Texts.{AreTextsOf, clock_of, run_of, tables_s
 ghost use Rattle.run_outputs.specs.Unplaced.{AreByCall, events_in_rows};
 
 use crate::{Played, Refusals, UnplacedEvent, events_by_call};
-use moment_texts::Clock;
 use run_values::{RunOutput, RunSetup};
 use std::alloc::{AllocError, Global};
+use tariff_core::Clock;
 
 /// All that one and the same run prints.
 #[derive(Drop)]

@@ -2,9 +2,15 @@ pub mod FirstSections
 pub mod Happenings
 pub mod InputFaults
 pub mod Inputs
+pub mod Kinds
+pub mod Lines
 pub mod ListedRows
+pub mod MessageViews
+pub mod Messages
+pub mod Said
 pub mod Scripts
 pub mod Sections
 pub mod Setups
 pub mod Starts
+pub mod Tables
 pub mod Views

@@ -10,7 +10,7 @@ use Rattle.table_core.specs.Tables.{TableForm, table_form, table_of}
 use Rattle.table_core.specs.declared.fault.RowFault.{RowFault}
 use Rattle.table_core.specs.declared.fault.RowKind.{RowKind}
 use Rattle.table_core.specs.declared.fault.RowKind.TheVariants as kind
-use Rattle.moment_texts.specs.Fields.{moment_in}
+use Rattle.tariff_core.specs.Fields.{moment_in}
 use Rattle.run_texts.specs.Happenings.{RowData, Happens, Meets, Recharges, Starts}
 use Rattle.run_texts.specs.Setups.{account_in, amount_in, party_in, until_in}
 use Rattle.run_texts.specs.declared.script.Word.{Word}

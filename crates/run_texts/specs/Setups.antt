@@ -13,7 +13,7 @@ use Rattle.table_core.specs.Tables.{TableForm, table_form, table_of}
 use Rattle.table_core.specs.declared.fault.RowFault.{RowFault}
 use Rattle.table_core.specs.declared.fault.RowKind.{RowKind}
 use Rattle.table_core.specs.declared.fault.RowKind.TheVariants as kind
-use Rattle.moment_texts.specs.Fields.{optional_moment_in_field}
+use Rattle.tariff_core.specs.Fields.{optional_moment_in_field}
 use Rattle.run_values.specs.Setups.{has_account}
 use Rattle.run_values.specs.declared.directory.OpeningCredit.{OpeningCredit}
 use Rattle.price_core.specs.declared.plan.TheConstants.{MAX_MONEY}

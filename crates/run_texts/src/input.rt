@@ -10,9 +10,9 @@ ghost use Rattle.run_texts.specs.Setups.{table_setup_of};
 ghost use Rattle.run_texts.specs.Happenings.{is_in_time};
 ghost use Rattle.run_texts.specs.Views.{rows_are_in_order, happens_of, row_data, setup_in, texts_of_sections};
 ghost use Rattle.run_texts.specs.Sections.{is_divider, lines_in_text, sections_of, texts_of};
+ghost use Rattle.run_texts.specs.declared.input_fault.InputFault.TheVariants as out;
 ghost use Rattle.table_core.specs.Rows.{rows_of};
 ghost use Rattle.run_values.specs.Setups.{ListingIsWithin};
-ghost use Rattle.run_texts.specs.declared.input_fault.InputFault.TheVariants as out;
 
 use crate::{InputFault, ScriptRow, script, setup};
 use price_core::MAX_MOMENT;

@@ -4,11 +4,11 @@ ghost use Rattle.std.specs.Prelude.{◌≡◌, ◌≤◌, ◌+◌, IfOk, IfSome,
 ghost use Rattle.run_texts.specs.ListedRows.{ListsRow, list_fault_of};
 ghost use Rattle.run_texts.specs.Setups.{account_row, setup_row_at, table_setup_of, subscriber_row};
 ghost use Rattle.run_texts.specs.Views.{setup_in};
+ghost use Rattle.run_texts.specs.declared.setup.ListFault.TheVariants as out;
 ghost use Rattle.csv.specs.Records.{fields_of};
 ghost use Rattle.table_core.specs.Faults.{GivesTable};
 ghost use Rattle.table_core.specs.Rows.{rows_of};
 ghost use Rattle.run_values.specs.Setups.{ListingIsWithin};
-ghost use Rattle.run_texts.specs.declared.setup.ListFault.TheVariants as out;
 
 use crate::fields::{account, amount, party, until};
 use csv::ByteRecord;

@@ -4,8 +4,8 @@ ghost use Rattle.std.specs.Prelude.{◌≡◌, ◌≤◌, ◌↔◌, true, IsSom
 ghost use Rattle.run_values.specs.Configs.{is_config};
 
 use dialogue_core::ServiceConfig;
-use moment_texts::Clock;
 use ssf_core::{DefaultHandling, SsfConfig};
+use tariff_core::Clock;
 
 /// The options of a run, each in its range.
 #[derive(Clone, Copy)]

@@ -11,8 +11,8 @@ use Rattle.run_values.specs.declared.directory.OpeningCredit.{OpeningCredit}
 use Rattle.shared_account.specs.Refusals.{Knowing}
 use Rattle.shared_account.specs.Seats.{Reads}
 use Rattle.shared_account.specs.Terms.{Terms}
-use Rattle.workers_core.specs.Handled.{answer_view}
-use Rattle.workers_core.specs.Workers.{number_by}
+use Rattle.runs_core.specs.Handled.{answer_view}
+use Rattle.runs_core.specs.Workers.{number_by}
 use Rattle.runs_core.specs.Sending.{AreLeftBy, ArePromised, IsFirstFault, IsLeftBy, IsPromised, MayBeShut, heard_by, promises_of, sent_by}
 use Rattle.runs_core.specs.Teams.{IsLeft, terms_of, terms_with}
 use Rattle.runs_core.specs.declared.worker_link.WorkerLink.{WorkerLink}

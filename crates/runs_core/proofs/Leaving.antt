@@ -5,9 +5,9 @@ use Rattle.std.specs.Map.{keys_of}
 use Rattle.std.proofs.lemmas.List.Elements.{All-cons, All-head, All-nil, All-tail}
 use Rattle.std.proofs.lemmas.List.{length-map}
 use Rattle.account_core.specs.Entries.{EntryData}
-use Rattle.workers_core.specs.Chains.{at_first, seat_numbers}
+use Rattle.runs_core.specs.Chains.{at_first, seat_numbers}
 use Rattle.run_values.specs.Setups.{Setup}
-use Rattle.workers_core.specs.Verdicts.{DialogueAt}
+use Rattle.runs_core.specs.Verdicts.{DialogueAt}
 use Rattle.run_values.specs.declared.directory.OpeningCredit.{OpeningCredit}
 use Rattle.shared_account.specs.Seats.{Reads}
 use Rattle.runs_core.specs.Teams.{IsFresh}

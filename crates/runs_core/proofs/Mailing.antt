@@ -3,9 +3,9 @@ use Rattle.std.proofs.Common.{◌≡◌, true, List, [], ◌∷◌, ◌++◌, re
 use Rattle.std.specs.Global.{Vec}
 use Rattle.std.specs.Prelude.{Err, MatchResult, Ok, Result}
 use Rattle.std.proofs.lemmas.List.{append-nil, append_assoc}
-use Rattle.workers_core.specs.Logs.{has_close}
-use Rattle.workers_core.specs.declared.mailboxes.Mail.{Mail}
-use Rattle.workers_core.specs.declared.mailboxes.Mail.TheVariants.{Work, Close}
+use Rattle.runs_core.specs.Logs.{has_close}
+use Rattle.runs_core.specs.declared.mailboxes.Mail.{Mail}
+use Rattle.runs_core.specs.declared.mailboxes.Mail.TheVariants.{Work, Close}
 use Rattle.runs_core.specs.Mails.{items_in}
 
 pub items_in-append : {X : Type 0} (mails later : List (Mail (Vec X))) → items_in (mails ++ later) ≡ items_in mails ++ items_in later

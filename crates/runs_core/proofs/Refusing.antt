@@ -7,8 +7,8 @@ use Rattle.std.proofs.lemmas.List.{append-nil, get_or_default, get_or-set_other,
 use Rattle.account_core.specs.declared.fault.AccountFault.{AccountFault}
 use Rattle.run_values.specs.declared.post.Answer.{Answer}
 use Rattle.run_values.specs.declared.post.Body.{Body}
-use Rattle.workers_core.specs.Chains.{refusals_in}
-use Rattle.workers_core.specs.Handled.{AnswerView, answer_view}
+use Rattle.runs_core.specs.Chains.{refusals_in}
+use Rattle.runs_core.specs.Handled.{AnswerView, answer_view}
 use Rattle.runs_core.proofs.HearingLemmas.{answers_to-append}
 use Rattle.runs_core.proofs.HandOuts.{agrees, differs}
 use Rattle.runs_core.specs.Hearing.{HaveRefused, answers_to}

@@ -9,9 +9,9 @@ use Rattle.run_values.specs.declared.post.Body.{Body}
 use Rattle.run_values.specs.declared.post.Post.{Post}
 use Rattle.shared_account.specs.Refusals.{Knowing}
 use Rattle.shared_account.specs.Seats.{Reads}
-use Rattle.workers_core.specs.Handled.{answer_view}
-use Rattle.workers_core.specs.Workers.{accounts_of, seats_of, setup_of}
-use Rattle.workers_core.specs.declared.worker.Worker.{Worker}
+use Rattle.runs_core.specs.Handled.{answer_view}
+use Rattle.runs_core.specs.Workers.{accounts_of, seats_of, setup_of}
+use Rattle.runs_core.specs.declared.worker.Worker.{Worker}
 use Rattle.runs_core.proofs.Finishing.{left_at, left_many}
 use Rattle.runs_core.proofs.WorkerLemmas.{answered_more, left_by}
 use Rattle.runs_core.proofs.HearingLemmas.{AreRounds, all_heard-more, answers_more, round_last, round_more}

@@ -8,10 +8,10 @@ use Rattle.shared_account.specs.Closed.{Closed}
 use Rattle.shared_account.specs.Refusals.{Knowing}
 use Rattle.shared_account.specs.Seats.{Reads}
 use Rattle.shared_account.specs.Terms.{Terms}
-use Rattle.workers_core.proofs.Chaining.{answered_still}
-use Rattle.workers_core.specs.Chains.{AnswersItsPosts, at_first, seat_numbers}
-use Rattle.workers_core.specs.Handled.{AnswerView, answer_view}
-use Rattle.workers_core.specs.Refusals.{WasAt}
+use Rattle.runs_core.proofs.Chaining.{answered_still}
+use Rattle.runs_core.specs.Chains.{AnswersItsPosts, at_first, seat_numbers}
+use Rattle.runs_core.specs.Handled.{AnswerView, answer_view}
+use Rattle.runs_core.specs.Refusals.{WasAt}
 use Rattle.run_values.specs.Setups.{Setup}
 use Rattle.run_values.specs.declared.post.Answer.{Answer}
 use Rattle.run_values.specs.declared.post.Body.{Body}

@@ -4,12 +4,12 @@ use Rattle.std.specs.Map.{keys_of}
 use Rattle.std.proofs.lemmas.List.{append-nil, append_assoc, map-append}
 use Rattle.shared_account.specs.Refusals.{Knowing}
 use Rattle.shared_account.specs.Seats.{Reads}
-use Rattle.workers_core.proofs.Chaining.{answered_still, more_after}
-use Rattle.workers_core.specs.Chains.{AreAnswered, at_first, seat_numbers}
-use Rattle.workers_core.specs.Handled.{AnswerView, answer_view}
-use Rattle.workers_core.specs.Refusals.{RefusesAt, WasAt}
-use Rattle.workers_core.specs.Workers.{IsReady, accounts_of, holding, number_of, seats_of, setup_of, talks_of}
-use Rattle.workers_core.specs.declared.worker.Worker.{Worker}
+use Rattle.runs_core.proofs.Chaining.{answered_still, more_after}
+use Rattle.runs_core.specs.Chains.{AreAnswered, at_first, seat_numbers}
+use Rattle.runs_core.specs.Handled.{AnswerView, answer_view}
+use Rattle.runs_core.specs.Refusals.{RefusesAt, WasAt}
+use Rattle.runs_core.specs.Workers.{IsReady, accounts_of, holding, number_of, seats_of, setup_of, talks_of}
+use Rattle.runs_core.specs.declared.worker.Worker.{Worker}
 use Rattle.run_values.specs.Setups.{Setup}
 use Rattle.run_values.specs.declared.post.Answer.{Answer}
 use Rattle.run_values.specs.declared.post.Post.{Post}

@@ -6,8 +6,8 @@ use Rattle.shared_account.specs.Own.{own}
 use Rattle.shared_account.specs.Refusals.{IsRefusedAt, Knowing, Refusal}
 use Rattle.shared_account.specs.Seats.{Reads, are_all}
 use Rattle.shared_account.specs.Terms.{Terms}
-use Rattle.workers_core.specs.Refusals.{WasAt}
-use Rattle.workers_core.specs.Talks.{Showing}
+use Rattle.runs_core.specs.Refusals.{WasAt}
+use Rattle.runs_core.specs.Talks.{Showing}
 
 -- what a book shows of an account with so many seats: its number, the credit that it was opened with and its last moment, and how many entries it may have
 abbrev pub terms_shown : ℕ → Closed → Terms

@@ -1,6 +1,6 @@
 -- The workers of a run: the main thread has the first, and a link to each other.
 use Rattle.std.specs.Prelude.{◌≡◌, ◌+◌, ◌++◌, ℕ, Bool, List, [], ◌∷◌, length, map}
-use Rattle.workers_core.specs.Handled.{answer_view}
+use Rattle.runs_core.specs.Handled.{answer_view}
 use Rattle.run_values.specs.Setups.{Setup}
 use Rattle.run_values.specs.declared.post.Answer.{Answer}
 use Rattle.run_values.specs.declared.post.Body.{Body}

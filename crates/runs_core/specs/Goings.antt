@@ -3,11 +3,11 @@ use Rattle.std.specs.Prelude.{◌≡◌, ℕ, List, map}
 use Rattle.account_core.specs.Entries.{EntryData}
 use Rattle.shared_account.specs.Refusals.{Knowing, Refusal}
 use Rattle.shared_account.specs.Seats.{Reads}
-use Rattle.workers_core.specs.Chains.{AreAnswered, at_first, seat_numbers}
-use Rattle.workers_core.specs.Handled.{AnswerView}
-use Rattle.workers_core.specs.Refusals.{RefusesAt, WasAt}
-use Rattle.workers_core.specs.Workers.{IsReady, accounts_of, holding, number_of, seats_of, setup_of}
-use Rattle.workers_core.specs.declared.worker.Worker.{Worker}
+use Rattle.runs_core.specs.Chains.{AreAnswered, at_first, seat_numbers}
+use Rattle.runs_core.specs.Handled.{AnswerView}
+use Rattle.runs_core.specs.Refusals.{RefusesAt, WasAt}
+use Rattle.runs_core.specs.Workers.{IsReady, accounts_of, holding, number_of, seats_of, setup_of}
+use Rattle.runs_core.specs.declared.worker.Worker.{Worker}
 use Rattle.run_values.specs.Setups.{Setup}
 use Rattle.run_values.specs.declared.post.Post.{Post}
 

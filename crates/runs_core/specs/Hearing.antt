@@ -3,8 +3,8 @@ use Rattle.std.specs.Prelude.{◌≡◌, ◌++◌, ◌<◌, ◌==◌, ℕ, Bool,
 use Rattle.account_core.specs.declared.fault.AccountFault.{AccountFault}
 use Rattle.shared_account.specs.Closed.{Closed}
 use Rattle.shared_account.specs.Refusals.{Knowing}
-use Rattle.workers_core.specs.Chains.{AnswersItsPosts, refusals_in}
-use Rattle.workers_core.specs.Handled.{answer_view}
+use Rattle.runs_core.specs.Chains.{AnswersItsPosts, refusals_in}
+use Rattle.runs_core.specs.Handled.{answer_view}
 use Rattle.run_values.specs.Setups.{Setup}
 use Rattle.run_values.specs.declared.post.Answer.{Answer}
 use Rattle.run_values.specs.declared.post.Body.{Body}

@@ -8,9 +8,9 @@ use Rattle.runs_core.specs.declared.worker_link.WorkerLink.{WorkerLink}
 use Rattle.runs_core.specs.declared.promise.WorkerPromise.{WorkerPromise}
 use Rattle.run_values.specs.declared.run_fault.RunFault.{RunFault}
 use Rattle.run_values.specs.declared.run_fault.RunFault.TheVariants as out
-use Rattle.workers_core.specs.Ends.{sent, taken}
+use Rattle.runs_core.specs.Ends.{sent, taken}
 use Rattle.run_values.specs.Setups.{Setup}
-use Rattle.workers_core.specs.Handled.{answer_view}
+use Rattle.runs_core.specs.Handled.{answer_view}
 use Rattle.run_values.specs.declared.post.Answer.{Answer}
 use Rattle.run_values.specs.declared.post.Post.{Post}
 

@@ -3,9 +3,9 @@ use Rattle.std.specs.Prelude.{◌≡◌, ◌+◌, ◌&&◌, ℕ, Bool, nat_le, t
 use Rattle.shared_account.specs.Refusals.{Knowing}
 use Rattle.shared_account.specs.Seats.{Reads, are_all}
 use Rattle.shared_account.specs.Terms.{Terms}
-use Rattle.workers_core.specs.Chains.{AnswersItsPosts}
-use Rattle.workers_core.specs.Handled.{AnswerView}
-use Rattle.workers_core.specs.Refusals.{RefusesAt}
+use Rattle.runs_core.specs.Chains.{AnswersItsPosts}
+use Rattle.runs_core.specs.Handled.{AnswerView}
+use Rattle.runs_core.specs.Refusals.{RefusesAt}
 use Rattle.run_values.specs.Setups.{Setup}
 use Rattle.run_values.specs.declared.directory.OpeningCredit.{OpeningCredit}
 use Rattle.run_values.specs.declared.post.Post.{Post}

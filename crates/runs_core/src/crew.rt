@@ -6,17 +6,17 @@ ghost use Rattle.runs_core.specs.Crews.{joined_lists};
 ghost use Rattle.runs_core.specs.Goings.{GoesOn};
 ghost use Rattle.runs_core.specs.RunFaults.{AsksNoGate, MayAskGate};
 ghost use Rattle.runs_core.specs.Sending.{heard_by, promises_of, sent_by};
-ghost use Rattle.workers_core.specs.Handled.{answer_view};
-ghost use Rattle.workers_core.specs.Workers.{IsReady, number_by};
+ghost use Rattle.runs_core.specs.Handled.{answer_view};
+ghost use Rattle.runs_core.specs.Workers.{IsReady, number_by};
 ghost use Rattle.run_values.specs.declared.post.Answer.{Answer};
 
+use crate::worker::Worker;
 use crate::worker_link::WorkerLink;
 use run_values::{Answer, Post, RunFault};
 use shared_account::{Gate, Shared};
 use std::alloc::Global;
 use std::sync::Wait;
 use std::vec::IntoIter;
-use workers_core::Worker;
 
 /// The workers of a run: the main thread serves the first itself, and each other has a thread.
 pub(crate) struct Crew<'s, S: Shared, G: Gate> {

@@ -1,10 +1,10 @@
 //! What a worker's thread promises.
 
+use crate::ends::{Inbox, Outbox};
 use run_values::{Answer, Post, RunFault, RunSetup};
 use shared_account::{Gate, Shared};
 use std::snapshot::Snapshot;
 use std::thread::Promise;
-use workers_core::{Inbox, Outbox};
 
 /// What a worker's thread has and gives back: a seat of each account, and its ends of the two
 /// mailboxes.
@@ -31,10 +31,10 @@ impl<'s, S: Shared, G: Gate> Promise<Result<Desk<S>, RunFault>> for WorkerPromis
     ghost use Rattle.std.specs.Prelude.{◌≡◌, ◌≢◌, true, map, IfOk, Err};
     ghost use Rattle.runs_core.specs.Teams.{IsLeft};
     ghost use Rattle.runs_core.specs.Mails.{items_in};
+    ghost use Rattle.runs_core.specs.Ends.{IsSameInbox, IsSameOutbox, sent, taken};
+    ghost use Rattle.runs_core.specs.Handled.{answer_view};
+    ghost use Rattle.runs_core.specs.Logs.{has_close};
     ghost use Rattle.run_values.specs.declared.run_fault.RunFault.TheVariants as out;
-    ghost use Rattle.workers_core.specs.Ends.{IsSameInbox, IsSameOutbox, sent, taken};
-    ghost use Rattle.workers_core.specs.Handled.{answer_view};
-    ghost use Rattle.workers_core.specs.Logs.{has_close};
 
     ghost kept_by = { λ p r. IfOk r (λ left. IsSameInbox p.desk.value.inbox left.inbox
         × IsSameOutbox p.desk.value.outbox left.outbox

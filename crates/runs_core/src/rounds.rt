@@ -8,7 +8,7 @@ ghost use Rattle.runs_core.specs.Hearing.{AreAnswers};
 ghost use Rattle.runs_core.specs.RunFaults.{AsksNoGate, MayAskGate};
 ghost use Rattle.runs_core.specs.Sending.{promises_of};
 ghost use Rattle.runs_core.specs.Shares.{AreShares, item_at, item_of, worker_of};
-ghost use Rattle.workers_core.specs.Workers.{IsReady, accounts_of, number_by, setup_of};
+ghost use Rattle.runs_core.specs.Workers.{IsReady, accounts_of, number_by, setup_of};
 ghost use Rattle.run_values.specs.declared.post.Body.{Body};
 
 use crate::crew::{Crew, Replies};

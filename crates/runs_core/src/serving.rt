@@ -11,17 +11,18 @@ ghost use Rattle.runs_core.specs.RunFaults.{AsksNoGate, MayAskGate, ended_by};
 ghost use Rattle.runs_core.specs.Runs.{HasRun};
 ghost use Rattle.runs_core.specs.Sending.{ArePromised, promises_of};
 ghost use Rattle.runs_core.specs.Teams.{AreFresh, are_workers};
+ghost use Rattle.runs_core.specs.Workers.{number_by};
 ghost use Rattle.account_core.specs.Answers.{IsLegal};
 ghost use Rattle.shared_account.specs.Closed.{IsBookOf};
 ghost use Rattle.shared_account.specs.Seats.{are_all};
 ghost use Rattle.turn_account.specs.Seen.{StoodIn};
-ghost use Rattle.workers_core.specs.Workers.{number_by};
 
 use crate::crew::Crew;
 use crate::laws;
 use crate::opened::{Opened, deal, empty_piles, open_accounts};
 use crate::rounds::play;
 use crate::threads::{finish_all, start_all};
+use crate::worker::Worker;
 use run_values::{Driver, RunFault, RunSetup};
 use shared_account::{Book, CloseFault, Gate, Shared};
 use std::alloc::Global;
@@ -30,7 +31,6 @@ use std::thread;
 use std::thread::{Scope, Threads};
 use std::vec::IntoIter;
 use turn_account::TurnAccount;
-use workers_core::Worker;
 
 /// The most workers of a run.
 const MAX_WORKERS: u32 = 16;

@@ -6,7 +6,7 @@ ghost use Rattle.std.specs.Vec.Iter.{into_iter_items};
 ghost use Rattle.runs_core.specs.RunFaults.{AsksNoGate, MayAskGate};
 ghost use Rattle.runs_core.specs.Sending.{AreLeftBy, ArePromised, IsFirstFault, MayBeShut, heard_by, promises_of, sent_by};
 ghost use Rattle.runs_core.specs.Teams.{AreFresh};
-ghost use Rattle.workers_core.specs.Workers.{number_by};
+ghost use Rattle.runs_core.specs.Workers.{number_by};
 
 use crate::worker_link::{WorkerLink, start};
 use run_values::{RunFault, RunSetup};

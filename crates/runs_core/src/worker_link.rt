@@ -6,22 +6,24 @@ ghost use Rattle.runs_core.specs.Mails.{items_in};
 ghost use Rattle.runs_core.specs.RunFaults.{AsksNoGate, MayAskGate};
 ghost use Rattle.runs_core.specs.Teams.{IsFresh, IsLeft};
 ghost use Rattle.runs_core.specs.Goings.{GoesOn};
-ghost use Rattle.workers_core.specs.Ends.{ArePaired, IsSameInbox, IsSameOutbox, sent, taken};
-ghost use Rattle.workers_core.specs.Handled.{answer_view};
-ghost use Rattle.workers_core.specs.Logs.{has_close};
-ghost use Rattle.workers_core.specs.Workers.{IsReady, number_by};
+ghost use Rattle.runs_core.specs.Ends.{ArePaired, IsSameInbox, IsSameOutbox, sent, taken};
+ghost use Rattle.runs_core.specs.Handled.{answer_view};
+ghost use Rattle.runs_core.specs.Logs.{has_close};
+ghost use Rattle.runs_core.specs.Workers.{IsReady, number_by};
+ghost use Rattle.runs_core.specs.declared.mailboxes.Mail.TheVariants as mail;
 ghost use Rattle.run_values.specs.declared.post.Answer.{Answer};
-ghost use Rattle.workers_core.specs.declared.mailboxes.Mail.TheVariants as mail;
 
 use crate::crew::answer_all;
+use crate::ends::{Gone, Inbox, Outbox};
+use crate::mailboxes::{Mail, compare_ends, mailbox};
 use crate::promise::{Desk, WorkerPromise};
+use crate::worker::Worker;
 use run_values::{Answer, Post, RunFault, RunSetup};
 use shared_account::{Gate, Shared};
 use std::alloc::{AllocError, Global};
 use std::snapshot::Snapshot;
 use std::sync::Wait;
 use std::thread::{PromisedHandle, Scope, Threads};
-use workers_core::{Gone, Inbox, Mail, Outbox, Worker, compare_ends, mailbox};
 
 /// How many mails wait in a mailbox at most: those of one round, and the last one.
 const MAILBOX: u32 = 2;

@@ -1,7 +1,12 @@
+pub mod ArgumentLemmas
+pub mod CappedLemmas
+pub mod CommandLemmas
 pub mod InputLemmas
 pub mod LineLemmas
 pub mod QuoteLemmas
 pub mod RateLemmas
 pub mod ReportLemmas
+pub mod RunLemmas
 pub mod SaidLemmas
+pub mod WordLemmas
 pub mod WriteLemmas

@@ -1,7 +1,7 @@
 -- A quote of what an input says.
 use Rattle.std.proofs.Common.{◌≡◌, ℕ, List, Ok, refl}
 use Rattle.tariff_core.specs.Bands.{Band}
-use Rattle.command_words.specs.QuoteWishes.{QuoteWish}
+use Rattle.table_commands.specs.QuoteWishes.{QuoteWish}
 use Rattle.run_texts.specs.Inputs.{tariff_in}
 use Rattle.table_commands.specs.Answers.{IsQuoteOfInput}
 use Rattle.table_commands.specs.Input.{sized}

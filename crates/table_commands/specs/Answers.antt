@@ -4,7 +4,7 @@ use Rattle.book_texts.specs.Audits.{Audited, IsAuditOf}
 use Rattle.book_texts.specs.Books.{Books, books_of}
 use Rattle.book_texts.specs.Sizes.{most_rows}
 use Rattle.book_texts.specs.declared.size.AuditAsk.{AuditAsk}
-use Rattle.command_words.specs.QuoteWishes.{QuoteWish}
+use Rattle.table_commands.specs.QuoteWishes.{QuoteWish}
 use Rattle.run_texts.specs.Inputs.{tariff_in}
 use Rattle.table_core.specs.Judging.{and_then}
 use Rattle.table_core.specs.Rows.{rows_of}

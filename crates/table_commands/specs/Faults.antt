@@ -1,9 +1,9 @@
 -- The faults of the program: their lines, their statuses, and how an answer meets its meaning.
 use Rattle.std.specs.Prelude.{◌≡◌, ℕ, List, ◌++◌, Option, Some, None, Result, Ok, Err, ⊤, codes}
 use Rattle.std.specs.Fmt.{decimal}
-use Rattle.command_words.specs.declared.fault.WordsFault.{WordsFault}
-use Rattle.command_words.specs.declared.fault.WordsFault.TheVariants as words
-use Rattle.message_rows.specs.Kinds.{line_kind_name as name_of_line}
+use Rattle.table_commands.specs.declared.words_fault.WordsFault.{WordsFault}
+use Rattle.table_commands.specs.declared.words_fault.WordsFault.TheVariants as words
+use Rattle.run_texts.specs.Kinds.{line_kind_name as name_of_line}
 use Rattle.live_log.specs.Faults.{log_fault_name as name_of_log}
 use Rattle.run_texts.specs.declared.input_fault.InputFault.{InputFault}
 use Rattle.run_texts.specs.declared.input_fault.InputFault.TheVariants as input

@@ -1,8 +1,8 @@
 -- The lines that `quote` prints.
 use Rattle.std.specs.Prelude.{◌≡◌, ◌⊎◌, ℕ, List, [], ◌∷◌, ◌++◌, Option, Some, None, codes, if◌then◌else◌}
 use Rattle.std.specs.Fmt.{decimal}
-use Rattle.moment_texts.specs.Printing.{moment_text, time_text}
-use Rattle.moment_texts.specs.declared.clock.Clock.{Clock}
+use Rattle.tariff_core.specs.Printing.{moment_text, time_text}
+use Rattle.tariff_core.specs.declared.clock.Clock.{Clock}
 use Rattle.table_core.specs.Decimals.{digits_text}
 use Rattle.price_core.specs.Afford.{units_afforded}
 use Rattle.tariff_core.specs.Bands.{Band}
@@ -12,7 +12,7 @@ use Rattle.tariff_core.specs.Routes.{HasNoRoute, IsQuote}
 use Rattle.price_core.specs.Times.{no_times}
 use Rattle.price_core.specs.declared.route.Route.{Route}
 use Rattle.price_core.specs.declared.times.TheConstants.{DAY}
-use Rattle.command_words.specs.QuoteWishes.{QuoteWish}
+use Rattle.table_commands.specs.QuoteWishes.{QuoteWish}
 use Rattle.rating.specs.Charges.{price_of_call}
 
 -- the digits of a prefix, and `-` for none

@@ -2,12 +2,12 @@
 
 ghost use Rattle.std.specs.Prelude.{◌≡◌, false, None, IfOk, IfSome, option_map, string_bytes};
 ghost use Rattle.std.specs.Result.{result_map_both};
-ghost use Rattle.book_texts.specs.Checks.{audited_by};
-ghost use Rattle.command_words.specs.QuoteWishes.{quote_wish_of};
+ghost use Rattle.table_commands.specs.QuoteWishes.{quote_wish_of};
 ghost use Rattle.table_commands.specs.Answers.{IsAuditOfInput, IsAuditOfTable, IsQuoteOfInput, price_of_input, printout_of_audit, replay_of_input};
 ghost use Rattle.table_commands.specs.Explanations.{IsSaidOfAnswer};
 ghost use Rattle.table_commands.specs.Faults.{GivesAnswer, GivesOne};
 ghost use Rattle.table_commands.specs.Printouts.{plain};
+ghost use Rattle.book_texts.specs.Checks.{audited_by};
 ghost use Rattle.price_core.specs.RatesOf.{rates_of};
 
 use crate::ending::Ending;
@@ -16,8 +16,8 @@ use crate::input::read_input;
 use crate::price_lines::print_reports;
 use crate::quoting::print_quote;
 use crate::reports::read_reports;
+use crate::{Opening, QuoteAsk};
 use book_texts::{Audit, AuditAsk, BookSize, audit_books, replay};
-use command_words::{Opening, QuoteAsk};
 use price_core::Plan;
 use run_texts::read_tariff;
 use std::alloc::Global;

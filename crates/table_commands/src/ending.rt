@@ -6,7 +6,7 @@ ghost use Rattle.table_commands.specs.Faults.{of_words};
 
 use crate::fault::{Fault, TableName};
 use crate::input::MAX_INPUT;
-use command_words::{WordsFault, explain_words};
+use crate::{WordsFault, explain_words};
 use explanations::{Slip, explain, explain_dividers};
 use std::alloc::{AllocError, Global};
 use std::convert::AsStr;

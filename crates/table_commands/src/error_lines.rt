@@ -1,10 +1,10 @@
 //! The lines that go to the error writer. They take no memory.
 
 ghost use Rattle.std.specs.Prelude.{◌≡◌, ◌++◌, codes, IfOk};
-ghost use Rattle.rating.specs.Fronts.{AppendsFront};
 ghost use Rattle.table_commands.specs.Faults.{line_of_fault, status_of};
 ghost use Rattle.table_commands.specs.Outputs.{IsOutputLine, IsSaidOfOutput};
 ghost use Rattle.table_commands.specs.Writers.{IsSaid};
+ghost use Rattle.rating.specs.Fronts.{AppendsFront};
 
 use crate::Fault;
 use arrayvec::ArrayString;

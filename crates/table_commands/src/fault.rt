@@ -1,15 +1,14 @@
 //! What a run of the program may have to refuse.
 
 ghost use Rattle.std.specs.Prelude.{◌≡◌, Some};
-ghost use Rattle.run_values.specs.declared.run_fault.RunFault.TheVariants as run;
 ghost use Rattle.table_commands.specs.Faults.{line_of_fault, text_of_table_name, of_words};
 ghost use Rattle.table_commands.specs.declared.fault.Fault.TheVariants as out;
+ghost use Rattle.run_values.specs.declared.run_fault.RunFault.TheVariants as run;
 
-use command_words::WordsFault;
+use crate::WordsFault;
 use live_log::LogFault;
-use message_rows::LineKind;
 use rating::RateFault;
-use run_texts::InputFault;
+use run_texts::{InputFault, LineKind};
 use run_values::RunFault;
 use std::alloc::{AllocError, AllocFailed};
 use std::{error, fmt};

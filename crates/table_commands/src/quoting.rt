@@ -1,17 +1,16 @@
 //! The lines that `quote` prints.
 
 ghost use Rattle.std.specs.Prelude.{◌≡◌, ◌+◌, ◌++◌, ◌≤◌, ◌<◌, codes, IfOk, IfSome, OnOk, string_bytes};
-ghost use Rattle.price_core.specs.RatesOf.{rates_of};
-ghost use Rattle.command_words.specs.QuoteWishes.{quote_wish_of};
+ghost use Rattle.table_commands.specs.QuoteWishes.{quote_wish_of};
 ghost use Rattle.table_commands.specs.Quotes.{IsQuoteText, afford_line, band_line, plan_text, prefix_text, price_line, quote_lines, steps_text, switch_line};
+ghost use Rattle.price_core.specs.RatesOf.{rates_of};
 
-use command_words::QuoteAsk;
-use moment_texts::{Clock, MomentField, TimeOfDay};
+use crate::QuoteAsk;
 use price_core::{DAY, HORIZON, MAX_MOMENT, Plan, Route, Times, afford};
 use rating::{PricedTimes, charge_call};
 use std::alloc::{AllocError, Global};
 use table_core::write_digits;
-use tariff_core::{Quote, Tariff};
+use tariff_core::{Clock, MomentField, Quote, Tariff, TimeOfDay};
 
 /// What a call to a number costs at a moment: the band and the switch, and the price of a call and
 /// the units that a credit affords where they are asked for; `no route` where no prefix fits.

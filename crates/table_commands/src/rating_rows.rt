@@ -2,11 +2,11 @@
 
 ghost use Rattle.std.specs.Prelude.{◌≡◌, ◌++◌, ◌⊎◌, [], IfOk, IfSome, OnOk, if◌then◌else◌};
 ghost use Rattle.std.specs.Io.KnownBytes.{Keeps};
+ghost use Rattle.table_commands.specs.Ratings.{IsRatedByWish};
+ghost use Rattle.table_commands.specs.Summaries.{counts_text, status_of_rating, sums_text, summary_line};
 ghost use Rattle.rating.specs.Fronts.{AppendsFront};
 ghost use Rattle.rating.specs.SaidOf.{rate_wish_of};
 ghost use Rattle.rating.specs.Scores.{IsBoundedScore};
-ghost use Rattle.table_commands.specs.Ratings.{IsRatedByWish};
-ghost use Rattle.table_commands.specs.Summaries.{counts_text, status_of_rating, sums_text, summary_line};
 
 use crate::error_lines::report_end;
 use crate::fault::Fault;

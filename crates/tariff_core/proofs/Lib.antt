@@ -1,3 +1,4 @@
+pub mod CalendarLemmas
 pub mod EnteringLemmas
 pub mod IndexLemmas
 pub mod Known
@@ -5,6 +6,7 @@ pub mod MidnightLemmas
 pub mod PrefixLemmas
 pub mod Proper
 pub mod RangeLemmas
+pub mod ReadBack
 pub mod Routing
 pub mod SwitchLemmas
 pub mod TableLemmas

@@ -1,7 +1,12 @@
 pub mod BandKeys
 pub mod Bands
+pub mod Calendar
 pub mod Digits
+pub mod Fields
 pub mod Laws
+pub mod MomentLaws
+pub mod Printing
+pub mod Reading
 pub mod Routes
 pub mod Tariff
 pub mod TariffFaults

@@ -2,12 +2,12 @@
 
 ghost use Rattle.std.specs.Prelude.{◌≡◌, ◌≤◌, ◌<◌, ◌+◌, ◌%◌, [], false, true, length, nat_le, Some, None, IfNone, IfSome, OnOk, All};
 ghost use Rattle.std.specs.List.{list_any};
-ghost use Rattle.price_core.specs.Rates.{are_steps};
 ghost use Rattle.tariff_core.specs.Bands.{counts_on, has_band, has_midnights, have_steps, weekday};
 ghost use Rattle.tariff_core.specs.Digits.{text_of_digits};
 ghost use Rattle.tariff_core.specs.Routes.{IsBandAt, IsSoonest};
 ghost use Rattle.tariff_core.specs.Tariff.{AreNoLonger, Finds, Indexes, IsIndexed, ReadsAs, KeepsRow, band_of, key_of};
 ghost use Rattle.tariff_core.specs.TariffTable.{GivesBands, bands_of, new_band_in, repeats, without_midnight};
+ghost use Rattle.price_core.specs.Rates.{are_steps};
 ghost use Rattle.csv.specs.Records.{fields_of};
 ghost use Rattle.table_core.specs.Rows.{rows_of};
 

@@ -1,8 +1,8 @@
 //! The weekday and the time of day at a moment.
 
 ghost use Rattle.std.specs.Prelude.{◌≡◌, ◌≤◌, ◌<◌, ◌%◌};
-ghost use Rattle.price_core.specs.declared.times.TheConstants.{DAY};
 ghost use Rattle.tariff_core.specs.Bands.{weekday};
+ghost use Rattle.price_core.specs.declared.times.TheConstants.{DAY};
 
 use price_core::DAY;
 

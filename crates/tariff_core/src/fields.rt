@@ -1,10 +1,10 @@
 //! The row that the fields of a tariff table say.
 
 ghost use Rattle.std.specs.Prelude.{◌≡◌, ◌≤◌, ◌<◌, true, length, IfSome, IfOk};
-ghost use Rattle.csv.specs.Records.{fields_of};
 ghost use Rattle.tariff_core.specs.Digits.{text_of_digits};
 ghost use Rattle.tariff_core.specs.Tariff.{ReadsAs, band_of};
 ghost use Rattle.tariff_core.specs.TariffTable.{are_days, band_in, days_in, first_in, free_in, is_prefix, step_in, time_of};
+ghost use Rattle.csv.specs.Records.{fields_of};
 
 use crate::digits::{Digits, PREFIX_DIGITS};
 use crate::row::{Cost, Row};

@@ -5,18 +5,12 @@ use run_values::{RunFault, SetupFault};
 use std::alloc::Global;
 use std::fmt::Display;
 use std::process::Abort;
-use workers_core::WorkerFault;
 
 const SETUP_FAULTS: [(SetupFault, u8, &str); 4] = [
     (SetupFault::Repeated, 1, "Repeated"),
     (SetupFault::Unknown, 2, "Unknown"),
     (SetupFault::OutOfRange, 3, "OutOfRange"),
     (SetupFault::OutOfMemory, 4, "OutOfMemory"),
-];
-
-const WORKER_FAULTS: [(WorkerFault, u8, &str); 2] = [
-    (WorkerFault::OutOfMemory, 1, "OutOfMemory"),
-    (WorkerFault::GateClosed, 2, "GateClosed"),
 ];
 
 const RUN_FAULTS: [(RunFault, u8, &str); 6] = [
@@ -44,9 +38,6 @@ fn expect<T: Display>(
 #[test]
 fn faults_have_names_and_numbers(rt: HostRuntime) {
     for &(fault, number, name) in &SETUP_FAULTS {
-        expect(&rt, rt.alloc(), &fault, fault as u8, number, name);
-    }
-    for &(fault, number, name) in &WORKER_FAULTS {
         expect(&rt, rt.alloc(), &fault, fault as u8, number, name);
     }
     for &(fault, number, name) in &RUN_FAULTS {

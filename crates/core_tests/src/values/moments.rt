@@ -1,8 +1,8 @@
 //! Moments behind those of every run, up to the last that has a date.
 
 use crate::looking::{gives, prints};
-use moment_texts::{Clock, MomentField, moment};
 use price_core::HORIZON;
+use tariff_core::{Clock, MomentField, moment};
 
 /// The last moment that is printed as a date and a time.
 const LAST: u64 = 2_534_023_007_999;

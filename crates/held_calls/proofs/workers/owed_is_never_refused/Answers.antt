@@ -1,5 +1,5 @@
 use Rattle.held_calls.proofs.Refusing.{never_refused}
-use Rattle.workers_core.specs.Refusals.{WasAt}
+use Rattle.runs_core.specs.Refusals.{WasAt}
 use Rattle.held_calls.proofs.workers.owed_is_never_refused.Goals as goal
 
 pub returns : goal.returns

@@ -1,6 +1,6 @@
 use Rattle.std.proofs.Common.{◌≡◌, ◌+◌, ◌∙◌, [], Ok, length, sym, ap, arith}
 use Rattle.live_answers.proofs.Chain.{none_heard}
-use Rattle.live_answers.proofs.Replaying.{first_is_wrong, goes_on}
+use Rattle.live_answers.proofs.ReplayLemmas.{first_is_wrong, goes_on}
 use Rattle.live_answers.proofs.checking.check_replay.Goals as goal
 use Rattle.live_answers.specs.Checks.{first_wrong}
 

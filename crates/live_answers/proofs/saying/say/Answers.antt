@@ -4,7 +4,7 @@ use Rattle.live_answers.proofs.GroupLemmas.{at_least, line_more, next_left, no_m
 use Rattle.live_answers.proofs.saying.say.Goals as goal
 use Rattle.live_answers.specs.Groups.{group_rows}
 use Rattle.live_answers.specs.Said.{line_view_of}
-use Rattle.message_rows.proofs.RowLemmas.{got}
+use Rattle.run_texts.proofs.RowLemmas.{got}
 
 pub loop-one-preserved : goal.loop-one-preserved
 loop-one-preserved g c =

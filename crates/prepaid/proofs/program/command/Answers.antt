@@ -2,9 +2,9 @@ use Rattle.std.proofs.Common.{inl, inr, refl, string_bytes}
 use Rattle.std.specs.Prelude.{option_map}
 use Rattle.book_texts.specs.Checks.{audited_by}
 use Rattle.price_core.specs.RatesOf.{rates_of}
-use Rattle.command_words.specs.Arguments.{AsksFor}
-use Rattle.command_words.specs.QuoteWishes.{quote_wish_of}
-use Rattle.command_words.specs.Wishes.{Wish, Audits, Prices, Quotes, Replays, Runs, RunsInto}
+use Rattle.table_commands.specs.Arguments.{AsksFor}
+use Rattle.table_commands.specs.QuoteWishes.{quote_wish_of}
+use Rattle.table_commands.specs.Wishes.{Wish, Audits, Prices, Quotes, Replays, Runs, RunsInto}
 use Rattle.rating.specs.SaidOf.{rate_wish_of as rate_wish_of}
 use Rattle.run_values.specs.Logs.{log_wish_of}
 use Rattle.run_values.specs.Options.{ask_of, live_ask_of}

@@ -3,7 +3,7 @@ use Rattle.std.specs.Vec.Iter.{into_iter_items}
 use Rattle.runs_core.proofs.WorkerLemmas.{all_going, none_going, one_going}
 use Rattle.runs_core.proofs.Shifting.{empty_by}
 use Rattle.runs_core.proofs.crew.answer_all.Goals as goal
-use Rattle.workers_core.specs.Workers.{holding, number_by}
+use Rattle.runs_core.specs.Workers.{holding, number_by}
 
 pub loop-post-init : goal.loop-post-init
 loop-post-init g c =

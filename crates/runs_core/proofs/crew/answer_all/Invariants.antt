@@ -3,7 +3,7 @@ use Rattle.std.specs.Vec.{vec_capacity, vec_len}
 use Rattle.std.specs.Vec.Iter.{into_iter_items}
 use Rattle.runs_core.proofs.WorkerLemmas.{AreGoing}
 use Rattle.runs_core.proofs.crew.answer_all.Given as goal
-use Rattle.workers_core.specs.Workers.{number_by}
+use Rattle.runs_core.specs.Workers.{number_by}
 
 abbrev pub invariant-loop-post : goal.invariant-loop-post
 invariant-loop-post g l =

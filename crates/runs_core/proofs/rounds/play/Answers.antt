@@ -3,7 +3,7 @@ use Rattle.std.specs.Prelude.{true}
 use Rattle.runs_core.proofs.Finishing.{none_failed}
 use Rattle.runs_core.proofs.RoundLemmas.{none_played, played_more, played_out}
 use Rattle.runs_core.proofs.rounds.play.Goals as goal
-use Rattle.workers_core.specs.Workers.{number_by}
+use Rattle.runs_core.specs.Workers.{number_by}
 
 pub loop-init : goal.loop-init
 loop-init g c = (

@@ -1,6 +1,6 @@
 use Rattle.std.proofs.Common.{◌≡◌, None}
 use Rattle.runs_core.specs.Sending.{promises_of}
-use Rattle.workers_core.specs.Workers.{accounts_of, number_by, setup_of}
+use Rattle.runs_core.specs.Workers.{accounts_of, number_by, setup_of}
 use Rattle.runs_core.proofs.RoundLemmas.{IsPlaying}
 use Rattle.runs_core.proofs.rounds.play.Given as goal
 

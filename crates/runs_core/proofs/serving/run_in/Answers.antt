@@ -6,7 +6,7 @@ use Rattle.runs_core.proofs.RoundLemmas.{has_left}
 use Rattle.runs_core.specs.RunFaults.{MayAskGate}
 use Rattle.runs_core.specs.Teams.{IsFresh}
 use Rattle.runs_core.proofs.serving.run_in.Goals as goal
-use Rattle.workers_core.specs.Workers.{number_by}
+use Rattle.runs_core.specs.Workers.{number_by}
 
 pub start_and_play-ran-requires-clause-first : goal.start_and_play-ran-requires-clause-first
 start_and_play-ran-requires-clause-first g c = λ _ _.

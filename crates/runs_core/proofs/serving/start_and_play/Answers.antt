@@ -1,7 +1,7 @@
 use Rattle.std.proofs.Common.{rules, ◌∙◌}
 use Rattle.runs_core.proofs.RoundLemmas.{none_served_by, on_ok, played_by, same_count}
 use Rattle.runs_core.proofs.serving.start_and_play.Goals as goal
-use Rattle.workers_core.specs.Workers.{number_by}
+use Rattle.runs_core.specs.Workers.{number_by}
 
 pub play-requires-clause-served : goal.play-requires-clause-served
 play-requires-clause-served g c = λ _ _.

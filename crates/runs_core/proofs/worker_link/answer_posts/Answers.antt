@@ -1,5 +1,5 @@
 use Rattle.runs_core.proofs.Mailing.{items_more}
-use Rattle.workers_core.specs.Ends.{sent}
+use Rattle.runs_core.specs.Ends.{sent}
 use Rattle.runs_core.proofs.worker_link.answer_posts.Goals as goal
 
 pub returns-clause-goes_on : goal.returns-clause-goes_on

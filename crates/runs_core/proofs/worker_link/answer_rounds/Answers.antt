@@ -1,8 +1,8 @@
 use Rattle.std.proofs.Common.{map, refl, ap, ◌∙◌}
 use Rattle.std.proofs.lemmas.List.{map-append}
-use Rattle.workers_core.specs.Ends.{sent, taken}
-use Rattle.workers_core.specs.Handled.{answer_view}
-use Rattle.workers_core.specs.Workers.{number_by}
+use Rattle.runs_core.specs.Ends.{sent, taken}
+use Rattle.runs_core.specs.Handled.{answer_view}
+use Rattle.runs_core.specs.Workers.{number_by}
 use Rattle.runs_core.specs.Mails.{items_in}
 use Rattle.runs_core.proofs.WorkerLemmas.{goes_none, goes_more}
 use Rattle.runs_core.proofs.Mailing.{closes, items_closed, items_more}

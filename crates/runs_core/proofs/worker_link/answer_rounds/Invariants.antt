@@ -1,7 +1,7 @@
 use Rattle.std.proofs.Common.{map}
-use Rattle.workers_core.specs.Ends.{IsSameInbox, IsSameOutbox, sent, taken}
-use Rattle.workers_core.specs.Handled.{answer_view}
-use Rattle.workers_core.specs.Workers.{number_by}
+use Rattle.runs_core.specs.Ends.{IsSameInbox, IsSameOutbox, sent, taken}
+use Rattle.runs_core.specs.Handled.{answer_view}
+use Rattle.runs_core.specs.Workers.{number_by}
 use Rattle.runs_core.specs.Goings.{GoesOn}
 use Rattle.runs_core.specs.Mails.{items_in}
 use Rattle.runs_core.proofs.worker_link.answer_rounds.Given as goal

@@ -1,4 +1,4 @@
-use Rattle.workers_core.specs.Ends.{taken}
+use Rattle.runs_core.specs.Ends.{taken}
 use Rattle.runs_core.proofs.Mailing.{whole_sent}
 use Rattle.runs_core.proofs.RoundLemmas.{on_ok}
 use Rattle.runs_core.proofs.worker_link.compare_all.Goals as goal

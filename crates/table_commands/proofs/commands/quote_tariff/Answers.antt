@@ -1,5 +1,5 @@
 use Rattle.std.proofs.Common.{◌≡◌, Ok, string_bytes}
-use Rattle.command_words.specs.QuoteWishes.{quote_wish_of}
+use Rattle.table_commands.specs.QuoteWishes.{quote_wish_of}
 use Rattle.table_core.proofs.Known.{at_known, if_known}
 use Rattle.table_commands.proofs.QuoteLemmas.{quoted}
 use Rattle.table_commands.specs.Answers.{IsQuoteOfInput}

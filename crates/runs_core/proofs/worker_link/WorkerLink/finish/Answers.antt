@@ -1,7 +1,7 @@
 use Rattle.std.proofs.Common.{◌≡◌, ◌++◌, ◌∷◌, [], ap, map, subst, rules, ◌∙◌}
 use Rattle.std.proofs.lemmas.List.{map-append}
-use Rattle.workers_core.specs.Ends.{sent, taken}
-use Rattle.workers_core.specs.Handled.{answer_view}
+use Rattle.runs_core.specs.Ends.{sent, taken}
+use Rattle.runs_core.specs.Handled.{answer_view}
 use Rattle.runs_core.specs.Mails.{items_in}
 use Rattle.runs_core.specs.Teams.{IsLeft}
 use Rattle.runs_core.proofs.Mailing.{items_closed, same_items}

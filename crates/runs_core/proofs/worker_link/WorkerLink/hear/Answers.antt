@@ -1,5 +1,5 @@
 use Rattle.runs_core.proofs.Mailing.{items_more}
-use Rattle.workers_core.specs.Ends.{taken}
+use Rattle.runs_core.specs.Ends.{taken}
 use Rattle.runs_core.proofs.worker_link.WorkerLink.hear.Goals as goal
 
 pub returns-in-Ok-Work-clause-answers : goal.returns-in-Ok-Work-clause-answers

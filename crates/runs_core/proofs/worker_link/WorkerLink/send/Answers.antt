@@ -5,7 +5,7 @@ use Rattle.std.proofs.lemmas.List.{append-nil}
 use Rattle.runs_core.specs.Mails.{items_in}
 use Rattle.runs_core.proofs.Mailing.{items_more}
 use Rattle.runs_core.proofs.Shifting.{empty_by}
-use Rattle.workers_core.specs.Ends.{sent}
+use Rattle.runs_core.specs.Ends.{sent}
 use Rattle.runs_core.proofs.worker_link.WorkerLink.send.Goals as goal
 
 pub returns-clause-posts : goal.returns-clause-posts

@@ -1,2 +1,0 @@
-pub mod HeadLemmas
-pub mod ServeLemmas

@@ -1,6 +1,0 @@
--- The reader behind one that records.
-use Rattle.answer_command.specs.declared.recording.Recording.{Recording}
-
--- the reader that is read
-abbrev pub recorded_input : {I : Type 0} → Recording I → I
-recorded_input recording = recording.input

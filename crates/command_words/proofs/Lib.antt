@@ -1,5 +1,0 @@
-pub mod ArgumentLemmas
-pub mod CappedLemmas
-pub mod CommandLemmas
-pub mod RunLemmas
-pub mod WordLemmas

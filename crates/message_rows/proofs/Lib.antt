@@ -1,2 +1,0 @@
-pub mod PlainLines
-pub mod RowLemmas

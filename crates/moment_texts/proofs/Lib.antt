@@ -1,2 +1,0 @@
-pub mod CalendarLemmas
-pub mod ReadBack

@@ -1,8 +1,0 @@
-use Rattle.moment_texts.proofs.ReadBack.{moments_plain, moments_read}
-use Rattle.moment_texts.proofs.laws.printed_moments_are_read.Goals as goal
-
-pub returns-clause-read : goal.returns-clause-read
-returns-clause-read c = moments_read c.printed_decimals_are_read.ensures.read
-
-pub returns-clause-plain : goal.returns-clause-plain
-returns-clause-plain c = moments_plain c.printed_decimals_are_read.ensures.plain

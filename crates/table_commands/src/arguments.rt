@@ -1,0 +1,115 @@
+//! The words of a command line.
+
+ghost use Rattle.std.specs.Prelude.{◌≡◌, Some, map, IfOk};
+ghost use Rattle.table_commands.specs.Arguments.{IsRead, IsClapRefusal, IsRequestOf, explains, wish_in};
+ghost use Rattle.table_commands.specs.CommandLine.{command_in, errors_in};
+ghost use Rattle.clap.specs.Words.{FailsBy, found_of, kind_of, rows_of, subcommand_rows_of};
+
+use crate::audit_words::audit_ask;
+use crate::command_line::program_command;
+use crate::options::{price_request, replay_request};
+use crate::quote_words::quote_request;
+use crate::rate_words::rate_request;
+use crate::request::Request;
+use crate::run_words::{run_ask, run_request};
+use crate::serve_words::{live_ask, serve_request};
+use crate::times::{explain_live_times, explain_run_times};
+use crate::words_fault::WordsFault;
+use clap::error::ErrorKind;
+use clap::{ArgMatches, Error};
+use std::alloc::{AllocError, Global};
+use std::convert::AsStr;
+
+/// What the words after the program's name ask for. `Arguments` where they ask for nothing that the
+/// program does, a number out of its range among them; `Config` where only a time of `run` or
+/// `serve` is out of its range.
+pub fn read_words<'a, S: AsStr>(alloc: Global, words: &'a [S]) -> Result<Request<'a>, WordsFault>
+    ensures { IsRead (map S.text words.now) result }
+{
+    match parse(alloc, words) {
+        Ok(matches) => asked(&matches),
+        Err(error) => refusal(alloc, &error),
+    }
+}
+
+/// What `clap` makes of words.
+fn parse<'a, S: AsStr>(alloc: Global, words: &'a [S]) -> Result<ArgMatches<'a>, Error>
+    ensures command { IfOk result (λ matches. subcommand_rows_of matches
+        ≡ command_in (map S.text words.now)) }
+    ensures kinds { FailsBy (errors_in (map S.text words.now)) result }
+{
+    program_command(alloc)?.try_get_matches_from(words)
+}
+
+/// Whether a fault is to be explained: the word `--explain` is in front of the others.
+pub fn explains<S: AsStr>(words: &[S]) -> bool
+    ensures { result ≡ explains (map S.text words.now) }
+{
+    match words.first() {
+        Some(word) => word.as_str() == "--explain",
+        None => false,
+    }
+}
+
+/// What `clap` says of words that it doesn't take. Of words that it takes, which time of `run` or
+/// `serve` is out of its range; empty where none is.
+pub fn explain_words<S: AsStr>(alloc: Global, words: &[S]) -> Result<String, AllocError> {
+    match parse(alloc, words) {
+        Ok(matches) => explain_options(alloc, &matches),
+        Err(error) => error.to_string(alloc),
+    }
+}
+
+/// Which time of a command is out of its range.
+fn explain_options(alloc: Global, matches: &ArgMatches<'_>) -> Result<String, AllocError> {
+    match matches.subcommand() {
+        Some(("run", options)) => match run_ask(options) {
+            Some(ask) => explain_run_times(alloc, options, &ask),
+            None => Ok(String::new(alloc)),
+        },
+        Some(("serve", options)) => match live_ask(options) {
+            Some(ask) => explain_live_times(alloc, options, &ask),
+            None => Ok(String::new(alloc)),
+        },
+        _ => Ok(String::new(alloc)),
+    }
+}
+
+/// What the command that the words name asks for, if its options say it.
+fn asked<'a>(matches: &ArgMatches<'a>) -> Result<Request<'a>, WordsFault>
+    ensures { IsRequestOf (wish_in (subcommand_rows_of matches.now)) result }
+{
+    match matches.subcommand() {
+        Some((name, options)) => request_of(name, options),
+        None => Err(WordsFault::Arguments),
+    }
+}
+
+/// What the command of a name asks for.
+fn request_of<'a>(name: &str, options: &ArgMatches<'a>) -> Result<Request<'a>, WordsFault>
+    ensures { IsRequestOf (wish_in (Some (name.now, rows_of (found_of options.now)))) result }
+{
+    match name {
+        "price" => price_request(options),
+        "replay" => replay_request(options),
+        "run" => run_request(options),
+        "audit" => Ok(Request::Audit(audit_ask(options))),
+        "quote" => quote_request(options),
+        "rate" => rate_request(options),
+        "serve" => serve_request(options),
+        _ => Err(WordsFault::Arguments),
+    }
+}
+
+/// What is answered where `clap` gives no matches: its help or the version where that was asked
+/// for.
+fn refusal<'a>(alloc: Global, error: &Error) -> Result<Request<'a>, WordsFault>
+    ensures { IsClapRefusal (kind_of error.now) result }
+{
+    match error.kind() {
+        ErrorKind::DisplayHelp => Ok(Request::Help(error.to_string(alloc)?)),
+        ErrorKind::DisplayVersion => Ok(Request::Version(error.to_string(alloc)?)),
+        ErrorKind::OutOfMemory => Err(WordsFault::OutOfMemory),
+        _ => Err(WordsFault::Arguments),
+    }
+}

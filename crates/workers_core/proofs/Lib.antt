@@ -1,9 +1,0 @@
-pub mod OwnCalls
-pub mod Calling
-pub mod Chaining
-pub mod Closes
-pub mod CaseLemmas
-pub mod Handling
-pub mod Orders
-pub mod Talking
-pub mod Verdicts
