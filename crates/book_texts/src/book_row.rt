@@ -8,10 +8,10 @@ ghost use Rattle.book_texts.specs.Columns.{answer_at};
 ghost use Rattle.book_texts.specs.BookRows.{book_account_in, columns_in, entry_in, is_no_answer, is_opening_blank, opening_in, reply_place, row_said_in};
 ghost use Rattle.book_texts.specs.SaidOf.{IsAffordable, row_said_of};
 
-use crate::Version;
 use crate::operation::{is_money_blank, is_op_blank, read_op, read_until};
 use crate::reply::{is_reply_blank, read_reply};
 use crate::seat::read_seat;
+use crate::version::Version;
 use crate::words::{read_op_word, read_reply_word};
 use account_core::Entry;
 use csv::ByteRecord;

@@ -8,7 +8,7 @@ ghost use Rattle.book_texts.specs.Columns.{reply_fields, answer_text, in_fourth,
 ghost use Rattle.price_core.specs.RatesOf.{rates_of};
 ghost use Rattle.table_core.specs.Fields.{number_or_empty};
 
-use crate::Version;
+use crate::version::Version;
 use account_core::{Op, Reply};
 use price_core::{Plan, TimeInfo};
 use std::alloc::AllocError;

@@ -28,4 +28,3 @@ pub use lines::{RunLines, run_lines};
 pub use replaying::replay;
 pub use size::{AuditAsk, BookSize, MAX_LONG_ROWS, MAX_ROWS};
 pub use table::book_table;
-pub use version::Version;

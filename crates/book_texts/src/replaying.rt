@@ -11,10 +11,10 @@ ghost use Rattle.table_core.specs.Rows.{rows_of};
 ghost use Rattle.csv.specs.Records.{fields_of};
 ghost use Rattle.table_core.specs.declared.fault.TableFault.TheVariants as out;
 
-use crate::Version;
 use crate::operation::{is_op_blank, read_op};
 use crate::response::write_response;
 use crate::seat::read_seat;
+use crate::version::Version;
 use crate::words::read_op_word;
 use account_core::{AccountFault, Op, Reply, Teller};
 use csv::ByteRecord;

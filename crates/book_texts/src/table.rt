@@ -6,9 +6,9 @@ ghost use Rattle.account_core.specs.Entries.{asked_of, entry_data};
 ghost use Rattle.book_texts.specs.BookTexts.{asks_steps, book_rows, book_text, entry_row, book_header, history_has_steps, version_of};
 ghost use Rattle.book_texts.specs.Typed.{IsTyped, IsTypedAsked};
 
-use crate::Version;
 use crate::columns::{write_answer, write_opening, write_operation};
 use crate::ranges::op_is_typed;
+use crate::version::Version;
 use account_core::{Entry, Op};
 use shared_account::Book;
 use std::alloc::{AllocError, Global};

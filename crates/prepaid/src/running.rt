@@ -164,7 +164,8 @@ impl Folder<'_> {
     ) -> Result<Answer, Fault>
         ensures answer { IfOk result (λ done.
             printout_of done ≡ printout_of_files (tables_said tables)) }
-        ensures fault { IfErr result (λ why. (why ≡ fault.Into) ⊎ (why ≡ fault.Run run.OutOfMemory)) }
+        ensures fault { IfErr result
+            (λ why. (why ≡ fault.Into) ⊎ (why ≡ fault.Run run.OutOfMemory)) }
     {
         match write_files(rt, alloc, self.path, &files_of(&tables)) {
             Ok(()) => Ok(Answer::of_files(alloc, tables)),

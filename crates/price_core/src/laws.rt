@@ -1,6 +1,6 @@
 //! Laws of the definitions, each the contract of a function that does nothing: the limits in plain
-//! numbers, and what the ceiling of a call and the units afforded are, in words that know nothing of
-//! how they are found.
+//! numbers, and what the ceiling of a call and the units afforded are, in words that know nothing
+//! of how they are found.
 
 ghost use Rattle.std.specs.Prelude.{◌≡◌, ◌*◌, ◌^◌};
 ghost use Rattle.price_core.specs.Price.{price_of};
