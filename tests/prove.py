@@ -46,8 +46,8 @@ rtlib.Crate.stamp = stamp
 
 
 def size_of(library):
-    """How much there is to prove of a library, more or less: the bytes of its files."""
-    return sum(os.path.getsize(it) for it in rtlib.files_of(library.folder))
+    """How much there is to prove of a library, more or less: the bytes of its code, beside which lemmas cost little."""
+    return sum(os.path.getsize(it) for it in rtlib.files_of(library.folder) if it.endswith(".rt"))
 
 
 def size_behind(libraries):
