@@ -32,8 +32,9 @@ pub(crate) struct Answered {
 /// that of the last accepted one, and where its number, if it has one, is how many were accepted
 /// before it. A line that isn't accepted changes nothing: its row `,,,service,fault,KIND,LINE,,`
 /// goes to the output. KIND is `TooLong` where it has more than `MAX_LINE` bytes; else what
-/// `read_message_line` says of it; else `Repeated` where its number is one that was accepted before;
-/// else `Order`, for a number that is too high, or for its moment. An empty line is passed over.
+/// `read_message_line` says of it; else `Repeated` where its number is one that was accepted
+/// before; else `Order`, for a number that is too high, or for its moment. An empty line is passed
+/// over.
 ///
 /// The run waits for the next line, and takes with it the whole lines that the reader has at hand
 /// behind it, but no more than `MAX_GROUP` lines. The accepted ones are written to the log, each
