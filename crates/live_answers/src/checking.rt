@@ -15,7 +15,7 @@ use std::alloc::{AllocError, Global};
 use table_core::RowKind;
 
 /// Why the lines of a log can't be heard again.
-#[derive(Clone, Copy, Debug, PartialEq, Eq)]
+#[derive(Clone, Copy)]
 pub(crate) enum ReplayFault {
     /// A line isn't accepted: its row, where the header in front of the lines is row 1, and what is
     /// wrong with it.

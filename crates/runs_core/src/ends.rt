@@ -59,7 +59,7 @@ fn is_close<T>(mail: &Mail<T>) -> bool
 }
 
 /// Why no mail was taken: none is left, and the other end is gone.
-#[derive(Clone, Copy, Debug, PartialEq, Eq)]
+#[derive(Clone, Copy)]
 pub(crate) struct Gone;
 
 /// The taking end of a mailbox. It knows all that it has taken.

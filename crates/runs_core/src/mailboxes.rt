@@ -58,7 +58,7 @@ pub(crate) fn compare_ends<T: Drop>(outbox: Outbox<T>, inbox: Inbox<T>)
 }
 
 /// What a mailbox carries.
-#[derive(Debug, PartialEq, Eq, Drop)]
+#[derive(Drop)]
 pub(crate) enum Mail<T> {
     /// What the mailbox is for.
     Work(T),
