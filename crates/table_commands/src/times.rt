@@ -5,6 +5,7 @@ use clap::ArgMatches;
 use price_core::DAY;
 use run_values::{LiveAsk, RunAsk};
 use std::alloc::{AllocError, Global};
+use std::fmt;
 
 /// A line about the first time of `run` that is out of its range; empty where none is.
 pub(crate) fn explain_run_times(
@@ -12,18 +13,17 @@ pub(crate) fn explain_run_times(
     options: &ArgMatches<'_>,
     ask: &RunAsk,
 ) -> Result<String, AllocError> {
-    let mut text = String::new(alloc);
     let rising = [
         ("delay", ask.delay),
         ("tccd", ask.tccd),
         ("least", ask.least),
         ("wanted", ask.wanted),
     ];
-    push_rising(&mut text, options, &rising)?;
-    if text.is_empty() {
-        push_rising(&mut text, options, &[("tssf", ask.tssf)])?;
+    let text = explain_rising(alloc, options, &rising)?;
+    if !text.is_empty() {
+        return Ok(text);
     }
-    Ok(text)
+    explain_rising(alloc, options, &[("tssf", ask.tssf)])
 }
 
 /// The same of `serve`.
@@ -32,67 +32,67 @@ pub(crate) fn explain_live_times(
     options: &ArgMatches<'_>,
     ask: &LiveAsk,
 ) -> Result<String, AllocError> {
-    let mut text = String::new(alloc);
     let rising = [
         ("tccd", ask.tccd),
         ("least", ask.least),
         ("wanted", ask.wanted),
     ];
-    push_rising(&mut text, options, &rising)?;
-    Ok(text)
+    explain_rising(alloc, options, &rising)
 }
 
-/// Of times that are to rise from 1 to a day, adds a line about the first that doesn't.
-fn push_rising(
-    text: &mut String,
+/// Of times that are to rise from 1 to a day, a line about the first that doesn't; empty where all
+/// do.
+fn explain_rising(
+    alloc: Global,
     options: &ArgMatches<'_>,
     times: &[(&'static str, u32)],
-) -> Result<(), AllocError> {
+) -> Result<String, AllocError> {
     let mut below = None;
     let mut least = 1;
-    for &time in times {
-        if time.1 < least {
-            return push_low(text, options, below, time);
+    for &(name, units) in times {
+        let time = Time {
+            name,
+            said: option_text(options, name),
+            units,
+        };
+        if units < least {
+            return explain_low(alloc, below, time);
         }
         below = Some(time);
-        least = time.1;
+        least = units;
     }
     match below {
-        Some(last) if least > DAY => {
-            push_time(text, options, last, " is above ")?;
-            writeln!(text, "{DAY}")
-        }
-        _ => Ok(()),
+        Some(last) if least > DAY => format!(in alloc; "{last} is above {DAY}\n"),
+        _ => Ok(String::new(alloc)),
     }
 }
 
-/// Adds a line about a time that is below the one before it, or below 1.
-fn push_low(
-    text: &mut String,
-    options: &ArgMatches<'_>,
-    before: Option<(&'static str, u32)>,
-    time: (&'static str, u32),
-) -> Result<(), AllocError> {
+/// A line about a time that is below the one before it, or below 1.
+fn explain_low(
+    alloc: Global,
+    before: Option<Time<'_>>,
+    time: Time<'_>,
+) -> Result<String, AllocError> {
     match before {
-        None => push_time(text, options, time, " is below 1\n"),
-        Some(before) => {
-            push_time(text, options, before, " is above ")?;
-            push_time(text, options, time, "\n")
-        }
+        None => format!(in alloc; "{time} is below 1\n"),
+        Some(before) => format!(in alloc; "{before} is above {time}\n"),
     }
 }
 
-/// Adds the name of a time, and what its option says, or what it is where that is left out; `end`
-/// is behind it.
-fn push_time(
-    text: &mut String,
-    options: &ArgMatches<'_>,
-    time: (&'static str, u32),
-    end: &str,
-) -> Result<(), AllocError> {
-    let (name, units) = time;
-    match option_text(options, name) {
-        Some(said) => write!(text, "{name} {said}{end}"),
-        None => write!(text, "{name} {units}{end}"),
+/// A time of a command: its name, and what its option says, or what it is where that is left out.
+#[derive(Clone, Copy)]
+struct Time<'a> {
+    name: &'static str,
+    said: Option<&'a str>,
+    units: u32,
+}
+
+impl fmt::Display for Time<'_> {
+    fn fmt<W: fmt::Write>(&self, f: &mut fmt::Formatter<W>) -> fmt::Result {
+        let Time { name, said, units } = *self;
+        match said {
+            Some(said) => write!(f, "{name} {said}"),
+            None => write!(f, "{name} {units}"),
+        }
     }
 }
