@@ -1,7 +1,8 @@
 -- One post more: what it says of a call.
 use Rattle.std.proofs.Common.{◌≡◌, ◌==◌, ◌||◌, ◌+◌, ◌<◌, length, get_or, take, ℕ, Bool, true, false, Option, Some, None, List, [], ◌∷◌, ◌++◌, refl, sym, ap, ◌∙◌, arith}
 use Rattle.std.proofs.lemmas.Bool.Decides.{nat_tests}
-use Rattle.std.proofs.lemmas.List.{take_more}
+use Rattle.std.proofs.lemmas.List.{flat_map_more, take_more}
+use Rattle.std.specs.List.{flat_map}
 use Rattle.std.specs.Prelude.{if◌then◌else◌, is_some}
 use Rattle.std.specs.Option.{option_or}
 use Rattle.cap_values.specs.declared.event.Event.{Event}
@@ -129,3 +130,9 @@ event_kept call given at event leg mode reports are = message_kept call given at
 pub next_item : {X : Type 0} (items : List X) (i : ℕ) (item : X) → i < length items → item ≡ get_or items i item
     → take (i + 1) items ≡ take i items ++ item ∷ []
 next_item items i item within is = take_more items i item within ∙ ap (λ x. take i items ++ x ∷ []) (sym is)
+
+-- what the items of a list add one after the other, with that of one item more
+pub added_next : {X A : Type 0} (f : X → List A) (front done more : List A) (items : List X) (i : ℕ) (item : X) → i < length items → item ≡ get_or items i item
+    → done ≡ front ++ flat_map f (take i items) → more ≡ done ++ f item → more ≡ front ++ flat_map f (take (i + 1) items)
+added_next f front done more items i item within is so_far adds =
+    adds ∙ ap (λ l. l ++ f item) so_far ∙ flat_map_more f front (take i items) item ∙ ap (λ l. front ++ flat_map f l) (sym (next_item items i item within is))

@@ -2,7 +2,7 @@
 use Rattle.std.proofs.Common.{◌≡◌, ◌==◌, ◌<◌, ◌≤◌, ◌+◌, ◌∙◌, ℕ, Bool, true, false, cond, Option, List, [], ◌∷◌, ◌++◌, length, map, refl, sym, ap, subst, get_or, take, arith}
 use Rattle.std.proofs.Math.ListN.{get_or-map, set}
 use Rattle.std.proofs.lemmas.Bool.{eqb-false, eqb-true}
-use Rattle.std.proofs.lemmas.List.{append-nil, get_or-replicate, get_or_default, get_or-set_other, get_or-set_same, length-replicate, length-set, map-set, take_more}
+use Rattle.std.proofs.lemmas.List.{append-nil, get_or-replicate, get_or_default, get_or-set_other, get_or-set_same, length-replicate, length-set, map-set, map_push, replicate_more, take_more}
 use Rattle.std.proofs.lemmas.List.Elements.{filter-append}
 use Rattle.std.specs.List.{filter}
 use Rattle.std.specs.Prelude.{replicate}
@@ -50,3 +50,9 @@ none_laid firsts payer piles is = record {
   count = ap length is ∙ length-replicate (1 + length firsts) [];
   each = λ part within. ap (λ p. get_or p part []) is ∙ get_or-replicate (1 + length firsts) part [] [] within;
 }
+
+-- one pile more, with nothing on it
+pub pile_more : {V : Type 0} (inside : V → List ScriptRow) (piles more : List V) (pile : V) (n : ℕ) → more ≡ piles ++ pile ∷ [] → inside pile ≡ [] → map inside piles ≡ replicate n []
+    → map inside more ≡ replicate (n + 1) []
+pile_more inside piles more pile n is none are =
+    ap (map inside) is ∙ map_push inside piles pile ∙ ap (λ p. map inside piles ++ p ∷ []) none ∙ ap (λ ps. ps ++ [] ∷ []) are ∙ replicate_more n []
