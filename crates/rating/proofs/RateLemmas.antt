@@ -31,6 +31,8 @@ use Rattle.rating.specs.Columns.{found_columns}
 use Rattle.rating.specs.Faults.{of_rows}
 use Rattle.rating.specs.declared.fault.RateFault.{RateFault}
 use Rattle.rating.specs.declared.fault.RateFault.TheVariants as fault
+use Rattle.run_texts.specs.InputFaults.{RefusesInput}
+use Rattle.run_texts.specs.declared.input_fault.InputFault.{InputFault}
 use Rattle.run_texts.specs.declared.input_fault.InputFault.TheVariants as input_fault
 use Rattle.table_core.specs.declared.fault.TableFault.{TableFault}
 use Rattle.table_core.specs.declared.fault.TableFault.TheVariants as table
@@ -255,6 +257,23 @@ pub stopped_ends : (differing : Bool) (meaning : Result RateInput RateFault) (ol
     → RateFaultMayAlwaysCome why → Keeps old new ⊎ IsInPart differing meaning old new → EndsRating differing meaning old new answer
 stopped_ends differing meaning old new (Ok score) why met may part = absurd met
 stopped_ends differing meaning old new (Err named) why met may part = rw met (stops differing meaning old new why may part)
+
+-- rating stops where a part of the input was refused, and nothing is written
+refused_stops : {Y : Type 0} (differing : Bool) (meaning : Result RateInput RateFault) (part : Result Y InputFault) (known : Option (List ℕ)) (why : InputFault)
+    → RefusesInput why part → (part ≡ Err why → meaning ≡ Err (fault.Input why)) → StopsBy differing meaning known known (fault.Input why)
+refused_stops differing meaning part known input_fault.Device refused so = inl (still_held known)
+refused_stops differing meaning part known input_fault.OutOfMemory refused so = inl (still_held known)
+refused_stops differing meaning part known input_fault.Parts refused so = (so refused, still_held known)
+refused_stops differing meaning part known input_fault.TooLong refused so = (so refused, still_held known)
+refused_stops differing meaning part known (input_fault.Tariff row) refused so = (so refused, still_held known)
+refused_stops differing meaning part known (input_fault.Setup row) refused so = (so refused, still_held known)
+refused_stops differing meaning part known (input_fault.Script row) refused so = (so refused, still_held known)
+
+-- a part of the input was refused, and nothing was written
+pub refused_ends : {Y : Type 0} (differing : Bool) (meaning : Result RateInput RateFault) (part : Result Y InputFault) (known : Option (List ℕ)) (answer : Result Score RateFault) (why : InputFault)
+    → IsErrAnd answer (λ met. met ≡ fault.Input why) → RefusesInput why part → (part ≡ Err why → meaning ≡ Err (fault.Input why)) → EndsRating differing meaning known known answer
+refused_ends differing meaning part known (Ok score) why met refused so = absurd met
+refused_ends differing meaning part known (Err named) why met refused so = rw met (refused_stops differing meaning part known why refused so)
 
 -- where nothing was written, any fault is silent
 pub still_silent : (known : Option (List ℕ)) (why : RateFault) → IsRatingSilent known known why
