@@ -1,6 +1,6 @@
 -- What seats know of their accounts, and calls that are one seat's alone.
 use Rattle.std.proofs.Common.{◌≡◌, ℕ, Bool, true, false, List, [], ◌∷◌, ◌++◌, Result, Ok, Err, refl, sym, ap, ◌∙◌, subst}
-use Rattle.std.specs.Prelude.{◌==◌, if◌then◌else◌, reverse, All, IfErr, MatchResult}
+use Rattle.std.specs.Prelude.{◌==◌, if◌then◌else◌, reverse, All, IfErr, IfOk, MatchResult}
 use Rattle.std.proofs.lemmas.Bool.{eq-eqb}
 use Rattle.std.proofs.lemmas.List.Elements.{All-head, All-tail}
 use Rattle.account_core.specs.Asked.{Asked, call_of}
@@ -9,11 +9,14 @@ use Rattle.account_core.specs.Places.{IsOwed}
 use Rattle.account_core.specs.declared.entry.Reply.{Reply}
 use Rattle.account_core.specs.declared.fault.AccountFault.{AccountFault}
 use Rattle.account_core.specs.declared.fault.AccountFault.TheVariants as fault
+use Rattle.shared_account.specs.Closed.{Closed}
 use Rattle.shared_account.specs.Own.{asks_of_call, of_call, own}
+use Rattle.shared_account.specs.Prefixes.{IsPrefix}
 use Rattle.shared_account.specs.Refusals.{IsAlone, Refusal}
-use Rattle.turn_account.specs.Seen.{CallsOfOneSeatAreAlone, HasSeen}
+use Rattle.shared_account.specs.declared.fault.CloseFault.{CloseFault}
+use Rattle.turn_account.specs.Seen.{CallsOfOneSeatAreAlone, HasSeen, IsOpenedAs, StoodIn}
 use Rattle.turn_account.specs.TurnViews.{TurnSeatView, own_of}
-use Rattle.shared_account.proofs.Beginnings.{begins_itself}
+use Rattle.shared_account.proofs.Beginnings.{begins_further, begins_itself}
 use Rattle.shared_account.proofs.Owning.{owed_alike}
 
 -- what a call that is the seat's alone is owed by its own entries, it is owed in the account that it has seen
@@ -26,6 +29,24 @@ owed_alone seat mine entry asked (Err why) own is_owed alone closes =
     let refusal : Refusal = record { account = seat.view; asked = asked; why = why } in
     let seen : HasSeen seat mine refusal = record { opening = refl; until = refl; limit = refl; begins = begins_itself seat.view.history; own = own } in
     is_owed (owed_alike mine seat.view.history asked closes (sym (alone mine refusal seen)))
+
+-- a book that was opened as each seat has seen, and begins with all that each has seen,
+-- is of the accounts that refused them
+pub stood_in_book : (seats : List TurnSeatView) (response : Result Closed CloseFault)
+    → IfOk response (λ book. All (λ seat. IsPrefix seat.view.history book.history) seats)
+    → IfOk response (λ book. All (λ seat. IsOpenedAs seat.view book) seats)
+    → IfOk response (λ book. All (λ seat. (mine : List EntryData) (refusal : Refusal)
+    → HasSeen seat mine refusal → StoodIn book seat.number mine refusal) seats)
+stood_in_book seats (Ok book) seen opened = λ k default within mine refusal has.
+    let same = opened k default within in
+    record {
+      opening = has.opening ∙ sym same.opening;
+      until = has.until ∙ sym same.until;
+      limit = has.limit ∙ sym same.limit;
+      begins = begins_further _ _ _ has.begins (seen k default within);
+      own = has.own;
+    }
+stood_in_book seats (Err fault) seen opened = tt
 
 -- ---- a call whose entries are by one seat
 

@@ -1,12 +1,12 @@
-use Rattle.std.proofs.Common.{◌≡◌, ◌∷◌, ◌++◌, [], List, ap, sym, subst}
-use Rattle.std.specs.Prelude.{MatchResult}
+use Rattle.std.proofs.Common.{◌≡◌, ℕ, ◌∷◌, ◌++◌, [], List, ap, sym, subst}
+use Rattle.std.specs.Prelude.{IfOk, MatchResult}
 use Rattle.account_core.specs.Entries.{EntryData, asked_of}
 use Rattle.account_core.specs.Ledger.{entry_by}
 use Rattle.shared_account.specs.Own.{own}
 use Rattle.turn_account.specs.Plays.{Sitter}
-use Rattle.shared_account.specs.Prefixes.{IsPrefix}
+use Rattle.shared_account.specs.Prefixes.{EndsWithEntry, IsPrefix}
 use Rattle.turn_account.specs.TurnViews.{TurnSeatView, own_of}
-use Rattle.turn_account.proofs.Calls.{HasGone, gone, owns, sits}
+use Rattle.turn_account.proofs.Calls.{HasGone, ends, gone, owns, sits}
 use Rattle.turn_account.proofs.account.TurnAccount.call.Given.{Over}
 use Rattle.turn_account.proofs.account.TurnAccount.call.Goals as goal
 
@@ -27,6 +27,17 @@ pub returns-clause-begins : goal.returns-clause-begins
 returns-clause-begins g c =
     let I : TurnSeatView → Type 0 = λ s. IsPrefix s.view.history c.hand_on.new.chair.me.0.seen.history in
     subst I c.seat.view_is (subst (IsPrefix c.seat.inside.chair.me.0.seen.history) (seen g c) (went g c).begins)
+
+pub returns-clause-ends : goal.returns-clause-ends
+returns-clause-ends g c =
+    let response = c.ask_and_count-result.result in
+    let Ends : ℕ → List EntryData → List EntryData → Type 0 = λ number before after. IfOk response
+    (λ reply. EndsWithEntry before (entry_by number (asked_of c.args.op) reply) after) in
+    let after = c.hand_on.new.chair.me.0.seen.history in
+    let S : TurnSeatView → Type 0 = λ s. Ends s.number s.view.history after in
+    let before = c.seat.inside.chair.me.0.seen.history in
+    subst S c.seat.view_is (subst (Ends c.seat.inside.number before) (seen g c)
+    (ends _ _ c.take_turn.ensures.later _ _ response c.ask_and_count-result.ensures.entered))
 
 pub returns-clause-own : goal.returns-clause-own
 returns-clause-own g c =
