@@ -1,6 +1,8 @@
 use Rattle.std.proofs.Common.{◌≢◌, [], ◌∷◌, sym, ◌∙◌, arith, append-nil}
 use Rattle.std.proofs.BufReadLemmas.{Consumes_through}
-use Rattle.std.proofs.lemmas.List.Elements.{All-nil}
+use Rattle.std.proofs.lemmas.List.Elements.{All-nil, All-push}
+use Rattle.std.proofs.KnownBytes.{Consumes-trans}
+use Rattle.std.proofs.lemmas.List.{length_push}
 use Rattle.table_core.proofs.Known.{if_known}
 use Rattle.run_texts.proofs.FirstSectionLemmas.{ends_some, kept_none, longer}
 use Rattle.run_texts.proofs.section.read_line.Goals as goal
@@ -23,4 +25,18 @@ returns-then-byte-eq10-clause-reads g c =
     let (within, none, taken) = c.loop-turn.invariant in
     let took = rw c.in-Some.is at c.in_ok-byte.ensures.takes in
     let read = Consumes_through 10 _ _ _ c.loop-turn.line.items (c.in-Some.byte ∷ []) taken none took (All-nil (λ x. x ≢ 10)) (λ some. c.if-byte-eq10.true) (λ no. absurd (omega (arith, no))) in
-    if_known (g.I.Read.remaining c.args.input.now) _ (λ text known. (c.in_ok-push.ensures.items ∙ rw known at read.0, rw known at read.1))
+    if_known (g.I.Read.remaining c.args.input.now) _ (λ text known. (rw c.in_ok-push.ensures.items (rw known at read.0), rw known at read.1))
+
+pub loop-turn-preserved : goal.loop-turn-preserved
+loop-turn-preserved g c =
+    let (within, none, taken) = c.loop-turn.invariant in
+    let took = rw c.in-Some.is at c.in_ok-byte.ensures.takes in
+    let line = c.loop-turn.line in
+    rw c.in_ok-push.ensures.items (
+      omega (arith, c.len.ensures, line.ok, length_push line.items c.in-Some.byte),
+      All-push (λ x. x ≢ 10) line.items c.in-Some.byte none c.if-byte-eq10.false,
+      Consumes-trans _ _ _ line.items _ taken took,
+    )
+
+pub returns : goal.returns
+returns g c = record { reads = tt; within = tt; fault = tt }

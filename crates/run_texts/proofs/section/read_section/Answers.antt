@@ -30,3 +30,6 @@ loop-turn-preserved g c =
           (λ none. eqb-false _ _ (sym c.is_empty.ensures ∙ c.if-is_empty.false) (omega (arith, none, c.in-Some.line.ok)))
           (rw c.as_slice.ensures.value at (sym c.is_divider.ensures ∙ c.if-is_divider.false)),
     )
+
+pub returns : goal.returns
+returns g c = if_known (g.I.Read.remaining c.args.input.now) _ (λ _ _. tt)
