@@ -1,5 +1,5 @@
-use Rattle.std.proofs.Common.{◌≡◌, arith, rules}
-use Rattle.live_answers.proofs.GroupLemmas.{cut_off, one_taken}
+use Rattle.std.proofs.Common.{◌≡◌, arith, rules, refl}
+use Rattle.live_answers.proofs.GroupLemmas.{cut_off, one_taken, at_end, none_taken}
 use Rattle.live_answers.proofs.group.take_group.Goals as goal
 
 pub returns-in-Err-Failed : goal.returns-in-Err-Failed
@@ -41,3 +41,32 @@ loop-count-preserved g c =
     let adds = rw is at c.in_ok-add-in-Ok-true.ensures in
     one_taken _ _ _ c.args.group.now.next c.args.group.now.last _ _ old.logged.items c.add.new.self.logged.items old.next old.last c.add.new.self.next c.add.new.self.last c.loop-count._count line
     c.loop-count.invariant (c.take_line.ensures.taken (search rules)) adds.said adds.logged adds.next adds.last
+
+pub loop-count-init : goal.loop-count-init
+loop-count-init g c =
+    let group = c.args.group.now in
+    none_taken _ group.next group.last _ _ (rw c.requires.said refl) c.requires.logged
+
+pub add-requires : goal.add-requires
+add-requires g c =
+    omega (arith, c.loop-count.invariant.room, c.requires.room, c.loop-count-test.true)
+
+pub returns-in-Ok-false : goal.returns-in-Ok-false
+returns-in-Ok-false g c =
+    let has = c.loop-count.invariant in
+    let rest = g.I.Read.remaining in
+    let ended = c.take_line.ensures.end (search rules) in
+    record {
+      taken = (
+        has.lines,
+        omega (arith, has.few, c.loop-count-test.true),
+        at_end _ (rest c.loop-count.input) (rest c.take_line.new.input) has.lines has.takes ended,
+        has.said_is,
+        has.logged_is,
+      );
+    }
+
+pub returns : goal.returns
+returns g c =
+    let has = c.loop-count.invariant in
+    record { taken = (has.lines, omega (arith, has.few), has.takes, has.said_is, has.logged_is) }

@@ -1,7 +1,7 @@
-use Rattle.std.proofs.Common.{◌≡◌, ◌≢◌, ◌<◌, ◌++◌, length, true≢false, sym, ap, subst, ◌∙◌, arith, length-take}
-use Rattle.std.proofs.BufReadLemmas.{Consumes_through, take_through_nonempty}
+use Rattle.std.proofs.Common.{◌≡◌, ◌≢◌, ◌<◌, ◌++◌, length, true≢false, sym, ap, subst, ◌∙◌, arith, length-take, []}
+use Rattle.std.proofs.BufReadLemmas.{Consumes_through, take_through_nonempty, IsAtEnd-of_take_through}
 use Rattle.std.proofs.KnownBytes.{Consumes-trans}
-use Rattle.std.proofs.lemmas.Bool.{eqb-false}
+use Rattle.std.proofs.lemmas.Bool.{eqb-false, eqb-true}
 use Rattle.std.proofs.lemmas.List.Elements.{All-append}
 use Rattle.std.specs.Io.BufRead.{take_through}
 use Rattle.live_answers.proofs.LineLemmas.{keeps_more}
@@ -40,3 +40,15 @@ returns-then-branch-clause-taken g c =
       c.in_ok-end_line.ensures whole line_is ∙ ap kept through,
       left,
     ))
+
+pub returns-then-is_empty-clause-end : goal.returns-then-is_empty-clause-end
+returns-then-is_empty-clause-end g c =
+    let (done, is, none, took) = c.loop-turn.invariant in
+    let (part, grown, stops, takes, none_more, ends, end) = c.in_ok-take_part.ensures.takes in
+    let line = c.take_part.new.line in
+    let zero : line.len ≡ 0 = eqb-true _ _ (sym c.is_empty.ensures ∙ c.if-is_empty.true) in
+    let line_is = keeps_more 4097 done part _ _ is grown in
+    let whole = c.if-branch.true in
+    let read = Consumes_through 10 _ _ _ done part took none takes stops (ends whole) (end whole) in
+    λ _. IsAtEnd-of_take_through 10 (g.I.Read.remaining c.args.input.now) [] (done ++ part) read.0
+    (omega (arith, ap length line_is, length-take 4097 (done ++ part), zero, line.ok))
