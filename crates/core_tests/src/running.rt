@@ -1,4 +1,4 @@
-//! The tests of `run_values`, `runs_core`, `run_texts` and `live_log`.
+//! The tests of `run_values`, `runs_core`, `run_texts` and `live_answers`.
 
 mod faults;
 mod live_logs;

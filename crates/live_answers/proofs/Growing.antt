@@ -5,7 +5,7 @@ use Rattle.std.specs.Io.KnownBytes.{Appends, Keeps}
 use Rattle.live_answers.specs.Runs.{Logs, PrintsText}
 use Rattle.live_answers.specs.declared.stage.LiveFault.{LiveFault}
 use Rattle.live_answers.specs.declared.stage.LiveFault.TheVariants as fault
-use Rattle.rating.specs.Fronts.{Writes}
+use Rattle.table_core.specs.Fronts.{Writes}
 
 pub grow_twice : (a b c : Option (List ℕ)) (xs ys : List ℕ) → Appends a b xs → Appends b c ys → Appends a c (xs ++ ys)
 grow_twice None b c xs ys first second = tt

@@ -4,6 +4,8 @@ pub mod GroupLemmas
 pub mod Growing
 pub mod HeadLemmas
 pub mod LineLemmas
+pub mod Parts
+pub mod Passing
 pub mod ReplayLemmas
 pub mod ServeLemmas
 pub mod Silence

@@ -13,7 +13,7 @@ use Rattle.live_answers.specs.Runs.{AnswersLines, IsLiveRunTo, PrintsText}
 use Rattle.live_answers.specs.declared.replay.Replay.{Replay}
 use Rattle.live_answers.specs.declared.stage.LiveFault.{LiveFault}
 use Rattle.live_answers.specs.declared.stage.LiveFault.TheVariants as fault
-use Rattle.rating.specs.Fronts.{AppendsFront}
+use Rattle.table_core.specs.Fronts.{AppendsFront}
 use Rattle.run_values.specs.Logs.{LogWish}
 use Rattle.run_values.specs.declared.live.LiveAsk.{LiveAsk}
 use Rattle.run_values.specs.declared.live.LiveOutput.{LiveOutput}

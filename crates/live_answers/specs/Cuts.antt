@@ -6,7 +6,7 @@ use Rattle.live_answers.specs.declared.fault.Stop.{Stop}
 use Rattle.live_answers.specs.declared.fault.Stop.TheVariants as stop
 use Rattle.live_answers.specs.declared.stage.LiveFault.{LiveFault}
 use Rattle.live_answers.specs.declared.stage.LiveFault.TheVariants as fault
-use Rattle.rating.specs.Fronts.{AppendsFront}
+use Rattle.table_core.specs.Fronts.{AppendsFront}
 
 -- of a round that was stopped by a fault
 abbrev pub WhereFailed : (LiveFault → Type 0) → Stop → Type 0

@@ -7,7 +7,7 @@ use Rattle.run_outputs.specs.Tables.{IsCallText}
 use Rattle.live_answers.specs.declared.stage.LiveFault.{LiveFault}
 use Rattle.live_answers.specs.declared.stage.LiveFault.TheVariants as fault
 use Rattle.tariff_core.specs.declared.clock.Clock.TheVariants as clock
-use Rattle.rating.specs.Fronts.{AppendsFront}
+use Rattle.table_core.specs.Fronts.{AppendsFront}
 use Rattle.run_values.specs.declared.live.LiveOutput.{LiveOutput}
 use Rattle.run_values.specs.declared.live.LiveOutput.TheVariants as output
 use Rattle.tariff_core.specs.Bands.{have_steps}

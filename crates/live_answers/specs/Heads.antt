@@ -4,7 +4,7 @@ use Rattle.std.specs.Io.KnownBytes.{Keeps}
 use Rattle.live_answers.specs.Runs.{MayEndLive}
 use Rattle.live_answers.specs.declared.checking.ReplayFault.{ReplayFault}
 use Rattle.live_answers.specs.declared.checking.ReplayFault.TheVariants as replay
-use Rattle.live_log.specs.declared.fault.LogFault.TheVariants as log
+use Rattle.run_values.specs.declared.log_fault.LogFault.TheVariants as log
 use Rattle.run_values.specs.declared.live.LiveAsk.{LiveAsk}
 use Rattle.run_texts.specs.FirstSections.{FirstSection, first_section}
 use Rattle.run_texts.specs.InputFaults.{RefusesInput}

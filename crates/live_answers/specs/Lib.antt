@@ -7,6 +7,9 @@ pub mod Inputs
 pub mod Laws
 pub mod Lines
 pub mod Live
+pub mod LogHeads
+pub mod Logs
+pub mod Passing
 pub mod Recordings
 pub mod Replays
 pub mod Rounds

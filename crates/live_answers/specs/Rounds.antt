@@ -12,7 +12,7 @@ use Rattle.live_answers.specs.declared.stage.LiveFault.{LiveFault}
 use Rattle.live_answers.specs.declared.stage.LiveFault.TheVariants as fault
 use Rattle.live_answers.specs.declared.stage.Stage.{Stage}
 use Rattle.live_answers.specs.declared.stage.Stage.TheVariants as stage
-use Rattle.rating.specs.Fronts.{AppendsFront}
+use Rattle.table_core.specs.Fronts.{AppendsFront}
 use Rattle.run_values.specs.declared.post.Answer.{Answer}
 
 module _ {I O L : Type 0} where

@@ -6,7 +6,7 @@ use Rattle.live_answers.specs.declared.group.TheConstants.{MAX_GROUP}
 use Rattle.live_answers.specs.declared.replay.Replay.{Replay}
 use Rattle.live_answers.specs.declared.stage.LiveFault.{LiveFault}
 use Rattle.live_answers.specs.declared.stage.LiveFault.TheVariants as fault
-use Rattle.rating.specs.Fronts.{AppendsFront}
+use Rattle.table_core.specs.Fronts.{AppendsFront}
 use Rattle.run_values.specs.Setups.{Setup}
 use Rattle.run_values.specs.declared.post.Answer.{Answer}
 use Rattle.run_values.specs.declared.post.Body.{Body}

@@ -9,7 +9,7 @@ use Rattle.live_answers.specs.declared.judging.Said.{Said}
 use Rattle.live_answers.specs.declared.stage.Left.{Left}
 use Rattle.live_answers.specs.declared.stage.LiveFault.{LiveFault}
 use Rattle.live_answers.specs.declared.stage.LiveFault.TheVariants as fault
-use Rattle.rating.specs.Fronts.{AppendsFront}
+use Rattle.table_core.specs.Fronts.{AppendsFront}
 use Rattle.run_values.specs.declared.post.Body.{Body}
 
 -- lines were taken behind all that was given, of which all is logged and given, and which say this

@@ -7,9 +7,8 @@ ghost use Rattle.run_values.specs.declared.run_fault.RunFault.TheVariants as fau
 
 use crate::LiveFault;
 use crate::checking::ReplayFault;
-use live_log::LogFault;
 use run_texts::{InputFault, LineKind};
-use run_values::RunFault;
+use run_values::{LogFault, RunFault};
 use std::alloc::AllocError;
 
 /// Why an input isn't served to its end.

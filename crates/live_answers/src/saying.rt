@@ -7,18 +7,18 @@ ghost use Rattle.live_answers.specs.Groups.{group_rows, line_behind};
 ghost use Rattle.live_answers.specs.Live.{given_by, item_view};
 ghost use Rattle.live_answers.specs.Rows.{rows_of_line};
 ghost use Rattle.live_answers.specs.Said.{IsInRange, line_view_of};
-ghost use Rattle.rating.specs.Fronts.{Writes};
+ghost use Rattle.table_core.specs.Fronts.{Writes};
 ghost use Rattle.run_values.specs.declared.post.Body.{Body};
 
 use crate::fault::Stop;
 use crate::judging::Said;
 use crate::{LiveFault, Replay};
 use price_core::HORIZON;
-use rating::write_text;
 use run_texts::write_rows;
 use run_values::{Answer, Body};
 use std::alloc::{AllocError, Global};
 use std::io::Write;
+use table_core::write_text;
 use tariff_core::Clock;
 
 /// Prints what lines said that are behind the line of a number: of each the rows of its message,

@@ -12,20 +12,20 @@ ghost use Rattle.run_values.specs.Options.{live_ask_of};
 
 use crate::answering::{Answered, answer_live};
 use crate::head::read_setup;
+use crate::opening::{OpenLog, log_head, open_log};
 use crate::recording::Recording;
 use crate::replaying::{Rows, replay_of};
-use crate::{LiveFault, Replay, ServeError};
+use crate::{LiveFault, Replay, ServeError, Skipping};
 use book_texts::{book_table, run_lines};
-use live_log::{LogFault, OpenLog, Skipping, log_head, open_log};
-use rating::write_text;
 use run_outputs::{call_table, records};
-use run_values::{LiveOptions, LiveOutput, LogAsk, RunSetup};
+use run_values::{LiveOptions, LiveOutput, LogAsk, LogFault, RunSetup};
 use std::alloc::{AllocError, Global};
 use std::fs::File;
 use std::io::{self, BufRead, Read, Write};
 use std::rt::Files;
 use std::sync::Wait;
 use std::thread::Threads;
+use table_core::write_text;
 use tariff_core::Clock;
 
 /// Serves an input: a tariff, a line `%%`, a setup, a line `%%`, the header

@@ -10,7 +10,7 @@ use Rattle.live_answers.specs.Standing.{LineView}
 use Rattle.live_answers.specs.declared.group.TheConstants.{MAX_GROUP}
 use Rattle.live_answers.specs.declared.stage.LiveFault.{LiveFault}
 use Rattle.live_answers.specs.declared.stage.LiveFault.TheVariants as fault
-use Rattle.live_log.specs.Logs.{HasLines, HasLinesBehind}
+use Rattle.live_answers.specs.Logs.{HasLines, HasLinesBehind}
 use Rattle.live_recovery.specs.Recovery.{IsLogOf, LiveRun}
 use Rattle.run_texts.specs.Sections.{lines_in_text}
 use Rattle.live_recovery.proofs.Fronts.{logged_both}

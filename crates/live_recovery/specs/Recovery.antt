@@ -12,7 +12,7 @@ use Rattle.live_answers.specs.declared.group.TheConstants.{MAX_GROUP}
 use Rattle.live_answers.specs.declared.replay.Replay.{Replay}
 use Rattle.live_answers.specs.declared.stage.LiveFault.{LiveFault}
 use Rattle.live_answers.specs.declared.stage.LiveFault.TheVariants as fault
-use Rattle.live_log.specs.Logs.{HasLines, HasLinesBehind}
+use Rattle.live_answers.specs.Logs.{HasLines, HasLinesBehind}
 use Rattle.live_recovery.specs.Laws.{NoneIsRefused, views_of}
 use Rattle.run_values.specs.Setups.{Setup}
 use Rattle.run_values.specs.declared.post.Answer.{Answer}

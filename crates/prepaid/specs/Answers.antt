@@ -9,7 +9,7 @@ use Rattle.table_commands.specs.Arguments.{AsksFor, AsksHelp, AsksInVain, AsksNo
 use Rattle.table_commands.specs.Wishes.{Wish, Audits, Prices, Quotes, RatesRecords, Replays, Runs, RunsInto, Serves}
 use Rattle.table_commands.specs.declared.words_fault.WordsFault.TheVariants as words_fault
 use Rattle.rating.specs.Asks.{RateWish}
-use Rattle.rating.specs.Fronts.{AppendsFront}
+use Rattle.table_core.specs.Fronts.{AppendsFront}
 use Rattle.run_command.specs.Answers.{IsRunAnswer}
 use Rattle.run_outputs.specs.Texts.{RunSaid, TablesSaid}
 use Rattle.run_command.specs.Tables.{IsTablesAnswer}

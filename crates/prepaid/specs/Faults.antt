@@ -4,8 +4,8 @@ use Rattle.std.specs.declared.io.ErrorKind.{ErrorKind}
 use Rattle.live_answers.specs.declared.error.ServeError.{ServeError}
 use Rattle.live_answers.specs.declared.error.ServeError.TheVariants as serve
 use Rattle.live_answers.specs.declared.stage.LiveFault.TheVariants as live
-use Rattle.live_log.specs.declared.fault.LogFault.{LogFault}
-use Rattle.live_log.specs.declared.fault.LogFault.TheVariants as log
+use Rattle.run_values.specs.declared.log_fault.LogFault.{LogFault}
+use Rattle.run_values.specs.declared.log_fault.LogFault.TheVariants as log
 use Rattle.run_command.specs.declared.error.RunError.{RunError}
 use Rattle.run_command.specs.declared.error.RunError.TheVariants as error
 use Rattle.run_values.specs.declared.run_fault.RunFault.TheVariants as run

@@ -5,9 +5,8 @@ ghost use Rattle.std.specs.IoError.{error_kind};
 ghost use Rattle.prepaid.specs.Faults.{of_files, of_log, of_run, of_serve};
 
 use live_answers::{LiveFault, ServeError};
-use live_log::LogFault;
 use run_command::RunError;
-use run_values::RunFault;
+use run_values::{LogFault, RunFault};
 use std::io::{Error, ErrorKind};
 use table_commands::{Fault, TableName};
 

@@ -3,7 +3,7 @@
 ghost use Rattle.std.specs.Prelude.{◌≡◌, ◌⊎◌, ◌++◌, map, option_map, string_bytes};
 ghost use Rattle.std.specs.Io.KnownBytes.{Keeps};
 ghost use Rattle.std.specs.Result.{result_map_both};
-ghost use Rattle.rating.specs.Fronts.{AppendsFront};
+ghost use Rattle.table_core.specs.Fronts.{AppendsFront};
 ghost use Rattle.prepaid.specs.Answers.{Answers, IsCutOff, IsPrinted, IsSaidOrReported, RatesAsAsked, ServesAsAsked};
 ghost use Rattle.prepaid.specs.Printouts.{printout_of};
 ghost use Rattle.run_outputs.specs.RefusedLines.{refused_line};
@@ -12,7 +12,6 @@ use crate::answer::Answer;
 use crate::ending::{audit_ending, text_ending};
 use crate::running::{run_input, run_input_into};
 use crate::serving::serve_messages;
-use rating::write_text;
 use run_command::Watch;
 use run_outputs::{Refusals, refused_line};
 use std::convert::AsStr;
@@ -25,6 +24,7 @@ use table_commands::{
     Ending, Noting, Request, audit_input, explains, price_input, quote_input, rate_input,
     read_words, replay_input, report, report_output, report_with, write_both,
 };
+use table_core::write_text;
 
 /// Runs the program over the words after its name, and gives the exit status:
 ///

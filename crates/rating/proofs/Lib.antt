@@ -1,6 +1,5 @@
 pub mod ColumnLemmas
 pub mod CutLemmas
-pub mod FrontLemmas
 pub mod FrontRows
 pub mod LineLemmas
 pub mod PassLemmas

@@ -12,11 +12,11 @@ use Rattle.csv.specs.Records.{fields_of}
 use Rattle.table_core.specs.Rows.{Fields, HasRowsLeft, TakesNext, rows_of}
 use Rattle.table_core.specs.declared.table.Rows.{Rows}
 use Rattle.rating.specs.Ends.{AddsRatedRow, EndsRating, IsInPart, IsRatedWhole, IsRatingSilent, RateFaultMayAlwaysCome, SendsFront, StopsBy}
-use Rattle.rating.specs.Fronts.{AppendsFront}
+use Rattle.table_core.specs.Fronts.{AppendsFront}
 use Rattle.rating.specs.Lines.{columns_text, header_line, rated_line, shown}
 use Rattle.rating.specs.Rated.{IsPriced, IsRated, Rating, Faulty, is_right}
 use Rattle.rating.specs.Calls.{said_in, row_size, with_commas}
-use Rattle.rating.proofs.FrontLemmas.{still_held}
+use Rattle.table_core.proofs.FrontLemmas.{still_held}
 use Rattle.rating.proofs.FrontRows.{WholeOrOver, less_is, not_less, whole_or_over}
 use Rattle.rating.proofs.LineLemmas.{row_written}
 use Rattle.rating.proofs.StartCuts.{table_cut}

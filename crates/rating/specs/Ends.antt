@@ -3,7 +3,7 @@ use Rattle.std.specs.Prelude.{◌≡◌, ◌⊎◌, ◌++◌, ℕ, Bool, List, O
 use Rattle.std.specs.Io.KnownBytes.{Appends, Keeps}
 use Rattle.run_texts.specs.declared.input_fault.InputFault.TheVariants as input
 use Rattle.table_core.specs.Rows.{Fields}
-use Rattle.rating.specs.Fronts.{AppendsFront}
+use Rattle.table_core.specs.Fronts.{AppendsFront}
 use Rattle.rating.specs.Texts.{AreRated, IsRatedText, RateInput, RatedRow, rated_text}
 use Rattle.rating.specs.Lines.{rated_line}
 use Rattle.rating.specs.Rated.{IsRated, Rating}

@@ -5,7 +5,6 @@ pub mod Columns
 pub mod Cuts
 pub mod Ends
 pub mod Faults
-pub mod Fronts
 pub mod Laws
 pub mod Lines
 pub mod Rated

@@ -14,7 +14,6 @@ mod line;
 mod rated;
 mod rating;
 mod score;
-mod writing;
 
 pub use ask::{Names, RateAsk, TimeNames};
 pub use charge::{PricedTimes, charge_call};
@@ -23,4 +22,3 @@ pub use kind::RateKind;
 pub use laws::pieces_are_rated;
 pub use rating::rate;
 pub use score::Score;
-pub use writing::write_text;

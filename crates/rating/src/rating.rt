@@ -16,12 +16,12 @@ use crate::columns::Columns;
 use crate::cut_rows::CutRows;
 use crate::line::{push_fields, push_names, push_rated};
 use crate::rated::{Rated, rate_row};
-use crate::{RateAsk, RateFault, Score, write_text};
+use crate::{RateAsk, RateFault, Score};
 use csv::ByteRecord;
 use run_texts::{InputFault, read_section, read_tariff};
 use std::alloc::{AllocError, Global};
 use std::io::{BufReader, Read, Write};
-use table_core::Rows;
+use table_core::{Rows, write_text};
 use tariff_core::Tariff;
 
 /// How many bytes are gathered before they are written.

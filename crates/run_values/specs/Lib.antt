@@ -1,4 +1,5 @@
 pub mod Configs
+pub mod LogFaults
 pub mod Logs
 pub mod Openings
 pub mod Options

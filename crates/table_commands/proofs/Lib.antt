@@ -3,10 +3,14 @@ pub mod CappedLemmas
 pub mod CommandLemmas
 pub mod InputLemmas
 pub mod LineLemmas
+pub mod MarkLemmas
 pub mod QuoteLemmas
 pub mod RateLemmas
 pub mod ReportLemmas
 pub mod RunLemmas
 pub mod SaidLemmas
+pub mod SectionLemmas
+pub mod ShownLemmas
+pub mod WalkLemmas
 pub mod WordLemmas
 pub mod WriteLemmas

@@ -3,8 +3,8 @@ use Rattle.std.proofs.Common.{◌≡◌, ℕ, zero, suc, ◌+◌, Bool, true, fa
 use Rattle.std.proofs.Math.Seq.{take-append-add}
 use Rattle.std.specs.Prelude.{codes}
 use Rattle.std.specs.Io.KnownBytes.{Appends}
-use Rattle.rating.proofs.FrontLemmas.{none_written, still_held}
-use Rattle.rating.specs.Fronts.{AppendsFront, Writes}
+use Rattle.table_core.proofs.FrontLemmas.{none_written, still_held}
+use Rattle.table_core.specs.Fronts.{AppendsFront, Writes}
 use Rattle.table_commands.specs.Outputs.{IsSaidOfOutput}
 
 -- a front of the first text is one of both

@@ -1,8 +1,8 @@
 -- What is said of a fault behind its line.
 use Rattle.std.specs.Prelude.{◌≡◌, Bool, false, List, ℕ, Option, Some, None, Result, ⊤, IfErr, IfSome, if◌then◌else◌}
-use Rattle.explanations.specs.Slips.{Explains}
-use Rattle.explanations.specs.declared.slip.Slip.{Slip}
-use Rattle.explanations.specs.declared.slip.Slip.TheVariants as slip
+use Rattle.table_commands.specs.Slips.{Explains}
+use Rattle.table_commands.specs.declared.explanations.slip.Slip.{Slip}
+use Rattle.table_commands.specs.declared.explanations.slip.Slip.TheVariants as slip
 use Rattle.table_commands.specs.declared.fault.Fault.{Fault}
 use Rattle.table_commands.specs.declared.fault.Fault.TheVariants as fault
 use Rattle.table_commands.specs.declared.fault.TableName.TheVariants as table_name

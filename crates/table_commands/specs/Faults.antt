@@ -4,7 +4,7 @@ use Rattle.std.specs.Fmt.{decimal}
 use Rattle.table_commands.specs.declared.words_fault.WordsFault.{WordsFault}
 use Rattle.table_commands.specs.declared.words_fault.WordsFault.TheVariants as words
 use Rattle.run_texts.specs.Kinds.{line_kind_name as name_of_line}
-use Rattle.live_log.specs.Faults.{log_fault_name as name_of_log}
+use Rattle.run_values.specs.LogFaults.{log_fault_name as name_of_log}
 use Rattle.run_texts.specs.declared.input_fault.InputFault.{InputFault}
 use Rattle.run_texts.specs.declared.input_fault.InputFault.TheVariants as input
 use Rattle.rating.specs.declared.fault.RateFault.{RateFault}

@@ -17,8 +17,13 @@ pub mod Quotes
 pub mod RateWords
 pub mod Ratings
 pub mod Reports
+pub mod RowLines
+pub mod RowStarts
 pub mod RunWords
+pub mod Sections
 pub mod ServeWords
+pub mod Slips
 pub mod Summaries
+pub mod Walks
 pub mod Wishes
 pub mod Writers

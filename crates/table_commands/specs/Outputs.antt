@@ -1,7 +1,7 @@
 -- What is said of an output that failed.
 use Rattle.std.specs.Prelude.{◌≡◌, ◌++◌, ℕ, Bool, true, false, List, Option, codes}
 use Rattle.std.specs.Io.KnownBytes.{Keeps}
-use Rattle.rating.specs.Fronts.{AppendsFront}
+use Rattle.table_core.specs.Fronts.{AppendsFront}
 
 -- a line that says why it failed, in the words of the system, which no clause can know
 pub record IsOutputLine (line : List ℕ) : Type 0 where

@@ -3,7 +3,7 @@ use Rattle.std.specs.Prelude.{◌≡◌, ◌⊎◌, ◌++◌, ℕ, Bool, List, O
 use Rattle.std.specs.Io.KnownBytes.{Keeps}
 use Rattle.rating.specs.Asks.{RateWish}
 use Rattle.rating.specs.Ends.{IsInPart, IsRatedWhole as IsRatedWhole}
-use Rattle.rating.specs.Fronts.{AppendsFront}
+use Rattle.table_core.specs.Fronts.{AppendsFront}
 use Rattle.rating.specs.Texts.{rate_input_of}
 use Rattle.rating.specs.declared.fault.RateFault.{RateFault}
 use Rattle.rating.specs.declared.score.Score.{Score}

@@ -1,7 +1,7 @@
 -- What goes to the two writers of the program.
 use Rattle.std.specs.Prelude.{◌≡◌, ◌++◌, ℕ, Bool, List, Option, Some, None, codes}
 use Rattle.std.specs.Io.KnownBytes.{Keeps}
-use Rattle.rating.specs.Fronts.{AppendsFront}
+use Rattle.table_core.specs.Fronts.{AppendsFront}
 use Rattle.table_commands.specs.Faults.{line_of_fault, status_of}
 use Rattle.table_commands.specs.Outputs.{IsSaidOfOutput}
 use Rattle.table_commands.specs.declared.fault.Fault.{Fault}

@@ -4,10 +4,10 @@ ghost use Rattle.std.specs.Prelude.{◌≡◌, false, Err, None, IfErr, IfNone, 
 ghost use Rattle.table_commands.specs.Explanations.{IsOfWords, IsSaidOfFault, slip_of};
 ghost use Rattle.table_commands.specs.Faults.{of_words};
 
+use crate::explanations::{Slip, explain, explain_dividers};
 use crate::fault::{Fault, TableName};
 use crate::input::MAX_INPUT;
 use crate::{WordsFault, explain_words};
-use explanations::{Slip, explain, explain_dividers};
 use std::alloc::{AllocError, Global};
 use std::convert::AsStr;
 

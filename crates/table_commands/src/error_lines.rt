@@ -4,13 +4,13 @@ ghost use Rattle.std.specs.Prelude.{◌≡◌, ◌++◌, codes, IfOk};
 ghost use Rattle.table_commands.specs.Faults.{line_of_fault, status_of};
 ghost use Rattle.table_commands.specs.Outputs.{IsOutputLine, IsSaidOfOutput};
 ghost use Rattle.table_commands.specs.Writers.{IsSaid};
-ghost use Rattle.rating.specs.Fronts.{AppendsFront};
+ghost use Rattle.table_core.specs.Fronts.{AppendsFront};
 
 use crate::Fault;
 use arrayvec::ArrayString;
-use rating::write_text;
 use std::fmt::{self, Write};
 use std::io;
+use table_core::write_text;
 
 /// The most bytes of a line: more than any line has.
 const MOST_BYTES: usize = 256;

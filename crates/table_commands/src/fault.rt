@@ -6,10 +6,9 @@ ghost use Rattle.table_commands.specs.declared.fault.Fault.TheVariants as out;
 ghost use Rattle.run_values.specs.declared.run_fault.RunFault.TheVariants as run;
 
 use crate::WordsFault;
-use live_log::LogFault;
 use rating::RateFault;
 use run_texts::{InputFault, LineKind};
-use run_values::RunFault;
+use run_values::{LogFault, RunFault};
 use std::alloc::{AllocError, AllocFailed};
 use std::{error, fmt};
 use table_core::{RowFault, RowKind, TableFault};

@@ -1,6 +1,6 @@
 //! What the words of a command line ask of the program `prepaid`, and the commands over tables,
 //! `price`, `replay`, `audit`, `quote` and `rate`: what is asked and an input in, a text or a fault
-//! out.
+//! out; and what is said of a fault besides its line.
 #![tactic(auto)]
 
 mod arguments;
@@ -10,6 +10,7 @@ mod command_options;
 mod commands;
 mod ending;
 mod error_lines;
+mod explanations;
 mod fault;
 mod help;
 mod input;

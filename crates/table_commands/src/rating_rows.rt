@@ -4,7 +4,7 @@ ghost use Rattle.std.specs.Prelude.{◌≡◌, ◌++◌, ◌⊎◌, [], IfOk, If
 ghost use Rattle.std.specs.Io.KnownBytes.{Keeps};
 ghost use Rattle.table_commands.specs.Ratings.{IsRatedByWish};
 ghost use Rattle.table_commands.specs.Summaries.{counts_text, status_of_rating, sums_text, summary_line};
-ghost use Rattle.rating.specs.Fronts.{AppendsFront};
+ghost use Rattle.table_core.specs.Fronts.{AppendsFront};
 ghost use Rattle.rating.specs.SaidOf.{rate_wish_of};
 ghost use Rattle.rating.specs.Scores.{IsBoundedScore};
 
@@ -12,10 +12,11 @@ use crate::error_lines::report_end;
 use crate::fault::Fault;
 use crate::noting::Noting;
 use arrayvec::ArrayString;
-use rating::{RateAsk, Score, rate, write_text};
+use rating::{RateAsk, Score, rate};
 use std::alloc::Global;
 use std::fmt::{self, Write as WriteText};
 use std::io::{Read, Write};
+use table_core::write_text;
 
 /// The most bytes of a summary: more than any has.
 const MOST_BYTES: usize = 384;

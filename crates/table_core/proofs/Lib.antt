@@ -1,5 +1,6 @@
 pub mod DecimalLemmas
 pub mod FieldLemmas
+pub mod FrontLemmas
 pub mod HeaderLemmas
 pub mod Known
 pub mod PrintedLemmas

@@ -1,6 +1,7 @@
 pub mod Decimals
 pub mod Faults
 pub mod Fields
+pub mod Fronts
 pub mod Judging
 pub mod Printed
 pub mod Reading

@@ -2,7 +2,8 @@
 //! have.
 //!
 //! Every table that this repository reads (reports, operations, tariffs, setups, scripts, books)
-//! is read by this crate, so it is the one place that knows the library `csv`.
+//! is read by this crate, so it is the one place that knows the library `csv`. What is printed of
+//! them reaches its writer by `write_text`.
 #![tactic(auto)]
 
 mod fault;
@@ -10,6 +11,7 @@ mod fields;
 mod optional_field;
 mod printed;
 mod table;
+mod writing;
 
 pub use fault::{RowFault, RowKind, TableFault};
 pub use fields::{
@@ -19,3 +21,4 @@ pub use fields::{
 pub use optional_field::Field;
 pub use printed::{printed_decimals_are_read, printed_tables_are_read};
 pub use table::{Rows, Table};
+pub use writing::write_text;

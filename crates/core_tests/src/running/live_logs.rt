@@ -1,7 +1,7 @@
 //! A log whose lines are heard again.
 
 use crate::looking::gives;
-use live_log::Skipping;
+use live_answers::Skipping;
 use std::io;
 use std::io::Write;
 

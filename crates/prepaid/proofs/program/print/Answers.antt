@@ -1,7 +1,7 @@
 use Rattle.std.proofs.Common.{true, inr, refl}
 use Rattle.table_commands.proofs.WriteLemmas.{wholly}
-use Rattle.rating.proofs.FrontLemmas.{some_written, still_written}
-use Rattle.rating.specs.Fronts.{AppendsFront}
+use Rattle.table_core.proofs.FrontLemmas.{some_written, still_written}
+use Rattle.table_core.specs.Fronts.{AppendsFront}
 use Rattle.prepaid.proofs.program.print.Goals as goal
 use Rattle.prepaid.proofs.program.print.Goals.{else-write_text-via-then-write_text+else-is_ok, else-write_text-via-else-write_text}
 

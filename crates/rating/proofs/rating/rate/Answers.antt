@@ -6,7 +6,7 @@ use Rattle.run_texts.specs.Inputs.{tariff_in}
 use Rattle.table_core.proofs.Known.{at_known, if_known}
 use Rattle.rating.specs.SaidOf.{wished_names}
 use Rattle.rating.specs.Texts.{rate_input_of}
-use Rattle.rating.proofs.FrontLemmas.{still_held}
+use Rattle.table_core.proofs.FrontLemmas.{still_held}
 use Rattle.rating.proofs.RateLemmas.{ends_silent, refused_ends}
 use Rattle.rating.proofs.rating.rate.Goals as goal
 

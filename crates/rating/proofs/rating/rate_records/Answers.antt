@@ -8,7 +8,7 @@ use Rattle.rating.specs.Cuts.{cut_start, passed_text, cut_cursor, reader_of}
 use Rattle.rating.specs.SaidOf.{wished_names}
 use Rattle.rating.specs.Texts.{headed}
 use Rattle.rating.specs.declared.call.TheConstants.{MAX_SHOWN}
-use Rattle.rating.proofs.FrontLemmas.{still_held}
+use Rattle.table_core.proofs.FrontLemmas.{still_held}
 use Rattle.rating.proofs.RateLemmas.{ends_same, ends_silent, long_header, no_columns, no_header, opened, over_printed, rows_may, stopped_ends, within_printed}
 use Rattle.rating.proofs.rating.rate_records.Goals as goal
 

@@ -1,7 +1,7 @@
 use Rattle.std.proofs.Common.{inr, arith}
 use Rattle.std.proofs.Common.{true, map}
 use Rattle.rating.specs.Lines.{shown}
-use Rattle.rating.proofs.FrontLemmas.{some_written}
+use Rattle.table_core.proofs.FrontLemmas.{some_written}
 use Rattle.rating.proofs.RateLemmas.{all_written, at_first, failed, failed_ends, in_part, row_more, rows_may, sent_more, stopped_ends, stops}
 use Rattle.rating.proofs.rating.rate_rows.Goals as goal
 

@@ -1,5 +1,5 @@
 use Rattle.std.proofs.Common.{refl}
-use Rattle.rating.proofs.FrontLemmas.{some_written, still_written}
+use Rattle.table_core.proofs.FrontLemmas.{some_written, still_written}
 use Rattle.std.proofs.Common.{true}
 use Rattle.rating.proofs.rating.write_rest.Goals as goal
 

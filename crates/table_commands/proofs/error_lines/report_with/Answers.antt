@@ -1,5 +1,5 @@
 use Rattle.std.proofs.Common.{◌++◌, codes, append_assoc}
-use Rattle.rating.proofs.FrontLemmas.{none_written}
+use Rattle.table_core.proofs.FrontLemmas.{none_written}
 use Rattle.table_commands.specs.Faults.{line_of_fault}
 use Rattle.table_commands.proofs.error_lines.report_with.Goals.{in-Ok, in_default}
 use Rattle.table_commands.proofs.error_lines.report_with.Goals as goal

@@ -1,5 +1,5 @@
 use Rattle.std.proofs.Common.{◌≡◌, true, arith}
-use Rattle.rating.proofs.FrontLemmas.{some_written}
+use Rattle.table_core.proofs.FrontLemmas.{some_written}
 use Rattle.table_commands.proofs.WriteLemmas.{both_written, wholly}
 use Rattle.table_commands.proofs.error_lines.write_both.Goals as goal
 

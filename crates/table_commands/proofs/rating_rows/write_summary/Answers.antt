@@ -1,4 +1,4 @@
-use Rattle.rating.proofs.FrontLemmas.{some_written}
+use Rattle.table_core.proofs.FrontLemmas.{some_written}
 use Rattle.table_commands.proofs.rating_rows.write_summary.Goals as goal
 
 pub returns-in-Ok : goal.returns-in-Ok

@@ -1,4 +1,0 @@
-pub mod MarkLemmas
-pub mod SectionLemmas
-pub mod ShownLemmas
-pub mod WalkLemmas

@@ -1,5 +1,0 @@
-pub mod RowLines
-pub mod RowStarts
-pub mod Sections
-pub mod Slips
-pub mod Walks

@@ -1,4 +1,0 @@
-pub mod Faults
-pub mod Heads
-pub mod Logs
-pub mod Passing

@@ -1,0 +1,125 @@
+//! The lines that divide an input.
+
+use std::alloc::{AllocError, Global};
+
+/// The most lines whose numbers are said.
+const MOST_NUMBERS: usize = 5;
+
+/// How many lines of an input divide it, which, and which look as if they did.
+pub(crate) fn explain_dividers(
+    alloc: Global,
+    input: &[u8],
+    wanted: u32,
+) -> Result<String, AllocError> {
+    let mut text = String::new(alloc);
+    push_dividers(&mut text, dividers_of(input), wanted)?;
+    Ok(text)
+}
+
+/// The lines that divide an input, and those that look as if they did.
+#[derive(Clone, Copy)]
+struct Dividers {
+    /// How many divide it.
+    found: usize,
+    /// The numbers of the first of these.
+    numbers: [u64; MOST_NUMBERS],
+    /// The number of the first line that nearly divides it.
+    near: Option<u64>,
+}
+
+/// The lines that divide an input, and those that look as if they did.
+fn dividers_of(input: &[u8]) -> Dividers {
+    let mut dividers = Dividers {
+        found: 0,
+        numbers: [0; MOST_NUMBERS],
+        near: None,
+    };
+    let mut number: u64 = 0;
+    for line in input.split(|byte| *byte == b'\n') {
+        number = number.saturating_add(1);
+        dividers.add(number, line);
+    }
+    dividers
+}
+
+impl Dividers {
+    /// Adds a line of this number.
+    fn add(&mut self, number: u64, line: &[u8]) {
+        match looks_of(line) {
+            Looks::Divides => {
+                if self.found < MOST_NUMBERS {
+                    self.numbers[self.found] = number;
+                }
+                self.found = self.found.saturating_add(1);
+            }
+            Looks::Nearly => self.near = self.near.or(Some(number)),
+            Looks::Otherwise => {}
+        }
+    }
+}
+
+/// Adds what is said of the lines that divide an input, of which so many are wanted.
+fn push_dividers(text: &mut String, dividers: Dividers, wanted: u32) -> Result<(), AllocError> {
+    let told = dividers.found.min(MOST_NUMBERS);
+    push_found(text, dividers.found)?;
+    push_numbers(text, &dividers.numbers[..told])?;
+    push_wanted(text, wanted, dividers.near)
+}
+
+/// Adds how many lines divide an input.
+fn push_found(text: &mut String, found: usize) -> Result<(), AllocError> {
+    let lines = if found == 1 {
+        "line that is"
+    } else {
+        "lines that are"
+    };
+    write!(text, "{found} {lines} %% alone")
+}
+
+/// Adds the numbers of lines.
+fn push_numbers(text: &mut String, numbers: &[u64]) -> Result<(), AllocError> {
+    for line in numbers {
+        write!(text, ", in line {line}")?;
+    }
+    Ok(())
+}
+
+/// Adds how many are wanted, and the line that nearly is one.
+fn push_wanted(text: &mut String, wanted: u32, near: Option<u64>) -> Result<(), AllocError> {
+    writeln!(text, "; wanted {wanted}")?;
+    match near {
+        Some(line) => writeln!(text, "line {line} is %% with a blank at it"),
+        None => Ok(()),
+    }
+}
+
+/// What a line looks like.
+#[derive(Clone, Copy)]
+enum Looks {
+    /// It divides.
+    Divides,
+    /// It would without its blanks.
+    Nearly,
+    /// Another line.
+    Otherwise,
+}
+
+/// What a line without its LF looks like.
+fn looks_of(line: &[u8]) -> Looks {
+    if line == b"%%".as_slice() || line == b"%%\r".as_slice() {
+        return Looks::Divides;
+    }
+    let mut signs: usize = 0;
+    for byte in line {
+        match *byte {
+            b'%' => signs = signs.saturating_add(1),
+            b' ' | b'\t' | b'\r' => {}
+            _ => return Looks::Otherwise,
+        }
+    }
+    if signs == 2 {
+        Looks::Nearly
+    } else {
+        Looks::Otherwise
+    }
+}

@@ -1,0 +1,50 @@
+//! Fields that must be empty and aren't.
+
+use crate::explanations::Slip;
+use crate::explanations::forms::{Part, parts_of};
+use crate::explanations::found_rows::{push_column, shown_at};
+use csv::ByteRecord;
+use std::alloc::AllocError;
+use table_core::is_blank;
+
+/// Adds which field of a row must be empty, and for what.
+pub(crate) fn push_not_empty(
+    text: &mut String,
+    slip: Slip,
+    names: &ByteRecord,
+    row: &ByteRecord,
+) -> Result<(), AllocError> {
+    let [first, second, third] = parts_of(slip, row);
+    let found = not_empty(row, first)
+        .or(not_empty(row, second))
+        .or(not_empty(row, third));
+    match found {
+        Some((place, word)) => {
+            push_column(text, names, row, place)?;
+            let word = shown_at(row, word);
+            writeln!(text, ", where {word} takes nothing")
+        }
+        None => Ok(()),
+    }
+}
+
+/// The first column of a part of a row that takes nothing and isn't empty, and that of the word
+/// because of which it takes nothing.
+fn not_empty(row: &ByteRecord, part: Part) -> Option<(usize, usize)> {
+    for place in part.start..part.end {
+        if !is_blank(row, place) && !takes_any(part, place - part.start) {
+            return Some((place, part.word));
+        }
+    }
+    None
+}
+
+/// Whether a column of a part, counted from its first one on, takes something.
+fn takes_any(part: Part, column: usize) -> bool {
+    for &(taking, _) in part.columns {
+        if taking == column {
+            return true;
+        }
+    }
+    false
+}

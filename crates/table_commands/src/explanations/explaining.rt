@@ -1,0 +1,58 @@
+//! What is said of a fault in a table of an input.
+
+ghost use Rattle.std.specs.Prelude.{IfOk, string_bytes};
+ghost use Rattle.table_commands.specs.Slips.{Explains, IsLineOf};
+
+use crate::explanations::Slip;
+use crate::explanations::open_quote::open_quote;
+use crate::explanations::reasons::{Faulty, push_reason};
+use crate::explanations::row_line::push_row_line;
+use crate::explanations::sections::find_section;
+use crate::explanations::starts::row_start;
+use std::alloc::{AllocError, Global};
+
+/// The lines that explain a fault of the input, each with LF at its end: the line of the input in
+/// which the row begins, and what is wrong there.
+#[tactic(auto, using(crate::proofs::SectionLemmas::begins_within))]
+pub(crate) fn explain(alloc: Global, input: &[u8], slip: Slip) -> Result<String, AllocError>
+    ensures { IfOk result (λ text. Explains input.now slip (string_bytes text)) }
+{
+    let Ok(found) = find_section(alloc, input, slip.section()) else {
+        return Err(AllocError);
+    };
+    let (before, table) = (&input[..found.start], found.text.as_slice());
+    let mut text = line_of(alloc, before, table, slip.row())?;
+    let more = more_of(alloc, before, table, slip)?;
+    text.push_str(more.as_str())?;
+    Ok(text)
+}
+
+/// The line in which a row of a table begins that has this text in front of it; empty where the
+/// table has fewer rows.
+fn line_of(alloc: Global, before: &[u8], table: &[u8], row: u32) -> Result<String, AllocError>
+    ensures { IfOk result (λ line. IsLineOf before.now table.now row (string_bytes line)) }
+{
+    let mut line = String::new(alloc);
+    if let Some(at) = row_start(table, row) {
+        push_row_line(&mut line, before, table, at)?;
+    }
+    Ok(line)
+}
+
+/// What is wrong with a row of a table, and where a quote is open in it.
+fn more_of(alloc: Global, before: &[u8], table: &[u8], slip: Slip) -> Result<String, AllocError> {
+    let row = slip.row();
+    let faulty = Faulty {
+        text: table,
+        slip,
+        row,
+    };
+    let mut text = String::new(alloc);
+    push_reason(&mut text, alloc, faulty)?;
+    if let Some(start) = row_start(table, row) {
+        if let Some(line) = open_quote(before, table, start) {
+            writeln!(text, "a quote is open since line {line}")?;
+        }
+    }
+    Ok(text)
+}

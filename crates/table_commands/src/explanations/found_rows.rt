@@ -1,0 +1,105 @@
+//! The rows of a table that has a fault.
+
+use crate::explanations::midnight::is_repeated;
+use crate::explanations::row_line::Shown;
+use csv::ByteRecord;
+use std::alloc::{AllocError, Global};
+use table_core::{Rows, decimal, field};
+
+/// A reader of the rows of a table that has taken the row of this number; none where there are
+/// fewer.
+pub(crate) fn rows_at(
+    alloc: Global,
+    text: &[u8],
+    row: u32,
+) -> Result<Option<Rows<&[u8]>>, AllocError> {
+    let mut rows = Rows::new(alloc, text);
+    for _row in 0..row {
+        match rows.next_row() {
+            Ok(true) => {}
+            Ok(false) => return Ok(None),
+            Err(_) => return Err(AllocError),
+        }
+    }
+    Ok(Some(rows))
+}
+
+/// The field of a row at a place, as it is shown.
+pub(crate) fn shown_at(row: &ByteRecord, place: usize) -> Shown<'_> {
+    Shown(field(row, place))
+}
+
+/// Adds the name of a column, and the field that a row has in it.
+pub(crate) fn push_column(
+    text: &mut String,
+    names: &ByteRecord,
+    row: &ByteRecord,
+    place: usize,
+) -> Result<(), AllocError> {
+    let column = shown_at(names, place);
+    let field = shown_at(row, place);
+    write!(text, "column {column}: {field}")
+}
+
+/// What is looked for in the rows above a row.
+#[derive(Clone, Copy)]
+pub(crate) enum Sought<'a> {
+    /// A row that names what this one does.
+    Named {
+        /// The row.
+        row: &'a ByteRecord,
+        /// The column in which both have a word.
+        word: usize,
+        /// The column in which both have a text or a number.
+        key: usize,
+    },
+    /// A row that has the prefix and the start of this one, and a day in common with it.
+    Band(&'a ByteRecord),
+}
+
+/// The first row of these, below the header and above the row of this number, that has what is
+/// looked for.
+pub(crate) fn find_above(
+    alloc: Global,
+    text: &[u8],
+    row: u32,
+    sought: Sought<'_>,
+) -> Result<Option<u32>, AllocError> {
+    let mut rows = Rows::new(alloc, text);
+    for number in 1..row {
+        match rows.next_row() {
+            Ok(true) => {}
+            Ok(false) => return Ok(None),
+            Err(_) => return Err(AllocError),
+        }
+        if number > 1 && has(rows.row(), sought) {
+            return Ok(Some(number));
+        }
+    }
+    Ok(None)
+}
+
+/// Whether a row has what is looked for.
+fn has(row: &ByteRecord, sought: Sought<'_>) -> bool {
+    match sought {
+        Sought::Named {
+            row: named,
+            word,
+            key,
+        } => {
+            field(row, word) == field(named, word) && are_same(field(row, key), field(named, key))
+        }
+        Sought::Band(band) => is_repeated(row, band),
+    }
+}
+
+/// Whether two fields have the same text, or are the same number.
+fn are_same(one: &[u8], other: &[u8]) -> bool {
+    if one == other {
+        return true;
+    }
+    match (decimal(one, u64::MAX), decimal(other, u64::MAX)) {
+        (Some(one), Some(other)) => one == other,
+        _ => false,
+    }
+}

@@ -1,0 +1,133 @@
+//! Rows of a tariff that don't go with its other rows.
+
+use crate::explanations::found_rows::{Sought, find_above, shown_at};
+use crate::explanations::reasons::Faulty;
+use crate::explanations::row_line::Shown;
+use csv::ByteRecord;
+use std::alloc::{AllocError, Global};
+use std::fmt;
+use table_core::{Rows, field};
+
+/// Adds the row above that has the prefix and the start of a row, and a day in common with it.
+pub(crate) fn push_repeated_band(
+    text: &mut String,
+    alloc: Global,
+    table: Faulty<'_>,
+    row: &ByteRecord,
+) -> Result<(), AllocError> {
+    match find_above(alloc, table.text, table.row, Sought::Band(row))? {
+        Some(number) => {
+            let prefix = Prefix(field(row, 0));
+            let start = shown_at(row, 1);
+            writeln!(text, "{prefix} from {start} is in row {number} already")
+        }
+        None => Ok(()),
+    }
+}
+
+/// Whether two rows have a prefix, a start and a day in common.
+pub(crate) fn is_repeated(one: &ByteRecord, other: &ByteRecord) -> bool {
+    let (days, others) = (field(one, 7), field(other, 7));
+    field(one, 0) == field(other, 0)
+        && field(one, 1) == field(other, 1)
+        && (days.is_empty() || others.is_empty() || have_one_in_common(days, others))
+}
+
+/// Whether two texts have a byte in common.
+fn have_one_in_common(one: &[u8], other: &[u8]) -> bool {
+    for byte in one {
+        for found in other {
+            if byte == found {
+                return true;
+            }
+        }
+    }
+    false
+}
+
+/// Adds when the prefix of a row counts, and what is to be added to its rows.
+pub(crate) fn push_no_midnight(
+    text: &mut String,
+    alloc: Global,
+    table: Faulty<'_>,
+    row: &ByteRecord,
+) -> Result<(), AllocError> {
+    let prefix = Prefix(field(row, 0));
+    let mut latest = String::new(alloc);
+    write!(text, "{prefix} counts from ")?;
+    push_starts(text, &mut latest, Rows::new(alloc, table.text), prefix)?;
+    push_missing(text, latest.as_str(), row)
+}
+
+/// Adds what is missing of a prefix, whose latest start is known.
+fn push_missing(text: &mut String, latest: &str, row: &ByteRecord) -> Result<(), AllocError> {
+    if latest.is_empty() {
+        return text.push('\n');
+    }
+    if row.len() > 7 {
+        return text.push_str(", and not from 00:00 on each day of the week\n");
+    }
+    let prefix = shown_at(row, 0);
+    writeln!(
+        text,
+        ", and nothing from 00:00: add {prefix},00:00,.. with what counts at midnight, \
+         mostly the row of {latest}"
+    )
+}
+
+/// Adds the starts of a prefix, and finds the latest.
+fn push_starts(
+    text: &mut String,
+    latest: &mut String,
+    mut rows: Rows<&[u8]>,
+    prefix: Prefix<'_>,
+) -> Result<(), AllocError> {
+    for _turn in 0..u64::MAX {
+        match rows.next_row() {
+            Ok(true) => push_start(text, latest, rows.row(), prefix)?,
+            Ok(false) => return Ok(()),
+            Err(_) => return Err(AllocError),
+        }
+    }
+    Ok(())
+}
+
+/// Adds the start of a row if it has the prefix, and keeps it if no later one is found yet.
+fn push_start(
+    text: &mut String,
+    latest: &mut String,
+    row: &ByteRecord,
+    prefix: Prefix<'_>,
+) -> Result<(), AllocError> {
+    if field(row, 0) != prefix.0 {
+        return Ok(());
+    }
+    let and = if latest.is_empty() { "" } else { " and " };
+    let start = shown_at(row, 1);
+    write!(text, "{and}{start}")?;
+    keep_later(latest, field(row, 1))
+}
+
+/// Keeps a start in place of the latest one, unless it is earlier.
+fn keep_later(latest: &mut String, start: &[u8]) -> Result<(), AllocError> {
+    if start < latest.as_bytes() {
+        return Ok(());
+    }
+    let start = Shown(start);
+    latest.clear();
+    write!(latest, "{start}")
+}
+
+/// The prefix of a row, as it is named.
+#[derive(Clone, Copy)]
+struct Prefix<'a>(&'a [u8]);
+
+impl fmt::Display for Prefix<'_> {
+    fn fmt<W: fmt::Write>(&self, f: &mut fmt::Formatter<W>) -> fmt::Result {
+        if self.0.is_empty() {
+            return f.write_str("the empty prefix");
+        }
+        let prefix = Shown(self.0);
+        write!(f, "prefix {prefix}")
+    }
+}
