@@ -67,8 +67,7 @@ where
     let alloc = rt.alloc();
     let explains = explains(words);
     let ending = match read_words(alloc, words) {
-        Ok(Request::Help(text)) => Ending::plain(Ok(Answer::plain(alloc, text))),
-        Ok(Request::Version(text)) => Ending::plain(Ok(Answer::plain(alloc, text))),
+        Ok(Request::Text(text)) => Ending::plain(Ok(Answer::plain(alloc, text))),
         Ok(Request::Price(plan)) => text_ending(alloc, price_input(alloc, explains, &plan, input)),
         Ok(Request::Replay(account)) => {
             text_ending(alloc, replay_input(alloc, explains, account, input))

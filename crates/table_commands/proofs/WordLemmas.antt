@@ -26,8 +26,8 @@ program_is_free = refl
 
 -- words that clap refuses ask for help, for the version or for nothing
 refused_by : (words : List Text) (error : ErrorKind) (read : Result Request WordsFault) → IsAmong error (errors_in words) → IsClapRefusal error read → IsRead words read
-refused_by words error (Ok (request.Help text)) among is = rw is at among
-refused_by words error (Ok (request.Version text)) among is = rw is at among
+refused_by words error (Ok (request.Text text)) among (inl is) = inl (rw is at among)
+refused_by words error (Ok (request.Text text)) among (inr is) = inr (rw is at among)
 refused_by words error (Ok (request.Price plan)) among is = absurd is
 refused_by words error (Ok (request.Replay account)) among is = absurd is
 refused_by words error (Ok (request.Run options)) among is = absurd is
@@ -41,8 +41,8 @@ refused_by words error (Err fault.OutOfMemory) among is = tt
 refused_by words error (Err fault.Config) among is = absurd is
 
 refused_for_memory : (words : List Text) (error : ErrorKind) (read : Result Request WordsFault) → error ≡ kind.OutOfMemory → IsClapRefusal error read → IsRead words read
-refused_for_memory words error (Ok (request.Help text)) memory is = let no : kind.OutOfMemory ≡ kind.DisplayHelp = sym memory ∙ is in cc
-refused_for_memory words error (Ok (request.Version text)) memory is = let no : kind.OutOfMemory ≡ kind.DisplayVersion = sym memory ∙ is in cc
+refused_for_memory words error (Ok (request.Text text)) memory (inl is) = let no : kind.OutOfMemory ≡ kind.DisplayHelp = sym memory ∙ is in cc
+refused_for_memory words error (Ok (request.Text text)) memory (inr is) = let no : kind.OutOfMemory ≡ kind.DisplayVersion = sym memory ∙ is in cc
 refused_for_memory words error (Ok (request.Price plan)) memory is = absurd is
 refused_for_memory words error (Ok (request.Replay account)) memory is = absurd is
 refused_for_memory words error (Ok (request.Run options)) memory is = absurd is
@@ -63,8 +63,7 @@ refusal_read words error read (inr among) is = refused_by words error read among
 -- words that clap takes ask for what their command says, if its options say it
 pub asked_read : (words : List Text) (command : Option (Text × List Row)) (asked : Result Request WordsFault) → errors_in words ≡ [] → command ≡ command_in words
     → IsRequestOf (wish_in command) asked → IsRead words asked
-asked_read words command (Ok (request.Help text)) parsed command_is is = absurd is
-asked_read words command (Ok (request.Version text)) parsed command_is is = absurd is
+asked_read words command (Ok (request.Text text)) parsed command_is is = absurd is
 asked_read words command (Ok (request.Price plan)) parsed command_is is = record { parsed = parsed; wish_is = sym (ap wish_in command_is) ∙ is }
 asked_read words command (Ok (request.Replay account)) parsed command_is is = record { parsed = parsed; wish_is = sym (ap wish_in command_is) ∙ is }
 asked_read words command (Ok (request.Run options)) parsed command_is is = record { parsed = parsed; wish_is = sym (ap wish_in command_is) ∙ is }

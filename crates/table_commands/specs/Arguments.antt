@@ -82,8 +82,7 @@ AsksNothing words = ((error : ErrorKind) × IsAmong error (errors_in words) × I
 
 -- what is read from the words is what they ask for; memory may run out at any
 abbrev pub IsRead : List Text → Result Request WordsFault → Type 0
-IsRead words (Ok (request.Help text)) = AsksHelp words
-IsRead words (Ok (request.Version text)) = AsksVersion words
+IsRead words (Ok (request.Text text)) = AsksHelp words ⊎ AsksVersion words
 IsRead words (Ok (request.Price plan)) = AsksFor words (Prices (rates_of plan))
 IsRead words (Ok (request.Replay account)) = AsksFor words (Replays account.opening account.limit)
 IsRead words (Ok (request.Run options)) = AsksFor words (Runs (ask_of options))
@@ -98,8 +97,7 @@ IsRead words (Err fault.Config) = AsksInVain words fault.Config
 
 -- what is answered to an error of clap
 abbrev pub IsClapRefusal : ErrorKind → Result Request WordsFault → Type 0
-IsClapRefusal error (Ok (request.Help text)) = error ≡ kind.DisplayHelp
-IsClapRefusal error (Ok (request.Version text)) = error ≡ kind.DisplayVersion
+IsClapRefusal error (Ok (request.Text text)) = (error ≡ kind.DisplayHelp) ⊎ (error ≡ kind.DisplayVersion)
 IsClapRefusal error (Ok _) = ⊥
 IsClapRefusal error (Err fault.Arguments) = IsMistake error × (error ≢ kind.OutOfMemory)
 IsClapRefusal error (Err fault.OutOfMemory) = ⊤

@@ -107,8 +107,9 @@ fn refusal<'a>(alloc: Global, error: &Error) -> Result<Request<'a>, WordsFault>
     ensures { IsClapRefusal (kind_of error.now) result }
 {
     match error.kind() {
-        ErrorKind::DisplayHelp => Ok(Request::Help(error.to_string(alloc)?)),
-        ErrorKind::DisplayVersion => Ok(Request::Version(error.to_string(alloc)?)),
+        ErrorKind::DisplayHelp | ErrorKind::DisplayVersion => {
+            Ok(Request::Text(error.to_string(alloc)?))
+        }
         ErrorKind::OutOfMemory => Err(WordsFault::OutOfMemory),
         _ => Err(WordsFault::Arguments),
     }

@@ -14,10 +14,8 @@ use tariff_core::Clock;
 /// What the words ask for.
 #[derive(Drop)]
 pub enum Request<'a> {
-    /// The text of the help.
-    Help(String),
-    /// The text of the version.
-    Version(String),
+    /// The text of the help, or of the version.
+    Text(String),
     /// The price of reports under a plan.
     Price(Plan),
     /// The replies of an account to operations.

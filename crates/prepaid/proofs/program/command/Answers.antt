@@ -12,7 +12,7 @@ use Rattle.table_commands.specs.Answers.{price_of_input, printout_of_audit, repl
 use Rattle.table_commands.specs.Printouts.{plain}
 use Rattle.prepaid.specs.Printouts.{printout_of}
 use Rattle.prepaid.proofs.AnswerLemmas.{audit_of, filed_of, gives_known, helped_plainly, none_added, price_wished, quote_of, refused_words_printed, replay_wished, run_added, run_of, wished}
-use Rattle.prepaid.proofs.program.command.Goals.{in-Ok-Help, in-Ok-Version, in-Ok-Price, in-Ok-Replay, in-Ok-Audit, in-Ok-Quote, in-Ok-Run, in-Ok-RunInto, in-Err}
+use Rattle.prepaid.proofs.program.command.Goals.{in-Ok-Text, in-Ok-Price, in-Ok-Replay, in-Ok-Audit, in-Ok-Quote, in-Ok-Run, in-Ok-RunInto, in-Err}
 use Rattle.prepaid.proofs.program.command.Goals as goal
 
 pub returns-clause-answers : goal.returns-clause-answers
@@ -21,13 +21,9 @@ returns-clause-answers g c =
     let explaining = c.explains-explains.result in
     let printed = c.say.ensures.printed in
     inl (elim c.match-read_words.branch [
-      | in-Ok-Help w ↦
+      | in-Ok-Text w ↦
           helped_plainly string_bytes printout_of _ _ _ _ known w.plain-ending.result.more w.plain-ending.result.answer explaining w.plain.result _
-          (inl (rw w.in-Ok-Help.field-0-is at w.in-Ok-Help.ensures)) w.plain.ensures c.explains-explains.ensures w.plain-ending.ensures.answer w.plain-ending.ensures.more (rw w.ending-is at printed)
-      | in-Ok-Version w ↦
-          let ending = w.plain-ending-in-Ok-Version in
-          helped_plainly string_bytes printout_of _ _ _ _ known ending.result.more ending.result.answer explaining w.plain-in-Ok-Version.result _
-          (inr (rw w.in-Ok-Version.field-0-is at w.in-Ok-Version.ensures)) w.plain-in-Ok-Version.ensures c.explains-explains.ensures ending.ensures.answer ending.ensures.more (rw w.ending-is at printed)
+          (rw w.in-Ok-Text.field-0-is at w.in-Ok-Text.ensures) w.plain.ensures c.explains-explains.ensures w.plain-ending.ensures.answer w.plain-ending.ensures.more (rw w.ending-is at printed)
       | in-Ok-Price w ↦
           let made = w.price_input in
           let ending = w.text_ending-ending in
