@@ -79,16 +79,12 @@ impl RunLines {
     }
 
     /// Puts those of other books behind these.
-    pub fn append(&mut self, more: RunLines) -> Result<(), AllocError>
+    pub fn append(&mut self, more: &RunLines) -> Result<(), AllocError>
         ensures { OnOk result ((books later : List Closed) → AreLinesOf books self.old
-            → AreLinesOf later more → AreLinesOf (books ++ later) self.new) }
+            → AreLinesOf later more.now → AreLinesOf (books ++ later) self.new) }
     {
-        let RunLines {
-            accounts,
-            mut calls,
-        } = more;
-        self.accounts.push_str(accounts.as_str())?;
-        self.calls.append(&mut calls)?;
+        self.accounts.push_str(more.accounts.as_str())?;
+        self.calls.extend_from_slice(more.calls.as_slice())?;
         Ok(())
     }
 

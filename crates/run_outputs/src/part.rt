@@ -150,31 +150,24 @@ fn join(alloc: Global, parts: Vec<Part>) -> Result<Part, AllocError>
         refusals: Refusals::none(),
         unplaced: Vec::new(alloc),
     };
-    for part in parts {
-        whole.add(part)?;
+    for mut part in parts {
+        whole.add(&mut part)?;
     }
     Ok(whole)
 }
 
 impl Part {
-    /// Puts what is kept of a later part behind this.
-    fn add(&mut self, more: Part) -> Result<(), AllocError>
+    /// Puts what is kept of a later part behind this, and takes its lists out of it.
+    fn add(&mut self, more: &mut Part) -> Result<(), AllocError>
         ensures { OnOk result ((output : RunOutput) (said later : PartSaid)
-            → KeepsPart output said self.old → KeepsPart output later more
+            → KeepsPart output said self.old → KeepsPart output later more.old
             → KeepsPart output (with_part said later) self.new) }
     {
-        let Part {
-            lines,
-            mut books,
-            mut calls,
-            refusals,
-            mut unplaced,
-        } = more;
-        self.lines.append(lines)?;
-        self.books.append(&mut books)?;
-        self.calls.append(&mut calls)?;
-        self.refusals.add(&refusals);
-        self.unplaced.append(&mut unplaced)?;
+        self.lines.append(&more.lines)?;
+        self.books.append(&mut more.books)?;
+        self.calls.append(&mut more.calls)?;
+        self.refusals.add(&more.refusals);
+        self.unplaced.append(&mut more.unplaced)?;
         Ok(())
     }
 }
