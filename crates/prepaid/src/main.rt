@@ -83,6 +83,10 @@ fn begins(words: &[String], first: &str) -> bool {
 
 /// Whether words ask for a command, which waits for its input.
 fn wait(words: &[String]) -> bool {
-    words.iter().any(|word| COMMANDS.contains(&word.as_str()))
-        && !words.iter().any(|word| HELP.contains(&word.as_str()))
+    has_one_of(words, &COMMANDS) && !has_one_of(words, &HELP)
+}
+
+/// Whether one of the words is among these.
+fn has_one_of(words: &[String], sought: &[&str]) -> bool {
+    words.iter().any(|word| sought.contains(&word.as_str()))
 }
