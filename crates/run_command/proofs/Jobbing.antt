@@ -1,9 +1,11 @@
 -- Parts that were played one by one are all played.
-use Rattle.std.proofs.Common.{◌≡◌, ◌≤◌, ◌<◌, ◌∙◌, ℕ, true, List, [], ◌∷◌, ◌++◌, Ok, length, map, sym, ap, subst, arith, append_assoc, All}
+use Rattle.std.proofs.Common.{◌≡◌, ◌≤◌, ◌<◌, ◌∙◌, ℕ, true, List, [], ◌∷◌, ◌++◌, Ok, length, map, sym, ap, subst, arith, append_assoc, append-nil, All}
 use Rattle.std.proofs.Math.ListN.{drop, get_or, take}
 use Rattle.std.proofs.Math.Seq.{take-append_seam}
 use Rattle.std.proofs.lemmas.List.{get_or-map, length-map, map-append}
-use Rattle.std.specs.Prelude.{IfOk, Result}
+use Rattle.std.proofs.lemmas.List.Elements.{All-head, All-map, All-tail}
+use Rattle.std.specs.Prelude.{Err, IfErr, IfOk, Result}
+use Rattle.run_command.specs.Answers.{MayFail}
 use Rattle.run_command.specs.InParts.{ArePlayed, IsKeptPart}
 use Rattle.run_command.specs.Jobs.{HasPlayedPart, IsInOrder}
 use Rattle.run_command.specs.declared.error.RunError.{RunError}
@@ -84,3 +86,20 @@ written len old new is as_many =
 -- what a list is taken to, where one more is taken behind it
 pub taken_to : {X Y : Type 0} (f : X → Y) (done : List X) (next : X) (rest : List Y) → map f (done ++ next ∷ []) ++ rest ≡ map f done ++ f next ∷ rest
 taken_to f done next rest = ap (λ l. l ++ rest) (map-append f done (next ∷ [])) ∙ append_assoc (map f done) (f next ∷ []) rest
+
+-- where no job is left, all parts are kept
+pub all_kept : (jobs rest : List Job) (parts : List Part) → length rest ≡ 0 → map kept_as parts ++ map (λ job. job.played) rest ≡ map (λ job. job.played) jobs → map (λ job. job.played) jobs ≡ map kept_as parts
+all_kept jobs [] parts none all = sym all ∙ append-nil (map kept_as parts)
+all_kept jobs (job ∷ rest) parts none all = absurd (omega (arith, none))
+
+-- what holds of all that came of jobs holds of what came of the first that wasn't kept
+of_next : (P : Result Part RunError → Type 0) (parts : List Part) (next : Result Part RunError) (rest : List (Result Part RunError)) → All P (map kept_as parts ++ next ∷ rest) → P next
+of_next P [] next rest all = All-head P next rest all
+of_next P (part ∷ parts) next rest all = of_next P parts next rest (All-tail P (kept_as part) (map kept_as parts ++ next ∷ rest) all)
+
+-- its fault is one that the run may have, where each job may fail by such faults alone
+pub next_fault : (workers : ℕ) (jobs : List Job) (parts : List Part) (next : Result Part RunError) (rest : List (Result Part RunError)) (why : RunError) → next ≡ Err why
+    → map kept_as parts ++ next ∷ rest ≡ map (λ job. job.played) jobs → All (λ job. IfErr job.played (MayFail workers)) jobs → MayFail workers why
+next_fault workers jobs parts next rest why failed split each =
+    let May : Result Part RunError → Type 0 = λ r. IfErr r (MayFail workers) in
+    subst May failed (of_next May parts next rest (subst (λ l. All May l) (sym split) (All-map May (λ (job : Job). job.played) jobs each)))

@@ -1,6 +1,7 @@
 use Rattle.std.proofs.Common.{◌≡◌, ◌∙◌, Ok, map, refl, rules, arith}
 use Rattle.std.specs.Vec.Iter.{into_iter_items}
-use Rattle.run_command.proofs.Jobbing.{kept_as, taken_to}
+use Rattle.std.proofs.lemmas.Result.{err_from_is_err_and}
+use Rattle.run_command.proofs.Jobbing.{all_kept, kept_as, next_fault, taken_to}
 use Rattle.run_command.proofs.jobs.played.Goals as goal
 
 pub loop-job-init : goal.loop-job-init
@@ -18,3 +19,13 @@ loop-job-preserved c =
 
 pub push_reserved-requires : goal.push_reserved-requires
 push_reserved-requires c = let before = rw c.in-Some.ensures.steps.0 at c.loop-job.invariant in omega (arith, before.1)
+
+pub returns-in_err-job-clause-fault : goal.returns-in_err-job-clause-fault
+returns-in_err-job-clause-fault c = λ workers each.
+    let failed = err_from_is_err_and c.from_residual-in_err-job.result c.from_residual-in_err-job.ensures.1 in
+    let before = rw c.in-Some.ensures.steps.0 at c.loop-job.invariant in
+    rw (failed.1, failed.2) (next_fault workers c.args.jobs.items c.loop-job.parts.items c.in-Some.job.played _ c.in_err-job.field-0.0 c.in_err-job.was before.0 each)
+
+pub returns-clause-parts : goal.returns-clause-parts
+returns-clause-parts c =
+    all_kept c.args.jobs.items _ c.loop-job.parts.items (omega (arith, c.in-None.ensures.steps.0, c.loop-job.job-iterator.rest.ok)) c.loop-job.invariant.0
