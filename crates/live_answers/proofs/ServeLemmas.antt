@@ -3,7 +3,7 @@ use Rattle.std.proofs.Common.{◌≡◌, ◌+◌, ◌<◌, ◌≤◌, ◌⊎◌,
 use Rattle.std.proofs.KnownBytes.{Keeps-refl}
 use Rattle.std.proofs.lemmas.Bool.{cases_lt}
 use Rattle.std.proofs.lemmas.List.{take-append-le, take_all}
-use Rattle.std.specs.Prelude.{IfErr, IsErrAnd, IsSome}
+use Rattle.std.specs.Prelude.{IfErr, IsErrAnd, IsSome, OnOk}
 use Rattle.std.specs.Io.KnownBytes.{Appends}
 use Rattle.std.proofs.Math.Seq.{take-append-add}
 use Rattle.live_answers.proofs.Growing.{grow_twice}
@@ -178,6 +178,12 @@ pub table_cut : (output : LiveOutput) (ran : Run) (a b c : Option (List ℕ)) (d
     → IfErr answer (IsCutAt b c table) → IsEndOf output ran (divider ++ table) → IfErr answer (IsCutEnd output ran a c)
 table_cut output ran a b c divider table (Ok done) first cut is_end = tt
 table_cut output ran a b c divider table (Err why) first cut is_end = rw cut.0 (divider ++ table, is_end, front_behind a b c divider table first cut.1)
+
+-- or not at all
+pub both_printed : (output : LiveOutput) (ran : Run) (a b c : Option (List ℕ)) (divider table : List ℕ) (answer : Result (Unit {0}) ServeError) → Appends a b divider
+    → OnOk answer (Appends b c table) → IsEndOf output ran (divider ++ table) → OnOk answer ((text : List ℕ) × IsEndOf output ran text × Appends a c text)
+both_printed output ran a b c divider table (Ok done) first then is_end = (divider ++ table, is_end, grow_twice a b c divider table first then)
+both_printed output ran a b c divider table (Err why) first then is_end = tt
 
 -- ---- an input
 
