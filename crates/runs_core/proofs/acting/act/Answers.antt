@@ -1,4 +1,4 @@
-use Rattle.std.proofs.Common.{◌<◌, ◌∙◌, [], length, refl, map, ap, sym}
+use Rattle.std.proofs.Common.{◌<◌, ◌∙◌, [], arith, length, refl, map, ap, sym}
 use Rattle.std.proofs.lemmas.Result.{IfOk-weaker}
 use Rattle.account_core.specs.Asked.{Credits}
 use Rattle.cap_values.specs.Orders.{orders_in}
@@ -13,6 +13,16 @@ use Rattle.runs_core.specs.Refusals.{WasAt}
 use Rattle.shared_account.specs.Refusals.{IsRefusedAt}
 use Rattle.std.specs.Prelude.{slice_index_or, slice_set}
 use Rattle.runs_core.proofs.acting.act.Goals as goal
+
+pub index_mut-requires : goal.index_mut-requires
+index_mut-requires g c =
+    let many = as_many g.S.Shared.reads.key g.S.Shared.key c.args.seats.now.items c.args.accounts.now c.requires.keys in
+    omega (arith, many, rw c.in-Recharge.is at c.requires.within, c.args.seats.now.ok)
+
+pub index_mut-requires-in-Talk : goal.index_mut-requires-in-Talk
+index_mut-requires-in-Talk g c =
+    let many = as_many g.S.Shared.reads.key g.S.Shared.key c.args.seats.now.items c.args.accounts.now c.requires.keys in
+    omega (arith, many, rw c.in-Talk.is at c.requires.within, c.args.seats.now.ok)
 
 pub recharge-requires-after_bounds : goal.recharge-requires-after_bounds
 recharge-requires-after_bounds g c κs within =
