@@ -1,16 +1,14 @@
-use Rattle.std.proofs.Common.{arith, refl}
-use Rattle.std.proofs.lemmas.Bool.{le-ltb, lt-ltb}
-use Rattle.std.proofs.lemmas.Result.{err_from_is_err_and}
+use Rattle.std.proofs.Common.{◌≡◌, arith}
+use Rattle.std.proofs.lemmas.Bool.{le-ltb}
+use Rattle.live_answers.proofs.judging.place.Goals.{in_default-via-in-Some-2+else-number-next-2, in_default-via-in_default}
 use Rattle.live_answers.proofs.judging.place.Goals as goal
 
-pub returns-in_err-message-clause-says : goal.returns-in_err-message-clause-says
-returns-in_err-message-clause-says c =
-    let failed = err_from_is_err_and c.from_residual.result c.from_residual.ensures.1 in
-    rw (failed.1, failed.2, c.in_err-message.was) refl
-
-pub returns-in-Some-clause-says : goal.returns-in-Some-clause-says
-returns-in-Some-clause-says c = rw (c.in_ok-message.was, c.in-Some.is, lt-ltb c.in-Some.number c.args.next c.if-number-next.true) refl
-
-pub returns-in-Some-2-clause-says : goal.returns-in-Some-2-clause-says
-returns-in-Some-2-clause-says c =
-    rw (c.in_ok-message.was, c.in-Some-2.is, le-ltb c.in-Some-2.number c.args.next (omega arith), lt-ltb c.args.next c.in-Some-2.number c.if-number-next-2.true) refl
+pub returns-in_default-clause-says : goal.returns-in_default-clause-says
+returns-in_default-clause-says c = elim c.in_default.branch [
+  | in_default-via-in-Some-2+else-number-next-2 w ↦
+      let same : w.in-Some.number ≡ w.in-Some-2.number = cc (w.in-Some.is, w.in-Some-2.is) in
+      let least = le-ltb w.in-Some-2.number c.args.next (omega (arith, same, w.if-number-next.false)) in
+      let most = le-ltb c.args.next w.in-Some-2.number (omega (arith, w.if-number-next-2.false)) in
+      rw (c.in_ok-message.was, w.in-Some-2.is, least, most) (rw w.in-Some-2.is at c.in_time.ensures.says)
+  | in_default-via-in_default w ↦ rw (c.in_ok-message.was, w.in_default.is) (rw w.in_default.is at c.in_time.ensures.says)
+]
