@@ -1,5 +1,5 @@
 use Rattle.std.proofs.Common.{◌+◌, ◌++◌, ◌∷◌, ap, drop, sym, ◌∙◌}
-use Rattle.std.proofs.lemmas.List.{drop_more}
+use Rattle.std.proofs.lemmas.List.{append-nil, drop_all, drop_more}
 use Rattle.rising_map.proofs.RisingLemmas.{mapped_more}
 use Rattle.rising_map.proofs.rising_map.mapped.Goals as goal
 
@@ -12,3 +12,6 @@ loop-number-preserved g c =
     rw c.in_ok-insert.ensures.entries
     (mapped_more c.loop-number.map.entries item (drop (i + 1) items) items c.requires
     (ap (λ rest. c.loop-number.map.entries ++ rest) (sym next) ∙ c.loop-number.invariant))
+
+pub returns : goal.returns
+returns g c = rw (drop_all c.loop-number.number-index c.args.list.now c.loop-number-test.false, append-nil) at c.loop-number.invariant
