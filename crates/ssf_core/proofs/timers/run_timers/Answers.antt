@@ -12,6 +12,11 @@ loop-expiry-init c = record {
   traced = λ t stands. rw c.requires.empty (runs_none c.args.config.now t c.args.last c.args.stage stands);
 }
 
+pub expire-stage-requires-clause-moment : goal.expire-stage-requires-clause-moment
+expire-stage-requires-clause-moment c =
+    let fire = fires c.loop-expiry.invariant.clock c.args.now c.loop-expiry.stage c.in-Some.expiry c.loop-expiry.invariant.timely (sym c.in-Some.ensures) in
+    omega (arith, fire.by_now, c.requires.moment)
+
 pub expire-stage-requires-clause-timely : goal.expire-stage-requires-clause-timely
 expire-stage-requires-clause-timely c = (fires c.loop-expiry.invariant.clock c.args.now c.loop-expiry.stage c.in-Some.expiry c.loop-expiry.invariant.timely (sym c.in-Some.ensures)).timely
 
