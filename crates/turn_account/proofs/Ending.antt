@@ -69,3 +69,12 @@ pub each_closed : (P : Ledger → Type 0) (account : Ledger) → ((number : ℕ)
 each_closed P account each first [] have k d within = absurd (omega (arith, within))
 each_closed P account each first (seat ∷ seats) have zero d within = each first seat.view have.0
 each_closed P account each first (seat ∷ seats) have (suc k) d within = each_closed P account each (first + 1) seats have.1 k d (omega (arith, within))
+
+-- ---- the first seat of those that are left
+
+-- it has the number that is next, and the others are numbered after it
+pub numbered_on : {T : Type 0} (number : T → ℕ) (first : ℕ) (seats rest : List T) (seat : T) → seats ≡ seat ∷ rest → are_numbered first (map number seats) ≡ true
+    → (number seat ≡ first) × (are_numbered (first + 1) (map number rest) ≡ true)
+numbered_on number first seats rest seat is are =
+    let parts = first_by (number seat == first) (are_numbered (first + 1) (map number rest)) (rw is at are) in
+    (eqb-true (number seat) first parts.0, parts.1)
