@@ -1,5 +1,5 @@
 use Rattle.std.proofs.Common.{◌≡◌, List, length, map, sym, ◌∙◌, subst, true, refl, rules}
-use Rattle.std.specs.Prelude.{◌<◌, ◌==◌, All}
+use Rattle.std.specs.Prelude.{◌<◌, ◌≤◌, ◌==◌, All}
 use Rattle.account_core.specs.Ledger.{Ledger}
 use Rattle.shared_account.specs.Closed.{Closed, IsBookOf}
 use Rattle.turn_account.specs.Ended.{HaveEnded}
@@ -8,9 +8,19 @@ use Rattle.shared_account.specs.Seats.{are_all, are_numbered}
 use Rattle.turn_account.specs.Seen.{IsOpenedAs}
 use Rattle.turn_account.specs.TurnViews.{TurnSeatView, own_of}
 use Rattle.turn_account.specs.Views.{unopened}
-use Rattle.turn_account.proofs.Ending.{each_closed, merged_closed}
+use Rattle.turn_account.proofs.Ending.{as_many, each_closed, merged_closed}
 use Rattle.shared_account.proofs.Numbering.{first_by}
 use Rattle.turn_account.proofs.closing.close_board.Goals as goal
+
+pub gather-chair-requires-clause-some_seats : goal.gather-chair-requires-clause-some_seats
+gather-chair-requires-clause-some_seats c =
+    let all = rw c.as_slice.ensures.value at (sym c.are_all.ensures ∙ c.if-not-are_all.false) in
+    subst (λ n. 1 ≤ n) (sym (as_many (λ (s : TurnSeatView). s.number) c.args.count c.args.seats.items all)) c.requires.board.some_seats
+
+pub clear_board-requires-clause-last : goal.clear_board-requires-clause-last
+clear_board-requires-clause-last c =
+    let all = rw c.as_slice.ensures.value at (sym c.are_all.ensures ∙ c.if-not-are_all.false) in
+    c.gather-chair.ensures.last ∙ (as_many (λ (s : TurnSeatView). s.number) c.args.count c.args.seats.items all ∙ sym c.requires.board.seats)
 
 pub returns-clause-book : goal.returns-clause-book
 returns-clause-book c =
