@@ -179,7 +179,7 @@ pub table_cut : (output : LiveOutput) (ran : Run) (a b c : Option (List ℕ)) (d
 table_cut output ran a b c divider table (Ok done) first cut is_end = tt
 table_cut output ran a b c divider table (Err why) first cut is_end = rw cut.0 (divider ++ table, is_end, front_behind a b c divider table first cut.1)
 
--- or not at all
+-- or not at all: both are printed
 pub both_printed : (output : LiveOutput) (ran : Run) (a b c : Option (List ℕ)) (divider table : List ℕ) (answer : Result (Unit {0}) ServeError) → Appends a b divider
     → OnOk answer (Appends b c table) → IsEndOf output ran (divider ++ table) → OnOk answer ((text : List ℕ) × IsEndOf output ran text × Appends a c text)
 both_printed output ran a b c divider table (Ok done) first then is_end = (divider ++ table, is_end, grow_twice a b c divider table first then)
