@@ -7,3 +7,4 @@ pub mod RateLemmas
 pub mod RecordCuts
 pub mod StartCuts
 pub mod StepLemmas
+pub mod StopLemmas

@@ -9,6 +9,7 @@ use Rattle.rating.specs.SaidOf.{wished_names}
 use Rattle.rating.specs.Texts.{headed}
 use Rattle.rating.specs.declared.call.TheConstants.{MAX_SHOWN}
 use Rattle.table_core.proofs.FrontLemmas.{still_held}
+use Rattle.rating.proofs.StopLemmas.{stopped_silent}
 use Rattle.rating.proofs.RateLemmas.{ends_same, ends_silent, long_header, no_columns, no_header, opened, over_printed, rows_may, stopped_ends, within_printed}
 use Rattle.rating.proofs.rating.rate_records.Goals as goal
 
@@ -85,3 +86,27 @@ returns-in_err-push_names g c =
       silent = ends_silent held stop.result;
       bounded = IfOk-from_err stop.result _ stop.ensures.0;
     }
+
+pub returns-clause-silent : goal.returns-clause-silent
+returns-clause-silent g c = stopped_silent _ _ c.rate_rows.result c.rate_rows.ensures.stopped
+
+pub returns-clause-bounded : goal.returns-clause-bounded
+returns-clause-bounded g c = c.rate_rows.ensures.bounded
+
+pub returns-then-not-branch-clause-silent : goal.returns-then-not-branch-clause-silent
+returns-then-not-branch-clause-silent g c = still_held (g.O.Write.contents c.args.output.now)
+
+pub returns-then-not-branch-clause-bounded : goal.returns-then-not-branch-clause-bounded
+returns-then-not-branch-clause-bounded g c = tt
+
+pub returns-in_default-clause-silent : goal.returns-in_default-clause-silent
+returns-in_default-clause-silent g c = still_held (g.O.Write.contents c.args.output.now)
+
+pub returns-in_default-clause-bounded : goal.returns-in_default-clause-bounded
+returns-in_default-clause-bounded g c = tt
+
+pub returns-then-len-gt-MAX_SHOWN-clause-silent : goal.returns-then-len-gt-MAX_SHOWN-clause-silent
+returns-then-len-gt-MAX_SHOWN-clause-silent g c = still_held (g.O.Write.contents c.args.output.now)
+
+pub returns-then-len-gt-MAX_SHOWN-clause-bounded : goal.returns-then-len-gt-MAX_SHOWN-clause-bounded
+returns-then-len-gt-MAX_SHOWN-clause-bounded g c = tt

@@ -1,7 +1,8 @@
-use Rattle.std.proofs.Common.{inr, arith}
-use Rattle.std.proofs.Common.{true, map}
+use Rattle.std.proofs.Common.{true, inr, map, arith, rules}
+use Rattle.std.proofs.lemmas.Result.{IfOk-from_err}
 use Rattle.rating.specs.Lines.{shown}
 use Rattle.table_core.proofs.FrontLemmas.{some_written}
+use Rattle.rating.proofs.StopLemmas.{may_stop, rows_stop}
 use Rattle.rating.proofs.RateLemmas.{all_written, at_first, failed, failed_ends, in_part, row_more, rows_may, sent_more, stopped_ends, stops}
 use Rattle.rating.proofs.rating.rate_rows.Goals as goal
 
@@ -66,3 +67,51 @@ loop-turn-preserved g c = (
 pub returns-clause-ends : goal.returns-clause-ends
 returns-clause-ends g c = λ header left has text width.
     inr (in_part g.I.Read.remaining c.args.rater.now.differing _ c.loop-turn.rows _ _ c.loop-turn.text.items c.loop-turn.score (c.loop-turn.invariant.2 header left has text width))
+
+pub returns-in_err-write_rest-in-Err-clause-stopped : goal.returns-in_err-write_rest-in-Err-clause-stopped
+returns-in_err-write_rest-in-Err-clause-stopped g c = may_stop c.from_residual.result _ c.from_residual.ensures.1 (rw c.in_err-write_rest-in-Err.ensures.fault.why_is tt)
+
+pub returns-in_err-write_rest-in-Err-clause-bounded : goal.returns-in_err-write_rest-in-Err-clause-bounded
+returns-in_err-write_rest-in-Err-clause-bounded g c = IfOk-from_err c.from_residual.result _ c.from_residual.ensures.0
+
+pub returns-in_err-write_rest-clause-stopped : goal.returns-in_err-write_rest-clause-stopped
+returns-in_err-write_rest-clause-stopped g c = may_stop c.from_residual-in_err-write_rest.result _ c.from_residual-in_err-write_rest.ensures.1 (rw c.in_err-write_rest.ensures.fault.why_is tt)
+
+pub returns-in_err-write_rest-clause-bounded : goal.returns-in_err-write_rest-clause-bounded
+returns-in_err-write_rest-clause-bounded g c = IfOk-from_err c.from_residual-in_err-write_rest.result _ c.from_residual-in_err-write_rest.ensures.0
+
+pub returns-in_err-add_row-clause-stopped : goal.returns-in_err-add_row-clause-stopped
+returns-in_err-add_row-clause-stopped g c = may_stop c.from_residual-in_err-add_row.result _ c.from_residual-in_err-add_row.ensures.1 tt
+
+pub returns-in_err-add_row-clause-bounded : goal.returns-in_err-add_row-clause-bounded
+returns-in_err-add_row-clause-bounded g c = IfOk-from_err c.from_residual-in_err-add_row.result _ c.from_residual-in_err-add_row.ensures.0
+
+pub returns-in_err-send-clause-stopped : goal.returns-in_err-send-clause-stopped
+returns-in_err-send-clause-stopped g c = may_stop c.from_residual-in_err-send.result _ c.from_residual-in_err-send.ensures.1 (rw c.in_err-send.ensures.fault.why_is tt)
+
+pub returns-in_err-send-clause-bounded : goal.returns-in_err-send-clause-bounded
+returns-in_err-send-clause-bounded g c = IfOk-from_err c.from_residual-in_err-send.result _ c.from_residual-in_err-send.ensures.0
+
+pub returns-in-Err-clause-stopped : goal.returns-in-Err-clause-stopped
+returns-in-Err-clause-stopped g c = rw c.from.ensures (rows_stop _)
+
+pub returns-in-Err-clause-bounded : goal.returns-in-Err-clause-bounded
+returns-in-Err-clause-bounded g c = tt
+
+pub returns-then-not-found-clause-stopped : goal.returns-then-not-found-clause-stopped
+returns-then-not-found-clause-stopped g c = tt
+
+pub returns-then-not-found-clause-bounded : goal.returns-then-not-found-clause-bounded
+returns-then-not-found-clause-bounded g c = c.loop-turn.invariant.0
+
+pub returns-clause-stopped : goal.returns-clause-stopped
+returns-clause-stopped g c = tt
+
+pub returns-clause-bounded : goal.returns-clause-bounded
+returns-clause-bounded g c = tt
+
+pub add_row-requires-clause-bounded : goal.add_row-requires-clause-bounded
+add_row-requires-clause-bounded g c = c.loop-turn.invariant.0
+
+pub add_row-requires-clause-room : goal.add_row-requires-clause-room
+add_row-requires-clause-room g c = search rules
