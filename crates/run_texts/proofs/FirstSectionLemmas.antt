@@ -1,12 +1,15 @@
 -- A section is read line by line as far as its divider, and a line byte by byte.
-use Rattle.std.proofs.Common.{◌≡◌, ◌≢◌, ◌==◌, ◌+◌, ◌<◌, ◌≤◌, ℕ, Bool, true, false, List, [], ◌∷◌, ◌++◌, All, length, drop, take, Option, Some, None, Ok, Err, refl, sym, ap, subst, ◌∙◌, arith, append_assoc, append-nil, length-append}
-use Rattle.std.specs.Prelude.{if◌then◌else◌, nat_lt, option_map, ⊤, IfSome, OnSome}
+use Rattle.std.proofs.Common.{◌≡◌, ◌≢◌, ◌==◌, ◌+◌, ◌<◌, ◌≤◌, ℕ, Bool, true, false, List, [], ◌∷◌, ◌++◌, All, length, drop, take, Option, Some, None, Result, Ok, Err, refl, sym, ap, subst, ◌∙◌, arith, append_assoc, append-nil, length-append}
+use Rattle.std.specs.Prelude.{if◌then◌else◌, nat_lt, option_map, ⊤, IfErr, IfSome, IsErrAnd, OnSome}
 use Rattle.std.specs.Io.BufRead.{drop_through, take_through}
 use Rattle.std.specs.Io.KnownBytes.{Consumes, IsAtEnd, Keeps}
+use Rattle.std.specs.Result.{result_map_both}
 use Rattle.std.proofs.BufReadLemmas.{take_through-append, take_through-nil}
 use Rattle.std.proofs.lemmas.Bool.Decides.{nat_tests}
-use Rattle.run_texts.specs.FirstSections.{Division, ReadsLine, division_of, first_section, first_section_by, with_front}
+use Rattle.run_texts.specs.FirstSections.{Divides, Division, InputFaultMayAlwaysCome, ReadsLine, division_of, first_section, first_section_by, with_front}
+use Rattle.run_texts.specs.InputFaults.{RefusesInput}
 use Rattle.run_texts.specs.Sections.{with_first_byte, is_divider, lines_in_text}
+use Rattle.run_texts.specs.declared.input_fault.InputFault.{InputFault}
 use Rattle.run_texts.specs.declared.input_fault.InputFault.TheVariants as fault
 
 -- ---- readers
@@ -246,3 +249,31 @@ line_more most text front line left new way read some isnt =
 -- a line that there is room for
 pub within_line : (front line most : ℕ) → front ≤ 16777216 → line ≤ most → most + front ≡ 16777216 → front + line ≤ 16777216
 within_line front line most within fits room = omega (arith, fits, room)
+
+-- ---- readers that fail
+
+-- a fault that may always come may come at any meaning
+may_refuse : {Y : Type 0} (why : InputFault) (meaning : Result Y InputFault)
+    → InputFaultMayAlwaysCome why → RefusesInput why meaning
+may_refuse fault.Device meaning may = tt
+may_refuse fault.OutOfMemory meaning may = tt
+may_refuse fault.Parts meaning may = absurd may
+may_refuse fault.TooLong meaning may = absurd may
+may_refuse (fault.Tariff row) meaning may = absurd may
+may_refuse (fault.Setup row) meaning may = absurd may
+may_refuse (fault.Script row) meaning may = absurd may
+
+-- a section isn't read where its reader or memory fails
+pub stopped_by : {X : Type 0} (view : X → List ℕ) (text : List ℕ) (left : Option (List ℕ))
+    (answer : Result X InputFault) (why : InputFault)
+    → IsErrAnd answer (λ met. met ≡ why) → InputFaultMayAlwaysCome why
+    → Divides text left (result_map_both view (λ named. named) answer)
+stopped_by view text left (Ok x) why met may = absurd met
+stopped_by view text left (Err named) why met may = rw met (may_refuse why (first_section text) may)
+
+-- the fault of an answer is that of the call that failed in it
+pub fails_by : {X : Type 0} (answer : Result X InputFault) (why : InputFault)
+    → IsErrAnd answer (λ met. met ≡ why) → InputFaultMayAlwaysCome why
+    → IfErr answer InputFaultMayAlwaysCome
+fails_by (Ok x) why met may = absurd met
+fails_by (Err named) why met may = rw met may

@@ -1,6 +1,7 @@
 use Rattle.std.proofs.Common.{◌≡◌, ◌<◌, ◌++◌, true, ◌∙◌, [], ◌∷◌, length, ap, sym, arith, rules, tests}
 use Rattle.std.specs.Prelude.{codes}
 use Rattle.std.specs.List.{list_all}
+use Rattle.std.proofs.lemmas.List.{map_push}
 use Rattle.std.proofs.lemmas.Iterator.Consumers.{YieldsList-at}
 use Rattle.std.proofs.lemmas.Iterator.Splits.{YieldsList-from_slice_split}
 use Rattle.csv.specs.Records.{fields_of}
@@ -21,3 +22,11 @@ returns-clause-row c =
     (λ byte is after called. search (rules, tests)))) in
     let several : 1 < length (parts_of text) = search (arith, rules) in
     rw (line, line_is_row text plain several) (ap (λ row. row ∷ []) (sym parts))
+
+pub loop-field-preserved : goal.loop-field-preserved
+loop-field-preserved c =
+    let pushed = c.in_ok-push_field.ensures in (
+      pushed.partial,
+      rw (pushed.fields, c.loop-field.invariant.0, c.loop-field.invariant.1)
+          (sym (map_push (λ part. part.now) c.loop-field.yielded c.in-Some.field)),
+    )

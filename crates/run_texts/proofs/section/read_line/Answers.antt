@@ -3,8 +3,9 @@ use Rattle.std.proofs.BufReadLemmas.{Consumes_through}
 use Rattle.std.proofs.lemmas.List.Elements.{All-nil, All-push}
 use Rattle.std.proofs.KnownBytes.{Consumes-trans}
 use Rattle.std.proofs.lemmas.List.{length_push}
+use Rattle.std.proofs.lemmas.Result.{IfOk-from_err}
 use Rattle.table_core.proofs.Known.{if_known}
-use Rattle.run_texts.proofs.FirstSectionLemmas.{ends_some, kept_none, longer}
+use Rattle.run_texts.proofs.FirstSectionLemmas.{ends_some, fails_by, kept_none, longer}
 use Rattle.run_texts.proofs.section.read_line.Goals as goal
 
 pub returns-in_default-clause-reads : goal.returns-in_default-clause-reads
@@ -40,3 +41,17 @@ loop-turn-preserved g c =
 
 pub returns : goal.returns
 returns g c = record { reads = tt; within = tt; fault = tt }
+
+pub returns-in_err-byte : goal.returns-in_err-byte
+returns-in_err-byte g c = record {
+  reads = IfOk-from_err c.from_residual.result _ c.from_residual.ensures.0;
+  within = IfOk-from_err c.from_residual.result _ c.from_residual.ensures.0;
+  fault = fails_by c.from_residual.result _ c.from_residual.ensures.1 c.in_err-byte.ensures.fault;
+}
+
+pub returns-in_err-push : goal.returns-in_err-push
+returns-in_err-push g c = record {
+  reads = IfOk-from_err c.from_residual-in_err-push.result _ c.from_residual-in_err-push.ensures.0;
+  within = IfOk-from_err c.from_residual-in_err-push.result _ c.from_residual-in_err-push.ensures.0;
+  fault = fails_by c.from_residual-in_err-push.result _ c.from_residual-in_err-push.ensures.1 tt;
+}

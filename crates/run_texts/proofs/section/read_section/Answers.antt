@@ -1,8 +1,9 @@
-use Rattle.std.proofs.Common.{◌≡◌, ◌==◌, ◌-◌, true, sym, ◌∙◌, arith, length-append}
+use Rattle.std.proofs.Common.{◌≡◌, ◌==◌, ◌-◌, Global, ℕ, true, sym, ◌∙◌, arith, length-append}
 use Rattle.std.proofs.lemmas.Bool.Decides.{nat_tests}
 use Rattle.std.proofs.lemmas.Bool.{eqb-false}
+use Rattle.std.specs.Prelude.{Vec}
 use Rattle.table_core.proofs.Known.{if_known}
-use Rattle.run_texts.proofs.FirstSectionLemmas.{divided, line_more, too_long, undivided, within_line}
+use Rattle.run_texts.proofs.FirstSectionLemmas.{divided, line_more, stopped_by, too_long, under_way, undivided, within_line}
 use Rattle.run_texts.proofs.section.read_section.Goals as goal
 
 pub returns-in_default : goal.returns-in_default
@@ -33,3 +34,15 @@ loop-turn-preserved g c =
 
 pub returns : goal.returns
 returns g c = if_known (g.I.Read.remaining c.args.input.now) _ (λ _ _. tt)
+
+pub returns-in_err-line : goal.returns-in_err-line
+returns-in_err-line g c = if_known (g.I.Read.remaining c.args.input.now) _ (λ text known.
+    stopped_by (λ (section : Vec ℕ Global). section.items) text _ c.from_residual.result _ c.from_residual.ensures.1 c.in_err-line.ensures.fault)
+
+pub returns-in_err-extend_from_slice : goal.returns-in_err-extend_from_slice
+returns-in_err-extend_from_slice g c = if_known (g.I.Read.remaining c.args.input.now) _ (λ text known.
+    stopped_by (λ (section : Vec ℕ Global). section.items) text _ c.from_residual-in_err-extend_from_slice.result _ c.from_residual-in_err-extend_from_slice.ensures.1 tt)
+
+pub loop-turn-init : goal.loop-turn-init
+loop-turn-init g c =
+    rw c.new-text.ensures.items (omega arith, λ text known. under_way text _ known)
