@@ -1,5 +1,7 @@
 use Rattle.std.proofs.Common.{[], refl}
+use Rattle.std.specs.Prelude.{⊤}
 use Rattle.table_core.specs.Rows.{rows_of}
+use Rattle.table_core.proofs.Known.{if_known}
 use Rattle.table_core.proofs.TableLemmas.{ended, not_opened, opened, refused, refuses, stopped, taken}
 use Rattle.book_texts.specs.Books.{books_form, books_of}
 use Rattle.book_texts.specs.Sizes.{most_rows}
@@ -56,3 +58,17 @@ returns g c =
     let steps = rw c.if-branch.false at c.in_ok-next_row.ensures.steps in
     let whole = ended (books_form (most_rows c.args.size)) g.I.Read.remaining _ c.loop-wrongs.table c.next_row.new.self books read steps in
     checks_given (most_rows c.args.size) g.I.Read.remaining _ c.loop-wrongs.table c.next_row.new.self books books _ c.loop-wrongs.wrongs _ whole steps c.in_ok-into_list.ensures are.0 right refl
+
+pub returns-in_err-kind : goal.returns-in_err-kind
+returns-in_err-kind g c =
+    let input = g.I.Read.remaining c.args.reader in
+    let stop = c.from_residual-in_err-kind in
+    fault_booked (most_rows c.args.size) input stop.result _ (λ text. ⊤) (λ text. books_of (most_rows c.args.size) (rows_of text)) stop.ensures.1
+    (if_known input _ (λ text known. tt)) (λ text may. tt)
+
+pub returns-in_err-into_list : goal.returns-in_err-into_list
+returns-in_err-into_list g c =
+    let input = g.I.Read.remaining c.args.reader in
+    let stop = c.from_residual-in_err-into_list in
+    fault_booked (most_rows c.args.size) input stop.result _ (λ text. ⊤) (λ text. books_of (most_rows c.args.size) (rows_of text)) stop.ensures.1
+    (if_known input _ (λ text known. tt)) (λ text may. tt)
