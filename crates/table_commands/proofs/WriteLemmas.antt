@@ -5,7 +5,7 @@ use Rattle.std.specs.Prelude.{codes}
 use Rattle.std.specs.Io.KnownBytes.{Appends}
 use Rattle.table_core.proofs.FrontLemmas.{none_written, still_held}
 use Rattle.table_core.specs.Fronts.{AppendsFront, Writes}
-use Rattle.table_commands.specs.Outputs.{IsSaidOfOutput}
+use Rattle.table_commands.specs.Outputs.{IsOutputLine, IsSaidOfOutput}
 
 -- a front of the first text is one of both
 abbrev IsFront : List ℕ → List ℕ → List ℕ → Type 0
@@ -50,3 +50,14 @@ nothing_said known =
 pub none_said : (explaining : Bool) (known : Option (List ℕ)) → IsSaidOfOutput explaining known known
 none_said true known = nothing_said known
 none_said false known = still_held known
+
+-- a front of a line was said, where that is asked for
+pub line_said : (explaining : Bool) (old new : Option (List ℕ)) (line : List ℕ)
+    → explaining ≡ true → IsOutputLine line → AppendsFront old new line
+    → IsSaidOfOutput explaining old new
+line_said explaining old new line asked is wrote = rw asked (line, (is, wrote))
+
+-- nothing is said where that isn't asked for
+pub unasked : (explaining : Bool) (known : Option (List ℕ))
+    → explaining ≡ false → IsSaidOfOutput explaining known known
+unasked explaining known off = rw off (still_held known)

@@ -1,5 +1,7 @@
 use Rattle.std.proofs.Common.{refl, sym}
+use Rattle.std.specs.Prelude.{⊤}
 use Rattle.table_core.specs.Rows.{rows_of}
+use Rattle.table_core.proofs.Known.{if_known}
 use Rattle.table_core.specs.Tables.{table_of}
 use Rattle.table_core.proofs.TableLemmas.{ended, not_opened, opened, refused, refuses, stopped, taken, fault_says}
 use Rattle.price_core.specs.RatesOf.{rates_of}
@@ -46,3 +48,10 @@ pub returns : goal.returns
 returns g c =
     ended (reports_form (rates_of c.args.plan.now)) g.I.Read.remaining _ c.loop-reports.table c.next_row.new.self _ c.loop-reports.invariant.1
     (rw c.if-branch.false at c.in_ok-next_row.ensures.steps)
+
+pub returns-in_err-push : goal.returns-in_err-push
+returns-in_err-push g c =
+    let input = g.I.Read.remaining c.args.reader in
+    let stop = c.from_residual-in_err-push in
+    fault_says input _ stop.result _ (λ text. ⊤) (λ text. table_reports_of (rates_of c.args.plan.now) (rows_of text)) stop.ensures.1
+    (if_known input _ (λ text known. tt)) (λ text may. tt)
