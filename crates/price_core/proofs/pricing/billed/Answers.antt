@@ -1,6 +1,5 @@
 use Rattle.std.proofs.Common.{◌≡◌, ◌+◌, ◌*◌, ◌<◌, ℕ, refl, arith}
 use Rattle.std.specs.Int.{div_ceil}
-use Rattle.std.proofs.lemmas.Bool.{ne_eqb}
 use Rattle.std.proofs.lemmas.Grind.{div_ceil_times}
 use Rattle.price_core.specs.Price.{billed}
 use Rattle.price_core.proofs.pricing.billed.Goals as goal
@@ -24,11 +23,6 @@ overflow_add-result c =
 pub returns-then-charged-eq0-clause-exact : goal.returns-then-charged-eq0-clause-exact
 unfolding billed
 returns-then-charged-eq0-clause-exact c = rw (c.if-charged-eq0.true) refl
-
-pub returns-clause-exact : goal.returns-clause-exact
-unfolding billed
-returns-clause-exact c =
-    rw (ne_eqb c.args.charged 0 c.if-charged-eq0.false, ← c.saturating_sub-beyond.ensures, ← c.div_ceil.ensures) refl
 
 pub returns-clause-bounded : goal.returns-clause-bounded
 returns-clause-bounded c =
