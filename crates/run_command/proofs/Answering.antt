@@ -1,10 +1,9 @@
 -- What a run answers, as its play ended.
-use Rattle.std.proofs.Common.{◌≡◌, ◌≢◌, ◌↔◌, ℕ, false, Option, None, Some, List, Result, Ok, Err, subst}
-use Rattle.std.proofs.lemmas.Bool.{true_from_ne_false}
-use Rattle.std.specs.Prelude.{IfErr, IfOk, IsErrAnd}
+use Rattle.std.proofs.Common.{◌≡◌, ℕ, Option, None, Some, List, Result, Ok, Err, subst}
+use Rattle.std.specs.Prelude.{IfErr, IfOk}
 use Rattle.std.specs.Result.{result_map_both}
 use Rattle.run_command.proofs.Saying.{parts_said, tables_are_said, whole_said}
-use Rattle.run_command.specs.Answers.{IsRunAnswer, IsRunSaid, MayEndRun, MayFail}
+use Rattle.run_command.specs.Answers.{IsRunAnswer, IsRunSaid, MayFail}
 use Rattle.run_command.specs.InParts.{IsInParts}
 use Rattle.run_command.specs.Played.{AreWhole, IsWhole}
 use Rattle.run_outputs.specs.Texts.{run_said_of, tables_said}
@@ -19,26 +18,8 @@ use Rattle.run_values.specs.declared.options.PartsAsk.{PartsAsk}
 use Rattle.run_values.specs.declared.options.RunAsk.{RunAsk}
 use Rattle.run_texts.specs.declared.script.ScriptRow.{ScriptRow}
 use Rattle.run_values.specs.Setups.{Setup}
-use Rattle.run_values.specs.declared.run_fault.RunFault.{RunFault}
 use Rattle.run_values.specs.declared.run_fault.RunFault.TheVariants as run
-use Rattle.runs_core.specs.Teams.{are_workers}
 use Rattle.std.specs.Prelude.{string_bytes}
-
--- a fault of a run whose gates are open may end it
-may_end : {A : Type 0} (workers : ℕ) (served : Result A RunFault) (fault : RunFault) → served ≡ Err fault → (served ≡ Err run.Workers) ↔ (are_workers workers ≡ false)
-    → served ≢ Err run.GateClosed → MayEndRun workers fault
-may_end workers served run.OutOfMemory is few no_gate = tt
-may_end workers served run.Workers is few no_gate = few.0 is
-may_end workers served run.GateClosed is few no_gate = absurd (no_gate is)
-may_end workers served run.Mismatch is few no_gate = true_from_ne_false (are_workers workers) (λ none. let others = few.1 none in cc)
-may_end workers served run.Channel is few no_gate = true_from_ne_false (are_workers workers) (λ none. let others = few.1 none in cc)
-may_end workers served run.Thread is few no_gate = true_from_ne_false (are_workers workers) (λ none. let others = few.1 none in cc)
-
--- and so with what an answer says of it
-pub may_fail : {A B : Type 0} (workers : ℕ) (served : Result A RunFault) (fault : RunFault) (answer : Result B RunError) → IsErrAnd answer (λ why. why ≡ error.Run fault) → served ≡ Err fault
-    → (served ≡ Err run.Workers) ↔ (are_workers workers ≡ false) → served ≢ Err run.GateClosed → IfErr answer (MayFail workers)
-may_fail workers served fault (Ok done) says is few no_gate = tt
-may_fail workers served fault (Err why) says is few no_gate = rw says (may_end workers served fault is few no_gate)
 
 module _ (ask : RunAsk) (input : List ℕ) (setup : Setup) (rows : List ScriptRow) (start : IsStartOf ask input setup rows) where
   -- a fault of the play is one of the run

@@ -1,5 +1,4 @@
 use Rattle.std.proofs.Common.{◌∙◌, ◌++◌, List, [], ap, refl}
-use Rattle.run_command.proofs.Answering.{may_fail}
 use Rattle.run_command.proofs.ListenLemmas.{counts_heard, keeps_heard, listener_hears, player_hears}
 use Rattle.run_command.proofs.PlayLemmas.{given_by, played_as, rounds_of}
 use Rattle.run_values.specs.Options.{ask_of}
@@ -38,8 +37,3 @@ returns-clause-played g c =
     (λ asked. ap (λ (heard : _). heard.items) played.heard ∙ keeps_heard [] listener ran.heard end (c.new-listener.ensures.keeps ∙ asked) rounds
     ∙ ap (λ (l : List Answer). l ++ all_heard ran.heard) c.new-listener.ensures.heard)
     (played.refusals ∙ counts_heard [] listener ran.heard end [] c.new-listener.ensures.refusals rounds)
-
-pub returns-in_err-books-clause-fault : goal.returns-in_err-books-clause-fault
-returns-in_err-books-clause-fault g c =
-    may_fail c.args.options.now.workers c.serve-served.result c.in_err-books.field-0.0 c.from_residual-in_err-books.result c.from_residual-in_err-books.ensures.1
-    c.in_err-books.was c.serve-served.ensures.workers c.serve-served.ensures.gate
