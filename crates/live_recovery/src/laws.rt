@@ -63,10 +63,10 @@ pub fn stopped_runs_go_on()
     logs_are_heard_again();
 }
 
-/// The same by what two live runs come to. The first was cut off
-/// anywhere, be it that the output, the log or the input failed, or it has ended; its log was a
-/// head alone before. The second begins with the whole lines of that log (`live_answers::find_lines`),
-/// and goes on with further lines. Besides what `stopped_runs_go_on` says:
+/// The same by what two live runs come to. The first was cut off anywhere, be it that the output,
+/// the log or the input failed, or it has ended; its log was a head alone before. The second begins
+/// with the whole lines of that log (`live_answers::find_lines`), and goes on with further lines.
+/// Besides what `stopped_runs_go_on` says:
 ///
 /// * the log has the messages of just the lines that the first run took in. Where the log failed it
 ///   may have some of the next `live_answers::MAX_GROUP` lines, which were not answered;
