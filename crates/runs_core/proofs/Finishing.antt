@@ -1,7 +1,6 @@
 -- Workers are started and waited for, one after the other.
 use Rattle.std.proofs.Common.{◌≡◌, ◌≢◌, ◌<◌, ℕ, ◌+◌, List, [], ◌∷◌, ◌++◌, length, map, refl, ap, sym, subst, ◌∙◌, arith, zero, suc, Option, Some, None}
 use Rattle.std.specs.Option.{option_or}
-use Rattle.std.specs.Result.{result_err}
 use Rattle.std.specs.Prelude.{Err, IfSome, Ok, Result, slice_index_or}
 use Rattle.std.specs.Map.{keys_of}
 use mathlib.Core.Logic.{inl, inr}
@@ -127,10 +126,14 @@ pub own_or : (fault other : Option RunFault) → fault ≢ Some out.GateClosed �
 own_or None other closed workers here there = (here, there)
 own_or (Some first) other closed workers here there = (closed, workers)
 
--- the fault of what was done, if it failed
-pub own_err : (result : Result (Unit {0}) RunFault) → result ≢ Err out.GateClosed → result ≢ Err out.Workers → (result_err result ≢ Some out.GateClosed) × (result_err result ≢ Some out.Workers)
-own_err (Ok done) closed workers = ((λ never. absurd (cc)), λ never. absurd (cc))
-own_err (Err why) closed workers = ((λ is. let same : why ≡ out.GateClosed = cc in closed (ap Err same)), λ is. let same : why ≡ out.Workers = cc in workers (ap Err same))
+-- the fault of what has failed
+pub err_named : {X : Type 0} (result : Result X RunFault) (why : RunFault) → result ≡ Err why → result ≢ Err out.GateClosed → result ≢ Err out.Workers
+    → (Some why ≢ Some out.GateClosed) × (Some why ≢ Some out.Workers)
+err_named result why is closed workers = ((λ same. let it : why ≡ out.GateClosed = cc in closed (is ∙ ap Err it)), λ same. let it : why ≡ out.Workers = cc in workers (is ∙ ap Err it))
+
+pub or_some : (fault : Option RunFault) (why : RunFault) → option_or fault (Some why) ≢ None
+or_some None why none = absurd (cc)
+or_some (Some first) why none = absurd (cc)
 
 -- all have left
 pub all_finished : {K S G T : Type 0} (read : Reads K T) (key : S → K) (Was : T → Knowing) (may_shut : G → Type 0) (links rest : List (WorkerLink S G T)) (old teams : List (List T)) (fault : Option RunFault)

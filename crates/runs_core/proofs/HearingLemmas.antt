@@ -1,8 +1,6 @@
 -- What the driver hears: answers that are taken one after the other, round after round.
-use Rattle.std.proofs.Common.{◌≡◌, ◌<◌, ◌≤◌, ◌+◌, ℕ, Bool, true, false, List, [], ◌∷◌, ◌++◌, length, length-append, map, refl, ap, sym, subst, ◌∙◌, arith, suc, zero, take, Option, Some, None}
-use Rattle.std.specs.Option.{option_or}
-use Rattle.std.specs.Result.{result_err}
-use Rattle.std.specs.Prelude.{◌==◌, All, Err, Ok, OnOk, Result, if◌then◌else◌}
+use Rattle.std.proofs.Common.{◌≡◌, ◌<◌, ◌≤◌, ◌+◌, ℕ, Bool, true, false, List, [], ◌∷◌, ◌++◌, length, length-append, map, refl, ap, sym, subst, ◌∙◌, arith, suc, zero, take}
+use Rattle.std.specs.Prelude.{◌==◌, All, if◌then◌else◌}
 use Rattle.std.proofs.Math.ListN.{get_or, get_or-map, set}
 use Rattle.std.proofs.lemmas.Bool.{eq-eqb}
 use Rattle.std.proofs.lemmas.List.{append-nil, append_assoc, flat_map_more, get_or_default, get_or-set_other, get_or-set_same, length-map, length-set, length-take-le, map-append, map-set, take_all, take_more}
@@ -14,7 +12,6 @@ use Rattle.runs_core.proofs.HandOuts.{agrees, differs, numbered-append}
 use Rattle.runs_core.specs.Crews.{joined_lists}
 use Rattle.runs_core.specs.Hearing.{AnswersEach, AreAnswers, HearsMore, HearsRounds, all_heard, answers_to}
 use Rattle.runs_core.specs.Shares.{Item, numbered, worker_of}
-use Rattle.run_values.specs.declared.run_fault.RunFault.{RunFault}
 
 -- ---- answers after answers
 
@@ -203,17 +200,14 @@ pub none_heard : {L V : Type 0} (heard_by : L → List Answer) (inside : V → L
 none_heard heard_by inside old at lists none empty = rw (none, empty) (record { joined_so = sym (joined_none (map heard_by old)); count = refl })
 
 -- one more has come, where none has failed
-pub one_heard : {L V : Type 0} (heard_by : L → List Answer) (inside : V → List Answer) (old : List L) (at : ℕ) (now : List L) (lists more : List V) (fault : Option RunFault) (result : Result (Unit {0}) RunFault) (link new : L)
-    → length now ≡ length old → at < length now → link ≡ get_or now at link → (fault ≡ None → AreHeard heard_by inside old at now lists)
-    → OnOk result ((answers : List Answer) × (heard_by new ≡ heard_by link ++ answers) × (map inside more ≡ map inside lists ++ answers ∷ []))
-    → option_or fault (result_err result) ≡ None → AreHeard heard_by inside old (at + 1) (set now at new) more
-one_heard heard_by inside old at now lists more None (Ok done) link new many below is before comes none =
-    let was = before refl in
+pub one_heard : {L V : Type 0} (heard_by : L → List Answer) (inside : V → List Answer) (old : List L) (at : ℕ) (now : List L) (lists more : List V) (list : V) (link new : L)
+    → length now ≡ length old → at < length now → link ≡ get_or now at link → AreHeard heard_by inside old at now lists → heard_by new ≡ heard_by link ++ inside list → more ≡ lists ++ list ∷ []
+    → AreHeard heard_by inside old (at + 1) (set now at new) more
+one_heard heard_by inside old at now lists more list link new many below is was comes grown =
     let within : length (map inside lists) < length (map heard_by old) = omega (arith, below, many, was.count, length-map lists inside, length-map old heard_by) in
     let here : at ≡ length (map inside lists) = was.count ∙ sym (length-map lists inside) in
+    let down : map inside lists ++ inside list ∷ [] ≡ map inside more = sym (ap (map inside) grown ∙ map-append inside lists (list ∷ [])) in
     record {
-      joined_so = joined_next heard_by (map heard_by old) (map inside lists) comes.0 at now link new was.joined_so here within is comes.1 ∙ ap (joined_lists (map heard_by old)) (sym comes.2);
-      count = ap (λ n. n + 1) here ∙ sym (length-append (map inside lists) (comes.0 ∷ [])) ∙ sym (ap length comes.2) ∙ length-map more inside;
+      joined_so = joined_next heard_by (map heard_by old) (map inside lists) (inside list) at now link new was.joined_so here within is comes ∙ ap (joined_lists (map heard_by old)) down;
+      count = ap (λ n. n + 1) was.count ∙ sym (length-append lists (list ∷ [])) ∙ sym (ap length grown);
     }
-one_heard heard_by inside old at now lists more None (Err why) link new many below is before comes none = absurd (cc)
-one_heard heard_by inside old at now lists more (Some why) result link new many below is before comes none = absurd (cc)

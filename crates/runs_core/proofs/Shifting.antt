@@ -1,5 +1,5 @@
 -- The first of what is left is done, and is last in what is done.
-use Rattle.std.proofs.Common.{◌≡◌, ◌<◌, List, [], ◌∷◌, ◌++◌, length, arith, map, refl, ap, sym, ◌∙◌}
+use Rattle.std.proofs.Common.{◌≡◌, List, [], ◌∷◌, ◌++◌, length, arith, map, refl, ap, sym, ◌∙◌}
 use Rattle.runs_core.specs.Closing.{AreSeatsOf}
 use Rattle.std.proofs.lemmas.List.{append-nil, append_assoc, map-append}
 
@@ -20,7 +20,3 @@ empty_rows key_of inside (row ∷ rows) are = absurd are
 pub empty_by : {X : Type 0} (xs : List X) → length xs ≡ 0 → xs ≡ []
 empty_by [] none = refl
 empty_by (x ∷ xs) none = absurd (omega (arith, none))
-
-pub some_pushed : {X : Type 0} (xs : List X) (x : X) → 0 < length (xs ++ x ∷ [])
-some_pushed [] x = omega (arith)
-some_pushed (first ∷ xs) x = omega (arith)

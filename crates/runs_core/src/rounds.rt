@@ -11,7 +11,7 @@ ghost use Rattle.runs_core.specs.Shares.{AreShares, item_at, item_of, worker_of}
 ghost use Rattle.runs_core.specs.Workers.{IsReady, accounts_of, number_by, setup_of};
 ghost use Rattle.run_values.specs.declared.post.Body.{Body};
 
-use crate::crew::{Crew, Replies};
+use crate::crew::Crew;
 use crate::shares::{share_out, worker_of};
 use price_core::HORIZON;
 use run_values::{Answer, Body, Driver, RunFault};
@@ -111,26 +111,9 @@ fn serve_round<S: Shared, R: Wait, G: Gate>(
     let Some(mine) = shares.next() else {
         unreachable!()
     };
-    let replies = crew.answer_round(rt, alloc, mine, shares, gate)?;
+    let mut queues = crew.answer_round(rt, alloc, mine, shares, gate)?;
     answers.clear();
-    let mut queues = queues(alloc, replies)?;
     merge(first, added, &mut queues, answers)
-}
-
-/// The answers of each worker, to be taken one by one.
-fn queues(alloc: Global, replies: Replies) -> Result<Vec<VecDeque<Answer>>, RunFault>
-    ensures count { IfOk result (λ queues. 0 < length queues.items) }
-    ensures items { IfOk result (λ queues. map (λ queue. queue.items) queues.items
-        ≡ replies.first.items ∷ map (λ list. list.items) replies.others.items) }
-    ensures fault { AsksNoGate result }
-{
-    let Replies { first, others } = replies;
-    let mut queues = Vec::with_capacity(alloc, others.len())?;
-    queues.push(VecDeque::from_vec(first))?;
-    for list in others {
-        queues.push(VecDeque::from_vec(list))?;
-    }
-    Ok(queues)
 }
 
 /// Puts the answers of the workers into the order of the items, of which each has just one.

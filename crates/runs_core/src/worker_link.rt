@@ -21,6 +21,7 @@ use crate::worker::Worker;
 use run_values::{Answer, Post, RunFault, RunSetup};
 use shared_account::{Gate, Shared};
 use std::alloc::{AllocError, Global};
+use std::collections::VecDeque;
 use std::snapshot::Snapshot;
 use std::sync::Wait;
 use std::thread::{PromisedHandle, Scope, Threads};
@@ -138,7 +139,11 @@ impl<S: Shared, G: Gate> WorkerLink<'_, S, G> {
     }
 
     /// Waits for the answers to the round, if posts were sent.
-    pub(crate) fn hear<R: Wait>(&mut self, rt: &R, alloc: Global) -> Result<Vec<Answer>, RunFault>
+    pub(crate) fn hear<R: Wait>(
+        &mut self,
+        rt: &R,
+        alloc: Global,
+    ) -> Result<VecDeque<Answer>, RunFault>
         ensures answers { IfOk result (λ answers. items_in (taken self.new.inbox)
             ≡ items_in (taken self.old.inbox) ++ answers.items) }
         ensures outbox { self.new.outbox ≡ self.old.outbox }
@@ -146,11 +151,11 @@ impl<S: Shared, G: Gate> WorkerLink<'_, S, G> {
         ensures fault { AsksNoGate result }
     {
         if !self.awaits {
-            return Ok(Vec::new(alloc));
+            return Ok(VecDeque::new(alloc));
         }
         self.awaits = false;
         match self.inbox.take_mail(rt) {
-            Ok(Mail::Work(answers)) => Ok(answers),
+            Ok(Mail::Work(answers)) => Ok(VecDeque::from_vec(answers)),
             _ => Err(RunFault::Channel),
         }
     }

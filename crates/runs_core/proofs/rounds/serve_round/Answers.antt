@@ -8,36 +8,37 @@ use Rattle.runs_core.proofs.rounds.serve_round.Goals as goal
 
 pub returns-clause-served : goal.returns-clause-served
 returns-clause-served g c =
-    let replies = c.in_ok-replies.replies in
-    let others = map (λ list. list.items) replies.others.items in
-    let lists = c.in_ok-queues.ensures.items in
+    let queues = c.in_ok-queues.queues.items in
+    let (own, others, are, goes_on, heard, as_many) = c.in_ok-queues.ensures.answers in
     let split : c.in_ok-shares.shares.items ≡ c.in-Some.mine ∷ into_iter_items c.next.new.self = search rules in
     let workers : c.len.result + 1 ≡ count_of c.args.crew.now = omega (arith, c.len.ensures, c.args.crew.now.links.ok) in
-    let many : length c.in_ok-queues.queues.items ≡ count_of c.args.crew.now =
-    omega (arith, ap length lists, length-map c.in_ok-queues.queues.items (λ queue. queue.items), length-map replies.others.items (λ list. list.items), c.in_ok-replies.ensures.others) in
+    let many : length queues ≡ count_of c.args.crew.now = omega (arith, ap length are, length-map queues (λ queue. queue.items), as_many) in
     on_ok c.merge.result _ _ c.merge.ensures.answers
     (λ merged. record {
       own = c.in-Some.mine.items;
       others = map (λ share. share.items) (into_iter_items c.next.new.self);
       are_shares = rw (workers, split) at c.in_ok-shares.ensures.shares;
-      sent = c.in_ok-replies.ensures.posts;
-      mine = replies.first.items;
-      goes_on = c.in_ok-replies.ensures.goes_on;
+      sent = c.in_ok-queues.ensures.posts;
+      mine = own;
+      goes_on = goes_on;
       replies = others;
-      heard = c.in_ok-replies.ensures.heard;
-      are_answers = rw (lists, many) at merged;
-      count = ap (λ n. n + 1) (same_count _ _ c.in_ok-replies.ensures.promises);
+      heard = heard;
+      are_answers = rw (are, many) at merged;
+      count = ap (λ n. n + 1) (same_count _ _ c.in_ok-queues.ensures.promises);
     })
 
-pub returns-in_err-replies-clause-promises : goal.returns-in_err-replies-clause-promises
-returns-in_err-replies-clause-promises g c = c.answer_round.ensures.promises
+pub merge-requires-clause-some : goal.merge-requires-clause-some
+merge-requires-clause-some g c =
+    let (own, others, are, _, _, _) = c.in_ok-queues.ensures.answers in
+    let queues = c.in_ok-queues.queues.items in
+    omega (arith, ap length are, length-map queues (λ queue. queue.items))
 
 pub returns-in_err-queues-clause-promises : goal.returns-in_err-queues-clause-promises
-returns-in_err-queues-clause-promises g c = c.in_ok-replies.ensures.promises
+returns-in_err-queues-clause-promises g c = c.answer_round.ensures.promises
 
 pub returns-clause-failed : goal.returns-clause-failed
 returns-clause-failed g c =
-    let none = none_failed _ _ c.in_ok-replies.replies c.answer_round.ensures.failed c.in_ok-replies.was in
+    let none = none_failed _ _ c.in_ok-queues.queues c.answer_round.ensures.failed c.in_ok-queues.was in
     rw none tt
 
 pub answer_round-requires-clause-count : goal.answer_round-requires-clause-count
