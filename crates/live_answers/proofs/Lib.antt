@@ -3,6 +3,7 @@ pub mod Chain
 pub mod GroupLemmas
 pub mod Growing
 pub mod HeadLemmas
+pub mod LastLines
 pub mod LineLemmas
 pub mod Parts
 pub mod Passing
