@@ -26,7 +26,7 @@ use Rattle.table_core.specs.declared.fault.RowFault.{RowFault}
 use Rattle.tariff_core.specs.Bands.{Band}
 use Rattle.price_core.specs.Rates.{Rates}
 use Rattle.price_core.specs.Times.{Elapsed}
-use Rattle.table_commands.specs.Answers.{IsAuditOfTable, IsAuditPrinted, IsQuotePrinted, price_of_input, replay_of_input}
+use Rattle.table_commands.specs.Answers.{IsAuditOfTable, IsAuditPrinted, IsQuoteOfTariff, IsQuotePrinted, price_of_input, price_of_table, replay_of_input, replay_of_table}
 use Rattle.table_commands.specs.Explanations.{IsOfWords, IsSaidOfAnswer, IsSaidOfFault}
 use Rattle.table_commands.specs.Faults.{GivesAnswer, GivesOne, meaning_in, meaning_of_section, of_run_input, of_words}
 use Rattle.table_commands.specs.Input.{sized, sized_as}
@@ -67,9 +67,7 @@ reports_by plan (Ok reports) = tt
 reports_by plan (Err why) = tt
 
 price_of : (plan : Rates) (input : List ℕ) → IfErr (price_of_input plan input) IsOfInput
-price_of plan input =
-    after_of (sized input) (λ text. and_then (meaning_in table_name.Reports (table_reports_of plan (rows_of text))) (λ reports. Ok (plain (price_lines plan 0 reports)))) (sized_of input)
-    (λ text. reports_by plan (table_reports_of plan (rows_of text)))
+price_of plan input = after_of (sized input) (price_of_table plan) (sized_of input) (λ text. reports_by plan (table_reports_of plan (rows_of text)))
 
 run_input_of : (why : InputFault) → IsOfInput (of_run_input why)
 run_input_of input_fault.Parts = tt
@@ -89,10 +87,13 @@ quote_by : (wish : QuoteWish) (meaning : Result (List Band) Fault) (answer : Res
 quote_by wish (Ok bands) answer of_meaning ending = rw ending.printed tt
 quote_by wish (Err why) answer of_meaning is = rw is of_meaning
 
+quote_in : (wish : QuoteWish) (text : Result (List ℕ) Fault) (answer : Result Printout Fault) → IfErr text IsOfInput
+    → MatchResult text (λ tariff. IsQuoteOfTariff wish tariff answer) (λ why. answer ≡ Err why) → IfErr answer IsOfInput
+quote_in wish (Ok tariff) answer of_text is = quote_by wish (meaning_of_section (tariff_in tariff)) answer (section_of (tariff_in tariff)) is
+quote_in wish (Err why) answer of_text is = rw is of_text
+
 pub quote_of : (wish : QuoteWish) (input : List ℕ) (answer : Result Printout Fault) → IsAnswerTo (Quotes wish) input answer → IfErr answer IsOfInput
-quote_of wish input answer is =
-    quote_by wish (and_then (sized input) (λ text. meaning_of_section (tariff_in text))) answer
-    (after_of (sized input) (λ text. meaning_of_section (tariff_in text)) (sized_of input) (λ text. section_of (tariff_in text))) is
+quote_of wish input answer is = quote_in wish (sized input) answer (sized_of input) is
 
 books_of_table : {X : Type 0} (read : Result X RowFault) → IfErr (meaning_in table_name.Book read) IsOfInput
 books_of_table (Ok x) = tt
@@ -173,8 +174,7 @@ lines_by (Err why) = tt
 
 replay_of : (opening limit : ℕ) (input : List ℕ) → IfErr (replay_of_input opening limit input) IsOfInput
 replay_of opening limit input =
-    after_of (sized input) (λ text. and_then (meaning_in table_name.Ops (replayed opening limit (rows_of text))) (λ lines. Ok (plain lines))) (sized_of input)
-    (λ text. lines_by (replayed opening limit (rows_of text)))
+    after_of (sized input) (replay_of_table opening limit) (sized_of input) (λ text. lines_by (replayed opening limit (rows_of text)))
 
 ending_run : (made : Result RunSaid RunError) → IfErr (result_map_both printout_of_run of_run made) IsOfInput
 ending_run (Ok said) = tt

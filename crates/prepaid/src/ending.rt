@@ -1,16 +1,19 @@
 //! How a command ends: with an answer, or a fault, and what is said behind that.
 
-ghost use Rattle.std.specs.Prelude.{◌≡◌, false, true, None, IfErr, IfNone, IfOk, IfSome, string_bytes};
+ghost use Rattle.std.specs.Prelude.{◌≡◌, false, true, Err, None, IfErr, IfOk, IfSome, string_bytes};
+ghost use Rattle.std.specs.IoError.{error_kind};
 ghost use Rattle.std.specs.Result.{result_map_both};
 ghost use Rattle.book_texts.specs.Checks.{audited_by};
 ghost use Rattle.table_commands.specs.Answers.{printout_of_audit};
-ghost use Rattle.table_commands.specs.Explanations.{IsSaidOfFault, slip_of};
+ghost use Rattle.table_commands.specs.Explanations.{IsSaidOfFault};
 ghost use Rattle.table_commands.specs.Printouts.{plain};
 ghost use Rattle.prepaid.specs.Explanations.{IsSaidBehind};
+ghost use Rattle.prepaid.specs.Faults.{of_files};
 ghost use Rattle.run_outputs.specs.Lists.{unplaced_line};
 ghost use Rattle.prepaid.specs.Printouts.{printout_of};
 
 use crate::answer::Answer;
+use crate::faults::fault_of_files;
 use book_texts::Audit;
 use run_command::stranger_calls;
 use run_outputs::{UnplacedEvent, strangers_line, unplaced_line};
@@ -65,57 +68,39 @@ pub(crate) fn run_ending(
     alloc: Global,
     explains: bool,
     options: &RunOptions,
-    input: &Option<Vec<u8>>,
+    input: &[u8],
     answer: Result<Answer, Fault>,
 ) -> Ending<Answer>
     ensures answer { result.answer ≡ answer }
     ensures only { explains ≡ false → result.more ≡ None }
-    ensures none { IfNone input.now (IfErr answer (λ why. IfSome result.more
-        (λ _. slip_of true why ≡ None))) }
-    ensures said { IfSome input.now (λ bytes. IfErr answer (λ why. IfSome result.more
-        (λ more. IsSaidOfFault true bytes.items why (string_bytes more)))) }
-    ensures unread { IfNone input.now (IfOk answer (λ _. result.more ≡ None)) }
-    ensures behind { IfSome input.now (λ bytes. IfOk answer (λ done. IfSome result.more
-        (λ more. IsSaidBehind
-        bytes.items (printout_of done).unplaced (string_bytes more)))) }
+    ensures said { IfErr answer (λ why. IfSome result.more
+        (λ more. IsSaidOfFault true input.now why (string_bytes more))) }
+    ensures behind { IfOk answer (λ done. IfSome result.more (λ more.
+        IsSaidBehind input.now (printout_of done).unplaced (string_bytes more))) }
 {
-    match (&answer, input) {
-        (Ok(done), Some(bytes)) if explains => {
-            let more = said_behind(alloc, options, bytes, done.unplaced.as_slice());
+    match &answer {
+        Ok(done) if explains => {
+            let more = said_behind(alloc, options, input, done.unplaced.as_slice());
             Ending { answer, more }
         }
-        (Ok(_), _) => Ending::plain(answer),
-        (Err(_), _) => Ending::over(alloc, explains, true, input, answer),
+        _ => Ending::over(alloc, explains, true, input, answer),
     }
 }
 
-/// The same of a run whose lines and tables go into files: where these couldn't be written, the
-/// error is said.
-pub(crate) fn files_ending(
-    alloc: Global,
-    explains: bool,
-    options: &RunOptions,
-    input: &Option<Vec<u8>>,
-    failed: &Option<Error>,
-    answer: Result<Answer, Fault>,
-) -> Ending<Answer>
-    ensures answer { result.answer ≡ answer }
+/// The fault of files that couldn't be written; of one that isn't out of memory is said why, where
+/// that is asked for.
+pub(crate) fn files_ending(alloc: Global, explains: bool, error: &Error) -> Ending<Answer>
+    ensures answer { result.answer ≡ Err (of_files (error_kind error.now)) }
     ensures only { explains ≡ false → result.more ≡ None }
-    ensures none { IfNone input.now (IfErr answer (λ why. IfSome result.more
-        (λ _. slip_of true why ≡ None))) }
-    ensures said { IfSome input.now (λ bytes. IfErr answer (λ why. IfSome result.more
-        (λ more. IsSaidOfFault true bytes.items why (string_bytes more)))) }
-    ensures unread { IfNone input.now (IfOk answer (λ _. result.more ≡ None)) }
-    ensures behind { IfSome input.now (λ bytes. IfOk answer (λ done. IfSome result.more
-        (λ more. IsSaidBehind
-        bytes.items (printout_of done).unplaced (string_bytes more)))) }
 {
-    match (&answer, failed) {
-        (Err(Fault::Into), Some(error)) if explains => {
-            let more = said_of_files(alloc, error).ok();
-            Ending { answer, more }
-        }
-        _ => run_ending(alloc, explains, options, input, answer),
+    let fault = fault_of_files(error);
+    let more = match fault {
+        Fault::Into if explains => said_of_files(alloc, error).ok(),
+        _ => None,
+    };
+    Ending {
+        answer: Err(fault),
+        more,
     }
 }
 
@@ -131,13 +116,13 @@ fn said_of_files(alloc: Global, error: &Error) -> Result<String, AllocError> {
 fn said_behind(
     alloc: Global,
     options: &RunOptions,
-    input: &Vec<u8>,
+    input: &[u8],
     unplaced: &[UnplacedEvent],
 ) -> Option<String>
     ensures { IfSome result (λ more.
-        IsSaidBehind input.now.items (unplaced_line unplaced.now) (string_bytes more)) }
+        IsSaidBehind input.now (unplaced_line unplaced.now) (string_bytes more)) }
 {
-    let calls = stranger_calls(alloc, options, input.as_slice()).ok()?;
+    let calls = stranger_calls(alloc, options, input).ok()?;
     let mut more = strangers_line(alloc, calls.as_slice()).ok()?;
     let events = unplaced_line(alloc, unplaced).ok()?;
     more.push_str(events.as_str()).ok()?;

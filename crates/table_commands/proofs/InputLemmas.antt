@@ -1,19 +1,14 @@
 -- An input of which one byte more than the most was asked for.
 use Rattle.std.proofs.Common.{◌≡◌, ℕ, Bool, true, false, ◌<◌, ◌≤◌, List, [], ◌++◌, length, min, take, Option, Some, None, ap, ◌∙◌, arith, length-take}
-use Rattle.std.specs.Prelude.{IfSome, IsErrAnd, Result, Ok, Err, option_map, if◌then◌else◌}
+use Rattle.std.specs.Prelude.{IfSome, Result, Ok, Err, option_map, if◌then◌else◌}
 use Rattle.std.specs.declared.io.ErrorKind.{ErrorKind}
 use Rattle.std.proofs.lemmas.Bool.Decides.{nat_tests}
 use Rattle.std.proofs.lemmas.List.{take_all}
 use Rattle.run_values.specs.declared.run_fault.RunFault.TheVariants as run
-use Rattle.table_core.specs.Faults.{RefusesTable}
-use Rattle.table_core.specs.declared.fault.RowFault.{RowFault}
-use Rattle.table_core.specs.declared.fault.TableFault.{TableFault}
-use Rattle.table_core.specs.declared.fault.TableFault.TheVariants as table
-use Rattle.table_commands.specs.Faults.{FaultMayAlwaysCome, GivesAnswer, RefusesCommand, in_table}
+use Rattle.table_commands.specs.Faults.{FaultMayAlwaysCome, RefusesCommand}
 use Rattle.table_commands.specs.Input.{failed_input, is_out_of_memory, sized}
 use Rattle.table_commands.specs.declared.fault.Fault.{Fault}
 use Rattle.table_commands.specs.declared.fault.Fault.TheVariants as fault
-use Rattle.table_commands.specs.declared.fault.TableName.{TableName}
 
 -- what was read of an input that is known: all of it up to the limit
 pub too_long : (known : Option (List ℕ)) (bytes : List ℕ) → IfSome (option_map (take 16777217) known) (λ text. bytes ≡ [] ++ text)
@@ -67,39 +62,3 @@ either_may_come false = tt
 -- what says that an input failed may come at any input
 pub failed_may_come : (why : ErrorKind) (ending : Fault) → ending ≡ failed_input why → FaultMayAlwaysCome ending
 failed_may_come why ending is = rw is (either_may_come (is_out_of_memory why))
-
--- the fault of a part of an input is that of the whole
-passed_on : {Y Z : Type 0} (why : Fault) (part : Result Z Fault) (whole : Result Y Fault)
-    → (part ≡ Err why → whole ≡ Err why) → RefusesCommand why part → RefusesCommand why whole
-passed_on fault.Arguments part whole so is = so is
-passed_on fault.Config part whole so is = so is
-passed_on fault.TooLong part whole so is = so is
-passed_on fault.Parts part whole so is = so is
-passed_on (fault.Tariff row) part whole so is = so is
-passed_on (fault.Table name row) part whole so is = so is
-passed_on (fault.Log why) part whole so is = so is
-passed_on (fault.LogRow row kind) part whole so is = so is
-passed_on fault.Into part whole so is = so is
-passed_on fault.Device part whole so is = tt
-passed_on (fault.Run run.OutOfMemory) part whole so is = tt
-passed_on (fault.Run run.Workers) part whole so is = so is
-passed_on (fault.Run run.GateClosed) part whole so is = so is
-passed_on (fault.Run run.Mismatch) part whole so is = so is
-passed_on (fault.Run run.Channel) part whole so is = so is
-passed_on (fault.Run run.Thread) part whole so is = so is
-
--- an answer that failed by it
-pub part_refused : {X Y Z : Type 0} (view : X → Y) (answer : Result X Fault) (why : Fault)
-    (part : Result Z Fault) (whole : Result Y Fault) → IsErrAnd answer (λ met. met ≡ why)
-    → (part ≡ Err why → whole ≡ Err why) → RefusesCommand why part → GivesAnswer view answer whole
-part_refused view (Ok x) why part whole met so is = absurd met
-part_refused view (Err named) why part whole met so is = rw met (passed_on why part whole so is)
-
--- the fault of a table is that of the whole input
-pub table_refused : {Y Z : Type 0} (name : TableName) (why : TableFault)
-    (part : Result Z RowFault) (whole : Result Y Fault)
-    → ((row : RowFault) → part ≡ Err row → whole ≡ Err (fault.Table name row))
-    → RefusesTable why part → RefusesCommand (in_table name why) whole
-table_refused name (table.Row row) part whole so is = so row is
-table_refused name table.Device part whole so is = tt
-table_refused name table.OutOfMemory part whole so is = tt

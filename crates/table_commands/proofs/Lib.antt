@@ -4,11 +4,9 @@ pub mod CommandLemmas
 pub mod InputLemmas
 pub mod LineLemmas
 pub mod MarkLemmas
-pub mod QuoteLemmas
 pub mod RateLemmas
 pub mod ReportLemmas
 pub mod RunLemmas
-pub mod SaidLemmas
 pub mod SectionLemmas
 pub mod ShownLemmas
 pub mod WalkLemmas

@@ -20,15 +20,22 @@ use Rattle.table_commands.specs.Reports.{table_reports_of}
 use Rattle.table_commands.specs.declared.fault.Fault.{Fault}
 use Rattle.table_commands.specs.declared.fault.TableName.TheVariants as table_name
 
--- what `price` makes of an input: its lines, or the first fault
-abbrev pub price_of_input : Rates → List ℕ → Result Printout Fault
-price_of_input plan input = and_then (sized input) (λ text.
-    and_then (meaning_in table_name.Reports (table_reports_of plan (rows_of text))) (λ reports. Ok (plain (price_lines plan 0 reports))))
+-- what `price` makes of a table of reports: its lines, or the first fault
+abbrev pub price_of_table : Rates → List ℕ → Result Printout Fault
+price_of_table plan text =
+    and_then (meaning_in table_name.Reports (table_reports_of plan (rows_of text))) (λ reports. Ok (plain (price_lines plan 0 reports)))
 
--- what `replay` makes of it
+-- and of an input
+abbrev pub price_of_input : Rates → List ℕ → Result Printout Fault
+price_of_input plan input = and_then (sized input) (price_of_table plan)
+
+-- what `replay` makes of a table of operations
+abbrev pub replay_of_table : ℕ → ℕ → List ℕ → Result Printout Fault
+replay_of_table opening limit text = and_then (meaning_in table_name.Ops (replayed opening limit (rows_of text))) (λ lines. Ok (plain lines))
+
+-- and of an input
 abbrev pub replay_of_input : ℕ → ℕ → List ℕ → Result Printout Fault
-replay_of_input opening limit input = and_then (sized input) (λ text.
-    and_then (meaning_in table_name.Ops (replayed opening limit (rows_of text))) (λ lines. Ok (plain lines)))
+replay_of_input opening limit input = and_then (sized input) (replay_of_table opening limit)
 
 -- the text of an audit, which passes where each account's history is legal
 abbrev pub printout_of_audit : Audited → Printout
@@ -55,7 +62,10 @@ pub record IsQuotePrinted (bands : List Band) (wish : QuoteWish) (answer : Resul
   pub is_text : IsQuoteText bands wish text
   pub printed : answer ≡ Ok (plain text)
 
--- what `quote` makes of an input, which is a tariff
+-- what `quote` makes of a tariff
+abbrev pub IsQuoteOfTariff : QuoteWish → List ℕ → Result Printout Fault → Type 0
+IsQuoteOfTariff wish text answer = MatchResult (meaning_of_section (tariff_in text)) (λ bands. IsQuotePrinted bands wish answer) (λ why. answer ≡ Err why)
+
+-- and of an input
 abbrev pub IsQuoteOfInput : QuoteWish → List ℕ → Result Printout Fault → Type 0
-IsQuoteOfInput wish input answer =
-    MatchResult (and_then (sized input) (λ text. meaning_of_section (tariff_in text))) (λ bands. IsQuotePrinted bands wish answer) (λ why. answer ≡ Err why)
+IsQuoteOfInput wish input answer = MatchResult (sized input) (λ text. IsQuoteOfTariff wish text answer) (λ why. answer ≡ Err why)

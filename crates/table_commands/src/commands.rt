@@ -3,7 +3,7 @@
 ghost use Rattle.std.specs.Prelude.{◌≡◌, false, None, IfOk, IfSome, option_map, string_bytes};
 ghost use Rattle.std.specs.Result.{result_map_both};
 ghost use Rattle.table_commands.specs.QuoteWishes.{quote_wish_of};
-ghost use Rattle.table_commands.specs.Answers.{IsAuditOfInput, IsAuditOfTable, IsQuoteOfInput, price_of_input, printout_of_audit, replay_of_input};
+ghost use Rattle.table_commands.specs.Answers.{IsAuditOfInput, IsAuditOfTable, IsQuoteOfInput, IsQuoteOfTariff, price_of_input, price_of_table, printout_of_audit, replay_of_input, replay_of_table};
 ghost use Rattle.table_commands.specs.Explanations.{IsSaidOfAnswer};
 ghost use Rattle.table_commands.specs.Faults.{GivesAnswer, GivesOne};
 ghost use Rattle.table_commands.specs.Printouts.{plain};
@@ -38,9 +38,13 @@ pub fn price_input<I: Read + Drop>(
         (option_map string_bytes result.more) }
     ensures nothing { IfOk result.answer (λ _. result.more ≡ None) }
 {
-    let mut kept = None;
-    let answer = price_reports(alloc, plan, input, &mut kept);
-    Ending::over(alloc, explains, false, &kept, answer)
+    match read_input(alloc, input) {
+        Ok(bytes) => {
+            let answer = price_reports(alloc, plan, bytes.as_slice());
+            Ending::over(alloc, explains, false, bytes.as_slice(), answer)
+        }
+        Err(why) => Ending::unread(alloc, explains, why),
+    }
 }
 
 /// The lines of `replay` for the operations in the input, or their first fault, and what is said of
@@ -58,9 +62,13 @@ pub fn replay_input<I: Read + Drop>(
         (option_map string_bytes result.more) }
     ensures nothing { IfOk result.answer (λ _. result.more ≡ None) }
 {
-    let mut kept = None;
-    let answer = replay_operations(alloc, account, input, &mut kept);
-    Ending::over(alloc, explains, false, &kept, answer)
+    match read_input(alloc, input) {
+        Ok(bytes) => {
+            let answer = replay_operations(alloc, account, bytes.as_slice());
+            Ending::over(alloc, explains, false, bytes.as_slice(), answer)
+        }
+        Err(why) => Ending::unread(alloc, explains, why),
+    }
 }
 
 /// The audit of the books in the input, or their first fault, and what is said of it where that is
@@ -78,9 +86,16 @@ pub fn audit_input<I: Read + Drop>(
         (option_map string_bytes result.more) }
     ensures nothing { IfOk result.answer (λ _. result.more ≡ None) }
 {
-    let mut kept = None;
-    let answer = audit_book(alloc, ask, input, &mut kept);
-    Ending::over(alloc, explains, false, &kept, answer)
+    if let BookSize::Long = ask.size {
+        return Ending::plain(audit_table(alloc, ask, input));
+    }
+    match read_input(alloc, input) {
+        Ok(bytes) => {
+            let answer = audit_table(alloc, ask, bytes.as_slice());
+            Ending::over(alloc, explains, false, bytes.as_slice(), answer)
+        }
+        Err(why) => Ending::unread(alloc, explains, why),
+    }
 }
 
 /// The lines of `quote` for the tariff in the input, or its first fault, and what is said of it
@@ -98,81 +113,34 @@ pub fn quote_input<I: Read + Drop>(
         (option_map string_bytes result.more) }
     ensures nothing { IfOk result.answer (λ _. result.more ≡ None) }
 {
-    let mut kept = None;
-    let answer = quote_tariff(alloc, ask, input, &mut kept);
-    Ending::over(alloc, explains, false, &kept, answer)
+    match read_input(alloc, input) {
+        Ok(bytes) => {
+            let answer = quote_tariff(alloc, ask, bytes.as_slice());
+            Ending::over(alloc, explains, false, bytes.as_slice(), answer)
+        }
+        Err(why) => Ending::unread(alloc, explains, why),
+    }
 }
 
-/// The lines of `price`. The input is kept where it has a fault.
-fn price_reports<I: Read + Drop>(
-    alloc: Global,
-    plan: &Plan,
-    input: I,
-    kept: &mut Option<Vec<u8>>,
-) -> Result<String, Fault>
-    requires { kept.old ≡ None }
-    ensures answer { IfSome (I.remaining input) (λ text.
-        GivesAnswer (λ lines. plain (string_bytes lines)) result
-        (price_of_input (rates_of plan.now) text)) }
-    ensures kept { IfSome (I.remaining input) (λ text.
-        IfSome kept.new (λ bytes. bytes.items ≡ text)) }
+/// The lines of `price` for the reports of a table.
+fn price_reports(alloc: Global, plan: &Plan, table: &[u8]) -> Result<String, Fault>
+    ensures { GivesAnswer (λ lines. plain (string_bytes lines)) result
+        (price_of_table (rates_of plan.now) table.now) }
 {
-    let bytes = read_input(alloc, input)?;
-    match read_reports(alloc, plan, bytes.as_slice()) {
+    match read_reports(alloc, plan, table) {
         Ok(reports) => Ok(print_reports(alloc, plan, &reports)?),
-        Err(fault) => {
-            *kept = Some(bytes);
-            Err(Fault::in_table(TableName::Reports, fault))
-        }
+        Err(fault) => Err(Fault::in_table(TableName::Reports, fault)),
     }
 }
 
-/// The lines of `replay`. The input is kept where it has a fault.
-fn replay_operations<I: Read + Drop>(
-    alloc: Global,
-    account: Opening,
-    input: I,
-    kept: &mut Option<Vec<u8>>,
-) -> Result<String, Fault>
-    requires { kept.old ≡ None }
-    ensures kept { IfSome (I.remaining input) (λ text.
-        IfSome kept.new (λ bytes. bytes.items ≡ text)) }
-    ensures answer { IfSome (I.remaining input) (λ text.
-        GivesAnswer (λ lines. plain (string_bytes lines)) result
-        (replay_of_input account.opening account.limit text)) }
+/// The lines of `replay` for the operations of a table.
+fn replay_operations(alloc: Global, account: Opening, table: &[u8]) -> Result<String, Fault>
+    ensures { GivesAnswer (λ lines. plain (string_bytes lines)) result
+        (replay_of_table account.opening account.limit table.now) }
 {
-    let bytes = read_input(alloc, input)?;
-    match replay(alloc, account.opening, account.limit, bytes.as_slice()) {
+    match replay(alloc, account.opening, account.limit, table) {
         Ok(text) => Ok(text),
-        Err(fault) => {
-            *kept = Some(bytes);
-            Err(Fault::in_table(TableName::Ops, fault))
-        }
-    }
-}
-
-/// The audit of the books in the input, which is kept where it may not be long.
-fn audit_book<I: Read + Drop>(
-    alloc: Global,
-    ask: AuditAsk,
-    input: I,
-    kept: &mut Option<Vec<u8>>,
-) -> Result<Audit, Fault>
-    requires { kept.old ≡ None }
-    ensures kept { IfSome (I.remaining input) (λ text.
-        IfSome kept.new (λ bytes. bytes.items ≡ text)) }
-    ensures answer { IfSome (I.remaining input) (λ text. GivesOne (IsAuditOfInput ask text)
-        (result_map_both (λ audit. printout_of_audit (audited_by audit)) (λ fault. fault)
-        result)) }
-{
-    match ask.size {
-        BookSize::Short => {
-            let bytes = read_input(alloc, input)?;
-            let audit = audit_table(alloc, ask, bytes.as_slice());
-            *kept = Some(bytes);
-            audit
-        }
-        BookSize::Long => audit_table(alloc, ask, input),
+        Err(fault) => Err(Fault::in_table(TableName::Ops, fault)),
     }
 }
 
@@ -188,27 +156,13 @@ fn audit_table<I: Read + Drop>(alloc: Global, ask: AuditAsk, table: I) -> Result
     }
 }
 
-/// The lines of `quote`. The input is kept where it has a fault.
-fn quote_tariff<I: Read + Drop>(
-    alloc: Global,
-    ask: &QuoteAsk,
-    input: I,
-    kept: &mut Option<Vec<u8>>,
-) -> Result<String, Fault>
-    requires { kept.old ≡ None }
-    ensures kept { IfSome (I.remaining input) (λ text.
-        IfSome kept.new (λ bytes. bytes.items ≡ text)) }
-    ensures answer { IfSome (I.remaining input) (λ text. GivesOne
-        (IsQuoteOfInput (quote_wish_of ask.now) text)
-        (result_map_both (λ lines. plain (string_bytes lines)) (λ fault. fault) result)) }
+/// The lines of `quote` for a tariff.
+fn quote_tariff(alloc: Global, ask: &QuoteAsk, tariff: &[u8]) -> Result<String, Fault>
+    ensures { GivesOne (IsQuoteOfTariff (quote_wish_of ask.now) tariff.now)
+        (result_map_both (λ lines. plain (string_bytes lines)) (λ fault. fault) result) }
 {
-    let bytes = read_input(alloc, input)?;
-    let tariff = match read_tariff(alloc, bytes.as_slice()) {
-        Ok(tariff) => tariff,
-        Err(fault) => {
-            *kept = Some(bytes);
-            return Err(Fault::of_run_input(fault));
-        }
-    };
-    Ok(print_quote(alloc, &tariff, ask)?)
+    match read_tariff(alloc, tariff) {
+        Ok(tariff) => Ok(print_quote(alloc, &tariff, ask)?),
+        Err(fault) => Err(Fault::of_run_input(fault)),
+    }
 }

@@ -1,8 +1,9 @@
 //! An answer, or a fault and what is said of it.
 
-ghost use Rattle.std.specs.Prelude.{◌≡◌, false, Err, None, IfErr, IfNone, IfOk, IfSome, string_bytes};
+ghost use Rattle.std.specs.Prelude.{◌≡◌, false, Err, None, IfErr, IfOk, IfSome, string_bytes};
 ghost use Rattle.table_commands.specs.Explanations.{IsOfWords, IsSaidOfFault, slip_of};
 ghost use Rattle.table_commands.specs.Faults.{of_words};
+ghost use Rattle.table_commands.specs.declared.fault.Fault.TheVariants as fault;
 
 use crate::explanations::{Slip, explain, explain_dividers};
 use crate::fault::{Fault, TableName};
@@ -29,29 +30,43 @@ impl<A: Drop> Ending<A> {
         Ending { answer, more: None }
     }
 
-    /// An answer, or a fault of which is said what the input shows, if it was kept, and how long it
-    /// may be, where that is asked for. Where memory runs out for that, nothing is said.
+    /// An answer, or a fault of which is said what the input shows, where that is asked for. Where
+    /// memory runs out for that, nothing is said.
     pub fn over(
         alloc: Global,
         explains: bool,
         in_sections: bool,
-        input: &Option<Vec<u8>>,
+        input: &[u8],
         answer: Result<A, Fault>,
     ) -> Ending<A>
         ensures answer { result.answer ≡ answer }
         ensures only { explains ≡ false → result.more ≡ None }
         ensures plain { IfOk answer (λ _. result.more ≡ None) }
-        ensures none { IfNone input.now (IfErr answer (λ why. IfSome result.more
-            (λ _. slip_of in_sections why ≡ None))) }
-        ensures said { IfSome input.now (λ bytes. IfErr answer (λ why. IfSome result.more
-            (λ more. IsSaidOfFault in_sections bytes.items why (string_bytes more)))) }
+        ensures said { IfErr answer (λ why. IfSome result.more
+            (λ more. IsSaidOfFault in_sections input.now why (string_bytes more))) }
     {
-        let more = match (&answer, input) {
-            (Err(fault), Some(bytes)) if explains => said_of(alloc, in_sections, bytes, *fault),
-            (Err(Fault::TooLong), None) if explains => said_of_length(alloc).ok(),
+        let more = match &answer {
+            Err(fault) if explains => said_of(alloc, in_sections, input, *fault),
             _ => None,
         };
         Ending { answer, more }
+    }
+
+    /// The fault of an input that wasn't read. Of one that is too long is said how long it may be,
+    /// where that is asked for.
+    pub fn unread(alloc: Global, explains: bool, why: Fault) -> Ending<A>
+        ensures answer { result.answer ≡ Err why }
+        ensures only { explains ≡ false → result.more ≡ None }
+        ensures length { IfSome result.more (λ _. why ≡ fault.TooLong) }
+    {
+        let more = match why {
+            Fault::TooLong if explains => said_of_length(alloc).ok(),
+            _ => None,
+        };
+        Ending {
+            answer: Err(why),
+            more,
+        }
     }
 
     /// The fault of words, and what is said of them where that is asked for: what `clap` says, or
@@ -108,13 +123,13 @@ fn said_of_length(alloc: Global) -> Result<String, AllocError> {
 }
 
 /// What is said of a fault over an input; nothing where memory runs out.
-fn said_of(alloc: Global, in_sections: bool, input: &Vec<u8>, fault: Fault) -> Option<String>
+fn said_of(alloc: Global, in_sections: bool, input: &[u8], fault: Fault) -> Option<String>
     ensures { IfSome result (λ more.
-        IsSaidOfFault in_sections input.now.items fault (string_bytes more)) }
+        IsSaidOfFault in_sections input.now fault (string_bytes more)) }
 {
     match slip_of(in_sections, fault) {
-        Some(slip) => explain(alloc, input.as_slice(), slip).ok(),
-        None => dividers_of(alloc, input.as_slice(), fault),
+        Some(slip) => explain(alloc, input, slip).ok(),
+        None => dividers_of(alloc, input, fault),
     }
 }
 
