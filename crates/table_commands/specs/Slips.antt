@@ -38,17 +38,17 @@ pub record BeginsIn (before table : List ℕ) (row : ℕ) (line : List ℕ) : Ty
 abbrev pub IsLineOf : List ℕ → List ℕ → ℕ → List ℕ → Type 0
 IsLineOf before table row line = BeginsIn before table row line ⊎ (HasFewer table row × (line ≡ []))
 
--- the same of a row of a section of the input
-pub record ShowsRow (input : List ℕ) (section : Section) (row : ℕ) (line : List ℕ) : Type 0 where
+-- an explanation of a row of a table: its line, and what is wrong there
+pub record ExplainsRow (before table : List ℕ) (row : ℕ) (text : List ℕ) : Type 0 where
+  pub line : List ℕ
+  pub is_line : IsLineOf before table row line
+  pub more : List ℕ
+  pub text_is : text ≡ line ++ more
+
+-- an explanation of a fault in a table of an input
+pub record Explains (input : List ℕ) (slip : Slip) (text : List ℕ) : Type 0 where
   -- the table, and where it begins
   pub start : ℕ
   pub table : List ℕ
-  pub is_section : IsSection section input start table
-  pub is_line : IsLineOf (take start input) table row line
-
--- an explanation: the line of the row, and what is wrong there
-pub record Explains (input : List ℕ) (slip : Slip) (text : List ℕ) : Type 0 where
-  pub line : List ℕ
-  pub shows : ShowsRow input (section_of slip) (slip_row slip) line
-  pub more : List ℕ
-  pub text_is : text ≡ line ++ more
+  pub is_section : IsSection (section_of slip) input start table
+  pub explains : ExplainsRow (take start input) table (slip_row slip) text

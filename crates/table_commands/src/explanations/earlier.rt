@@ -1,12 +1,12 @@
 //! Rows that don't go with the rows above them.
 
 use crate::explanations::Slip;
-use crate::explanations::found_rows::{Sought, find_above, rows_at, shown_at};
+use crate::explanations::found_rows::{Sought, find_above, shown_at, take_rows};
 use crate::explanations::reasons::{Faulty, push_fields};
 use crate::explanations::row_line::Shown;
 use csv::ByteRecord;
 use std::alloc::{AllocError, Global};
-use table_core::{field, has_word};
+use table_core::{Rows, field, has_word};
 
 /// Adds why a row may not come behind the one above it.
 pub(crate) fn push_order(
@@ -16,12 +16,13 @@ pub(crate) fn push_order(
     row: &ByteRecord,
 ) -> Result<(), AllocError> {
     let number = table.row.saturating_sub(1);
-    match rows_at(alloc, table.text, number)? {
-        Some(above) => match table.slip {
-            Slip::Script(_) => push_moments(text, row, above.row(), number),
-            _ => push_times(text, row, above.row(), number),
-        },
-        None => Ok(()),
+    let mut rows = Rows::new(alloc, table.text);
+    if !take_rows(&mut rows, number)? {
+        return Ok(());
+    }
+    match table.slip {
+        Slip::Script(_) => push_moments(text, row, rows.row(), number),
+        _ => push_times(text, row, rows.row(), number),
     }
 }
 

@@ -1,7 +1,7 @@
 //! What is said of a fault in a table of an input.
 
-ghost use Rattle.std.specs.Prelude.{IfOk, string_bytes};
-ghost use Rattle.table_commands.specs.Slips.{Explains, IsLineOf};
+ghost use Rattle.std.specs.Prelude.{◌≡◌, [], IfOk, OnOk, string_bytes};
+ghost use Rattle.table_commands.specs.Slips.{Explains, ExplainsRow, IsLineOf, slip_row};
 
 use crate::explanations::Slip;
 use crate::explanations::open_quote::open_quote;
@@ -21,22 +21,38 @@ pub(crate) fn explain(alloc: Global, input: &[u8], slip: Slip) -> Result<String,
         return Err(AllocError);
     };
     let (before, table) = (&input[..found.start], found.text.as_slice());
-    let mut text = line_of(alloc, before, table, slip.row())?;
-    let more = more_of(alloc, before, table, slip)?;
-    text.push_str(more.as_str())?;
+    let mut text = String::new(alloc);
+    push_explanation(&mut text, alloc, before, table, slip)?;
     Ok(text)
 }
 
-/// The line in which a row of a table begins that has this text in front of it; empty where the
-/// table has fewer rows.
-fn line_of(alloc: Global, before: &[u8], table: &[u8], row: u32) -> Result<String, AllocError>
-    ensures { IfOk result (λ line. IsLineOf before.now table.now row (string_bytes line)) }
+/// Adds the lines that explain a fault in a table that has this text in front of it.
+fn push_explanation(
+    text: &mut String,
+    alloc: Global,
+    before: &[u8],
+    table: &[u8],
+    slip: Slip,
+) -> Result<(), AllocError>
+    requires { string_bytes text.old ≡ [] }
+    ensures { OnOk result
+        (ExplainsRow before.now table.now (slip_row slip) (string_bytes text.new)) }
 {
-    let mut line = String::new(alloc);
-    if let Some(at) = row_start(table, row) {
-        push_row_line(&mut line, before, table, at)?;
+    push_line(text, before, table, slip.row())?;
+    let more = more_of(alloc, before, table, slip)?;
+    text.push_str(more.as_str())
+}
+
+/// Adds the line in which a row of a table begins that has this text in front of it; nothing where
+/// the table has fewer rows.
+fn push_line(text: &mut String, before: &[u8], table: &[u8], row: u32) -> Result<(), AllocError>
+    requires { string_bytes text.old ≡ [] }
+    ensures { OnOk result (IsLineOf before.now table.now row (string_bytes text.new)) }
+{
+    match row_start(table, row) {
+        Some(at) => push_row_line(text, before, table, at),
+        None => Ok(()),
     }
-    Ok(line)
 }
 
 /// What is wrong with a row of a table, and where a quote is open in it.

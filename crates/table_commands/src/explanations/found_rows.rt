@@ -6,22 +6,16 @@ use csv::ByteRecord;
 use std::alloc::{AllocError, Global};
 use table_core::{Rows, decimal, field};
 
-/// A reader of the rows of a table that has taken the row of this number; none where there are
-/// fewer.
-pub(crate) fn rows_at(
-    alloc: Global,
-    text: &[u8],
-    row: u32,
-) -> Result<Option<Rows<&[u8]>>, AllocError> {
-    let mut rows = Rows::new(alloc, text);
+/// Takes the rows of a table up to that of this number. Whether there are so many.
+pub(crate) fn take_rows(rows: &mut Rows<&[u8]>, row: u32) -> Result<bool, AllocError> {
     for _row in 0..row {
         match rows.next_row() {
             Ok(true) => {}
-            Ok(false) => return Ok(None),
+            Ok(false) => return Ok(false),
             Err(_) => return Err(AllocError),
         }
     }
-    Ok(Some(rows))
+    Ok(true)
 }
 
 /// The field of a row at a place, as it is shown.

@@ -55,7 +55,8 @@ pub(crate) fn push_no_midnight(
     let prefix = Prefix(field(row, 0));
     let mut latest = String::new(alloc);
     write!(text, "{prefix} counts from ")?;
-    push_starts(text, &mut latest, Rows::new(alloc, table.text), prefix)?;
+    let mut rows = Rows::new(alloc, table.text);
+    push_starts(text, &mut latest, &mut rows, prefix)?;
     push_missing(text, latest.as_str(), row)
 }
 
@@ -79,7 +80,7 @@ fn push_missing(text: &mut String, latest: &str, row: &ByteRecord) -> Result<(),
 fn push_starts(
     text: &mut String,
     latest: &mut String,
-    mut rows: Rows<&[u8]>,
+    rows: &mut Rows<&[u8]>,
     prefix: Prefix<'_>,
 ) -> Result<(), AllocError> {
     for _turn in 0..u64::MAX {

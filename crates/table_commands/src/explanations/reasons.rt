@@ -4,14 +4,14 @@ use crate::explanations::Slip;
 use crate::explanations::earlier::{push_order, push_repeated, push_unknown};
 use crate::explanations::empties::push_not_empty;
 use crate::explanations::forms::{TIME, headers_of, most_rows_of, parts_of};
-use crate::explanations::found_rows::{rows_at, shown_at};
+use crate::explanations::found_rows::{shown_at, take_rows};
 use crate::explanations::midnight::{push_no_midnight, push_repeated_band};
 use crate::explanations::unknown_words::push_unknown_word;
 use crate::explanations::wants::{Column, Wants, first_refused, push_refusal};
 use csv::ByteRecord;
 use price_core::DAY;
 use std::alloc::{AllocError, Global};
-use table_core::{RowFault, RowKind, field};
+use table_core::{RowFault, RowKind, Rows, field};
 use tariff_core::{TariffFault, TariffKind};
 
 /// A table that has a fault.
@@ -31,12 +31,25 @@ pub(crate) fn push_reason(
     alloc: Global,
     table: Faulty<'_>,
 ) -> Result<(), AllocError> {
-    let Some(header) = rows_at(alloc, table.text, 1)? else {
-        return push_header(text, table.slip, None);
-    };
-    match rows_at(alloc, table.text, table.row)? {
-        Some(found) => push_any_reason(text, alloc, table, header.row(), found.row()),
-        None => Ok(()),
+    let mut header = Rows::new(alloc, table.text);
+    let mut rows = Rows::new(alloc, table.text);
+    push_reason_among(text, alloc, table, &mut header, &mut rows)
+}
+
+/// The same, by two readers of the table: one for its header, one for the row.
+fn push_reason_among(
+    text: &mut String,
+    alloc: Global,
+    table: Faulty<'_>,
+    header: &mut Rows<&[u8]>,
+    rows: &mut Rows<&[u8]>,
+) -> Result<(), AllocError> {
+    if !take_rows(header, 1)? {
+        push_header(text, table.slip, None)
+    } else if take_rows(rows, table.row)? {
+        push_any_reason(text, alloc, table, header.row(), rows.row())
+    } else {
+        Ok(())
     }
 }
 

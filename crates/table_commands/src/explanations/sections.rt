@@ -1,14 +1,14 @@
 //! The sections of an input, and where they begin.
 
-ghost use Rattle.std.specs.Prelude.{◌≡◌, IfOk, Ok};
+ghost use Rattle.std.specs.Prelude.{◌≡◌, ◌-◌, ℕ, List, IfOk, Ok, length};
 ghost use Rattle.run_texts.specs.FirstSections.{first_section};
-ghost use Rattle.table_commands.specs.Sections.{IsSection};
+ghost use Rattle.table_commands.specs.Sections.{IsFirstSection, IsSection};
 
 use run_texts::{InputFault, read_section};
-use std::alloc::Global;
+use std::alloc::{AllocError, Global};
 
 /// Which section of an input a table is.
-#[derive(Clone, Copy, PartialEq, Eq)]
+#[derive(Clone, Copy)]
 pub(crate) enum Section {
     /// The whole input.
     Whole,
@@ -37,36 +37,43 @@ pub(crate) fn find_section(
 ) -> Result<SectionText, InputFault>
     ensures { IfOk result (λ found. IsSection section input.now found.start found.text.items) }
 {
-    if section == Section::Whole {
-        let text = input.to_vec(alloc)?;
-        return Ok(SectionText { start: 0, text });
+    match section {
+        Section::Whole => Ok(whole(alloc, input, input)?),
+        Section::First => front(alloc, input, input),
+        Section::Second => front(alloc, input, behind(alloc, input)?),
+        Section::Third => Ok(whole(alloc, input, behind(alloc, behind(alloc, input)?)?)?),
     }
-    let (first, behind) = split(alloc, input)?;
-    if section == Section::First {
-        return Ok(SectionText {
-            start: 0,
-            text: first,
-        });
-    }
-    let (second, rest) = split(alloc, behind)?;
-    if section == Section::Second {
-        let start = input.len().saturating_sub(behind.len());
-        return Ok(SectionText {
-            start,
-            text: second,
-        });
-    }
-    let start = input.len().saturating_sub(rest.len());
-    let text = rest.to_vec(alloc)?;
-    Ok(SectionText { start, text })
 }
 
-/// What is in front of the first line `%%` of a text, and what is behind it.
-fn split(alloc: Global, text: &[u8]) -> Result<(Vec<u8>, &[u8]), InputFault>
-    ensures { IfOk result (λ both. first_section text.now
-        ≡ Ok (record { section = both.0.items; rest = both.1.now })) }
+/// All of what is left of an input.
+fn whole(alloc: Global, input: &[u8], rest: &[u8]) -> Result<SectionText, AllocError>
+    ensures start { IfOk result (λ found. found.start ≡ length input.now - length rest.now) }
+    ensures text { IfOk result (λ found. found.text.items ≡ rest.now) }
+{
+    Ok(SectionText {
+        start: input.len().saturating_sub(rest.len()),
+        text: rest.to_vec(alloc)?,
+    })
+}
+
+/// What is in front of the first line `%%` of what is left of an input.
+fn front(alloc: Global, input: &[u8], rest: &[u8]) -> Result<SectionText, InputFault>
+    ensures start { IfOk result (λ found. found.start ≡ length input.now - length rest.now) }
+    ensures text { IfOk result (λ found. IsFirstSection rest.now found.text.items) }
+{
+    let mut left = rest;
+    Ok(SectionText {
+        start: input.len().saturating_sub(rest.len()),
+        text: read_section(alloc, &mut left)?,
+    })
+}
+
+/// What is behind the first line `%%` of a text.
+fn behind(alloc: Global, text: &[u8]) -> Result<&[u8], InputFault>
+    ensures { IfOk result (λ rest. (before : List ℕ)
+        × (first_section text.now ≡ Ok (record { section = before; rest = rest.now }))) }
 {
     let mut rest = text;
-    let section = read_section(alloc, &mut rest)?;
-    Ok((section, rest))
+    let _ = read_section(alloc, &mut rest)?;
+    Ok(rest)
 }
