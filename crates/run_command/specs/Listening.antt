@@ -6,7 +6,7 @@ use Rattle.run_values.specs.declared.post.Answer.{Answer}
 use Rattle.script_player.specs.Runs.{Hears}
 
 -- a listener hears answers as its player does, keeps them where it keeps any, and counts their refusals
-pub record Listens (before : Listener) (answers : List Answer) (after : Listener) : Type 0 where
+pub record Listens {W : Type 0} (before : Listener W) (answers : List Answer) (after : Listener W) : Type 0 where
   pub plays : before.player.ended ≡ false → Hears before.player answers after.player
   pub keeps : after.keeps ≡ before.keeps
   pub kept : before.keeps ≡ true → after.heard.items ≡ before.heard.items ++ answers

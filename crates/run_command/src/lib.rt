@@ -11,7 +11,6 @@ mod running;
 mod setting_up;
 mod strangers;
 mod tables;
-mod watched;
 mod watching;
 
 pub use error::RunError;

@@ -12,7 +12,6 @@ ghost use Rattle.runs_core.specs.Teams.{are_workers};
 
 use crate::RunError;
 use crate::listening::Listener;
-use crate::watched::Watched;
 use crate::watching::{Watch, Watcher, Watching};
 use price_core::MAX_MOMENT;
 use run_outputs::Played;
@@ -43,11 +42,9 @@ pub(crate) fn play<R: Wait + Threads + Sync, W: Watch>(
 {
     let watcher = Watcher::new(watching, script.as_slice());
     let player = ScriptPlayer::new(alloc, script, options.ssf, options.delay)?;
-    let listener = Listener::new(alloc, player, options.output);
-    let mut watched = Watched { listener, watcher };
-    let served = serve(rt, alloc, setup, &mut watched, options.workers, &OpenGate);
-    let Watched { listener, watcher } = watched;
-    watcher.clear();
+    let mut listener = Listener::new(alloc, player, options.output, watcher);
+    let served = serve(rt, alloc, setup, &mut listener, options.workers, &OpenGate);
+    listener.watcher.clear();
     let books = served?;
     is_played(&listener.player);
     Ok(listener.played(books))

@@ -1,5 +1,5 @@
 use Rattle.std.proofs.Common.{◌∙◌, ◌++◌, List, [], ap, refl}
-use Rattle.run_command.proofs.ListenLemmas.{counts_heard, keeps_heard, listener_hears, player_hears}
+use Rattle.run_command.proofs.ListenLemmas.{counts_heard, keeps_heard, player_hears}
 use Rattle.run_command.proofs.PlayLemmas.{given_by, played_as, rounds_of}
 use Rattle.run_values.specs.Options.{ask_of}
 use Rattle.run_values.specs.declared.post.Answer.{Answer}
@@ -11,12 +11,12 @@ pub returns-clause-played : goal.returns-clause-played
 returns-clause-played g c =
     let listener = c.new-listener.result in
     let before = listener.player in
-    let end = c.serve-served.new.driver.listener in
+    let end = c.serve-served.new.driver in
     let after = end.player in
     let made = c.new-listener.ensures.player in
     let kept = c.in_ok-books.ensures.agenda in
     let ran = c.in_ok-books.ensures.run in
-    let rounds = listener_hears (λ watched. watched.listener) [] _ ran.heard _ ran.rounds in
+    let rounds = ran.rounds in
     let is_fresh = made ∙ c.in_ok-player.ensures.fresh in
     let config = ap (λ p. p.0) kept ∙ ap (λ (play : Play). play.network.config) is_fresh in
     let delay = ap (λ p. p.1) kept ∙ ap (λ (play : Play). play.delay) is_fresh in
