@@ -2,6 +2,7 @@
 
 ghost use Rattle.std.specs.Prelude.{◌≡◌, ◌≤◌, ◌<◌, ◌↔◌, [], ℕ, true, false, length, map, None, IfErr, IfOk, IfSome, OnOk, All, slice_index_or};
 ghost use Rattle.std.specs.Map.{keys_of};
+ghost use Rattle.std.specs.Vec.{vec_capacity};
 ghost use Rattle.std.specs.Vec.Iter.{into_iter_items};
 ghost use Rattle.runs_core.specs.Closing.{AreAllThere, AreBooksOfSeats, AreNumberedFrom, AreSeatsOf, IsInBooks, ShowsAll, terms_shown};
 ghost use Rattle.runs_core.specs.Crews.{HasPlayed};
@@ -284,32 +285,36 @@ fn close_accounts<S: Shared>(
     for team in left {
         deal(&mut rows, team)?;
     }
-    close_each(alloc, accounts, rows)
+    let mut books = Vec::with_capacity(alloc, accounts.len())?;
+    close_each(&mut accounts.into_iter(), &mut rows.into_iter(), &mut books)?;
+    Ok(books)
 }
 
-/// Closes each account, with its row of seats.
+/// Closes each account, with its row of seats, and puts down its book.
 fn close_each<S: Shared>(
-    alloc: Global,
-    accounts: Vec<S>,
-    rows: Vec<Vec<S::Seat>>,
-) -> Result<Vec<Book>, RunFault>
-    requires rows { AreSeatsOf S.reads.key (map S.key accounts.items)
-        (map (λ row. row.items) rows.items) }
-    requires all { AreAllThere (map (λ account. (S.terms account).seats) accounts.items)
-        (map (λ row. map S.reads.number row.items) rows.items) }
-    ensures books { IfOk result (λ books. AreBooksOfSeats S.reads S.was S.stood
-        (map S.terms accounts.items) (map (λ row. row.items) rows.items) books.items) }
+    accounts: &mut IntoIter<S>,
+    rows: &mut IntoIter<Vec<S::Seat>>,
+    books: &mut Vec<Book>,
+) -> Result<(), RunFault>
+    requires rows { AreSeatsOf S.reads.key (map S.key (into_iter_items accounts.old))
+        (map (λ row. row.items) (into_iter_items rows.old)) }
+    requires all { AreAllThere
+        (map (λ account. (S.terms account).seats) (into_iter_items accounts.old))
+        (map (λ row. map S.reads.number row.items) (into_iter_items rows.old)) }
+    requires none { books.old.items ≡ [] }
+    requires room { length (into_iter_items accounts.old) ≤ vec_capacity books.old }
+    ensures books { OnOk result (AreBooksOfSeats S.reads S.was S.stood
+        (map S.terms (into_iter_items accounts.old))
+        (map (λ row. row.items) (into_iter_items rows.old)) books.new.items) }
     ensures fault { AsksNoGate result }
 {
-    let mut books = Vec::with_capacity(alloc, accounts.len())?;
-    let mut rows_left = rows.into_iter();
-    for account in accounts {
-        let Some(seats) = rows_left.next() else {
+    while let Some(account) = accounts.next() {
+        let Some(seats) = rows.next() else {
             unreachable!()
         };
         books.push_reserved(close(account, seats)?);
     }
-    Ok(books)
+    Ok(())
 }
 
 /// Closes an account with its seats.

@@ -145,13 +145,6 @@ impl<'s, S: Shared> Worker<'s, S> {
         Ok(answer)
     }
 
-    /// Its seats, in the order in which they were given.
-    pub fn seats(&self) -> &[S::Seat]
-        ensures { result.now ≡ seats_of self.now }
-    {
-        self.seats.as_slice()
-    }
-
     /// Hands back the seats in the order in which they were given. It takes no memory.
     pub fn finish(self) -> Vec<S::Seat>
         ensures { result.items ≡ seats_of self.entry }

@@ -4,7 +4,6 @@ use Rattle.std.specs.Vec.{vec_len}
 use Rattle.std.specs.Vec.Iter.{into_iter_items}
 use Rattle.std.proofs.lemmas.List.{length-map, length-replicate}
 use Rattle.std.proofs.lemmas.List.Elements.{All-head, All-map, All-tail}
-use Rattle.std.proofs.lemmas.Result.{IfOk-weaker}
 use Rattle.runs_core.proofs.Booking.{books_legal, books_owned, books_shown, in_books}
 use Rattle.runs_core.proofs.Columns.{AreEven, laid_out_many, laid, laid_even, map_twice}
 use Rattle.runs_core.proofs.Numbers.{all_there, rows_of, rows_rise, team_many, teams_even}
@@ -38,7 +37,7 @@ close_each-requires-clause-rows g c = λ _ _.
     let left = rw (none) at c.loop-team.invariant in
     let teams = map (λ team. team.items) c.args.left.items in
     let keys = All-map (λ team. map g.S.Shared.reads.key team ≡ map g.S.Shared.key c.args.accounts.items) (λ team. team.items) c.args.left.items c.requires.keys in
-    rw (left.0) (rows_of g.S.Shared.reads.key g.S.Shared.key c.args.accounts.items teams keys)
+    rw (c.into_iter.ensures.rest, c.into_iter-2.ensures.rest, left.0) (rows_of g.S.Shared.reads.key g.S.Shared.key c.args.accounts.items teams keys)
 
 pub close_each-requires-clause-all : goal.close_each-requires-clause-all
 close_each-requires-clause-all g c = λ _ _.
@@ -51,20 +50,19 @@ close_each-requires-clause-all g c = λ _ _.
     let rise = rows_rise read (length c.args.accounts.items) teams c.requires.numbers (teams_even read.key g.S.Shared.key c.args.accounts.items teams keys) in
     let many : length teams ≡ length c.args.left.items = length-map c.args.left.items (λ team. team.items) in
     let Each : ℕ → Type 0 = λ n. All (λ account. (g.S.Shared.terms account).seats ≡ n) c.args.accounts.items in
-    rw (map_twice (λ row. row.items) (map read.number) c.loop-team.rows.items)
+    rw (c.into_iter.ensures.rest, c.into_iter-2.ensures.rest, map_twice (λ row. row.items) (map read.number) c.loop-team.rows.items)
     (all_there (λ account. (g.S.Shared.terms account).seats) (length teams) c.args.accounts.items (map (map read.number) rows) (subst Each (sym many) c.requires.seats)
     (rw (left.0) rise) (length-map rows (map read.number) ∙ left.1))
 
 pub returns-clause-terms : goal.returns-clause-terms
 returns-clause-terms g c =
-    IfOk-weaker c.close_each.result _ _ (λ books are.
-    books_shown g.S.Shared.reads g.S.Shared.was g.S.Shared.stood g.S.Shared.terms (length c.args.left.items) c.args.accounts.items _ books.items are c.requires.seats)
-    c.close_each.ensures.books
+    books_shown g.S.Shared.reads g.S.Shared.was g.S.Shared.stood g.S.Shared.terms (length c.args.left.items) c.args.accounts.items _ c.close_each.new.books.items
+    (rw (c.into_iter.ensures.rest, c.into_iter-2.ensures.rest) at c.in_ok-close_each.ensures.books) c.requires.seats
 
 pub returns-clause-legal : goal.returns-clause-legal
 returns-clause-legal g c =
-    IfOk-weaker c.close_each.result _ _ (λ books are. books_legal g.S.Shared.reads g.S.Shared.was g.S.Shared.stood g.S.Shared.terms c.args.accounts.items _ books.items are)
-    c.close_each.ensures.books
+    books_legal g.S.Shared.reads g.S.Shared.was g.S.Shared.stood g.S.Shared.terms c.args.accounts.items _ c.close_each.new.books.items
+    (rw (c.into_iter.ensures.rest, c.into_iter-2.ensures.rest) at c.in_ok-close_each.ensures.books)
 
 pub returns-clause-owned : goal.returns-clause-owned
 returns-clause-owned g c =
@@ -76,9 +74,8 @@ returns-clause-owned g c =
     let keys = All-map (λ team. map read.key team ≡ map g.S.Shared.key c.args.accounts.items) (λ team. team.items) c.args.left.items c.requires.keys in
     let even : AreEven (length c.args.left.items) rows =
     rw (left.0, ← length-map c.args.left.items (λ team. team.items)) (laid_even (length c.args.accounts.items) teams (teams_even read.key g.S.Shared.key c.args.accounts.items teams keys)) in
-    IfOk-weaker c.close_each.result _ _ (λ books are.
-    books_owned read g.S.Shared.was g.S.Shared.stood g.S.Shared.terms (length c.args.left.items) c.args.accounts.items rows books.items are even)
-    c.close_each.ensures.books
+    books_owned read g.S.Shared.was g.S.Shared.stood g.S.Shared.terms (length c.args.left.items) c.args.accounts.items rows c.close_each.new.books.items
+    (rw (c.into_iter.ensures.rest, c.into_iter-2.ensures.rest) at c.in_ok-close_each.ensures.books) even
 
 pub returns-clause-shown : goal.returns-clause-shown
 returns-clause-shown g c =
@@ -88,7 +85,7 @@ returns-clause-shown g c =
     let teams = map (λ team. team.items) c.args.left.items in
     let rows = map (λ row. row.items) c.loop-team.rows.items in
     let keys = All-map (λ team. map read.key team ≡ map g.S.Shared.key c.args.accounts.items) (λ team. team.items) c.args.left.items c.requires.keys in
-    IfOk-weaker c.close_each.result _ _ (λ books are worker below.
-    in_books read g.S.Shared.was g.S.Shared.stood g.S.Shared.terms g.S.Shared.key c.args.accounts.items teams rows books.items worker left.0 keys c.requires.numbers are
-    (omega (arith, below, length-map c.args.left.items (λ team. team.items))))
-    c.close_each.ensures.books
+    λ worker below.
+    in_books read g.S.Shared.was g.S.Shared.stood g.S.Shared.terms g.S.Shared.key c.args.accounts.items teams rows c.close_each.new.books.items worker left.0 keys c.requires.numbers
+    (rw (c.into_iter.ensures.rest, c.into_iter-2.ensures.rest) at c.in_ok-close_each.ensures.books)
+    (omega (arith, below, length-map c.args.left.items (λ team. team.items)))
