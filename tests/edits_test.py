@@ -78,6 +78,12 @@ STALE = [
     "sample/adds_three: two edits have this name",
     "sample: edits/gate/ has two edits of after",
     "docs/edits/sample.md: no edit is named is_gone",
+    "docs/edits/sample.md: adds_four has no row",
+    "docs/edits/sample.md: adds_nothing has no row",
+    "docs/edits/sample.md: answers_another has no row",
+    "docs/edits/sample.md: answers_half has no row",
+    "docs/edits/sample.md: has_another_most has no row",
+    "docs/edits/sample.md: names_what_is_not_there has no row",
     "docs/edits/sample.md: adds_one changes `second_after`",
 ]
 LAST = """not refused: sample/answers_another
@@ -110,6 +116,7 @@ def stale(root):
         page = f"docs/edits/{name}.md"
         rows = edits.rows_of(f"{root}/{page}")
         said += [f"{page}: no edit is named {it}" for it in rows if it not in names]
+        said += [f"{page}: {it.name} has no row" for it in crate.edits if not it.fault and it.name not in rows]
         changed = {it: edits.changed(crate, it) for it in rows if it in names}
         said += [f"{page}: {it} changes {changed[it]}" for it in changed if rows[it].split(" | ")[1] != changed[it]]
     return said
