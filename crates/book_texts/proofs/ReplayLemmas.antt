@@ -10,16 +10,15 @@ use Rattle.account_core.specs.declared.teller.Teller.{Teller}
 use Rattle.account_core.specs.declared.entry.Reply.{Reply}
 use Rattle.account_core.specs.declared.fault.AccountFault.{AccountFault}
 use Rattle.account_core.specs.declared.fault.AccountFault.TheVariants as fault
+use Rattle.table_core.specs.Taking.{TakesNextRow}
+use Rattle.table_core.specs.declared.fault.RowKind.{RowKind}
+use Rattle.table_core.specs.declared.taking.TakeFault.{TakeFault}
+use Rattle.table_core.specs.declared.taking.TakeFault.TheVariants as out
 use Rattle.book_texts.specs.Asks.{SeatAsk}
 use Rattle.book_texts.specs.ReplayLines.{response_line}
-use Rattle.book_texts.specs.Replays.{history_after, line_of_ask, replay_lines}
+use Rattle.book_texts.specs.Replays.{IsReplayed, history_after, history_of, line_of_ask, replay_lines}
 
 -- ---- one more ask
-
--- the history after some asks, newest first
-unfoldable pub history_of : ℕ → Option ℕ → ℕ → List EntryData → List SeatAsk → List EntryData
-history_of opening until limit h [] = h
-history_of opening until limit h (ask ∷ asks) = history_of opening until limit (history_after opening until limit h ask) asks
 
 pub history_more : (opening : ℕ) (until : Option ℕ) (limit : ℕ) (h : List EntryData) (asks : List SeatAsk) (ask : SeatAsk)
     → history_of opening until limit h (asks ++ ask ∷ []) ≡ history_after opening until limit (history_of opening until limit h asks) ask
@@ -33,14 +32,6 @@ unfolding history_of replay_lines
 lines_more opening until limit h [] ask = append-nil (line_of_ask opening until limit h ask)
 lines_more opening until limit h (first ∷ asks) ask =
     rw (lines_more opening until limit (history_after opening until limit h first) asks ask) (sym (append_assoc (line_of_ask opening until limit h first) _ _))
-
--- what was replayed so far: these asks, whose lines were printed, and whose history the ledger has
-pub record IsReplayed (opening : ℕ) (until : Option ℕ) (limit : ℕ) (text : List ℕ) (ledger : Ledger) (asks : List SeatAsk) : Type 0 where
-  pub opened : ledger.opening ≡ opening
-  pub lasting : ledger.until ≡ until
-  pub limited : ledger.limit ≡ limit
-  pub lines : replay_lines opening until limit [] asks ≡ text
-  pub history : history_of opening until limit [] asks ≡ reverse ledger.history
 
 pub none_replayed : (opening : ℕ) (until : Option ℕ) (limit : ℕ)
     → IsReplayed opening until limit [] (record { opening = opening; until = until; limit = limit; history = [] }) []
@@ -101,3 +92,26 @@ one_replayed opening until limit text old new asks ask response was step = recor
   lines = lines_more opening until limit [] asks ask ∙ rw (was.lines, was.history, step.line, was.opened, was.lasting, was.limited) refl;
   history = history_more opening until limit [] asks ask ∙ rw (was.history, step.history, was.opened, was.lasting, was.limited) refl;
 }
+
+-- ---- a row is taken
+
+module _ (opening limit : ℕ) (before after : Teller) (text now : List ℕ) (ledger : Ledger) (asks : List SeatAsk) (ask : SeatAsk) (answer : Result Reply AccountFault)
+    (is : IsTellerOf ledger before) (was : IsReplayed opening None limit text ledger asks) where
+  pub answer_taken : {X : Type 0} (written : Result X TakeFault) (judged : Result (List SeatAsk) RowKind) → judged ≡ Ok (asks ++ ask ∷ [])
+      → OnOk written (now ≡ text ++ response_line answer) → OnOk written (answer ≢ Err fault.OutOfMemory) → IfErr written (λ why. why ≡ out.OutOfMemory)
+      → IfOk answer (λ reply. (l : Ledger) → IsTellerOf l before → reply ≡ answer_of l ask.asked)
+      → OnOk answer ((l : Ledger) → IsTellerOf l before → refusal_of l ask.asked ≡ None)
+      → IfErr answer (λ why. (l : Ledger) → IsTellerOf l before → IsRefusal l ask.asked why)
+      → IfOk answer (λ reply. (l : Ledger) → IsTellerOf l before → IsTellerOf (entered l (entry_by ask.seat ask.asked reply)) after)
+      → OnErr answer ((l : Ledger) → IsTellerOf l before → IsTellerOf l after)
+      → TakesNextRow (λ asks. (l : Ledger) × IsTellerOf l after × IsReplayed opening None limit now l asks) written judged
+  answer_taken (Ok done) judged judged_is line known why answered admitted refused enters kept = (
+    asks ++ ask ∷ [],
+    judged_is,
+    (
+      ledger_after ledger ask.seat ask.asked answer,
+      teller_after before after ledger is ask.seat ask.asked answer enters kept,
+      rw line (one_replayed opening None limit text ledger _ asks ask answer was (step before after ledger is ask.seat ask.asked answer answered admitted refused known)),
+    ),
+  )
+  answer_taken (Err other) judged judged_is line known why answered admitted refused enters kept = rw why tt

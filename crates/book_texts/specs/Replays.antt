@@ -1,5 +1,6 @@
 -- What `replay` makes of an ops table: the answers of a sequential account to its rows, in order.
-use Rattle.std.specs.Prelude.{ℕ, Option, Some, None, List, [], ◌∷◌, ◌++◌, Result, Ok}
+use Rattle.std.specs.Prelude.{◌≡◌, ℕ, Option, Some, None, List, [], ◌∷◌, ◌++◌, Result, Ok, reverse}
+use Rattle.account_core.specs.Ledger.{Ledger}
 use Rattle.account_core.specs.Answers.{answer}
 use Rattle.account_core.specs.Entries.{EntryData}
 use Rattle.account_core.specs.Places.{refusal}
@@ -41,3 +42,18 @@ replayed_lines opening until limit h asks = and_then asks (λ asked. Ok (replay_
 -- the lines of a table, to an account without a last moment
 abbrev pub replayed : ℕ → ℕ → List (List (List ℕ)) → Result (List ℕ) RowFault
 replayed opening limit rows = replayed_lines opening None limit [] (asks_of rows)
+
+-- ---- while a table is read
+
+-- the history after some asks, newest first
+unfoldable pub history_of : ℕ → Option ℕ → ℕ → List EntryData → List SeatAsk → List EntryData
+history_of opening until limit h [] = h
+history_of opening until limit h (ask ∷ asks) = history_of opening until limit (history_after opening until limit h ask) asks
+
+-- what was replayed so far: these asks, whose lines were printed, and whose history the ledger has
+pub record IsReplayed (opening : ℕ) (until : Option ℕ) (limit : ℕ) (text : List ℕ) (ledger : Ledger) (asks : List SeatAsk) : Type 0 where
+  pub opened : ledger.opening ≡ opening
+  pub lasting : ledger.until ≡ until
+  pub limited : ledger.limit ≡ limit
+  pub lines : replay_lines opening until limit [] asks ≡ text
+  pub history : history_of opening until limit [] asks ≡ reverse ledger.history

@@ -9,7 +9,7 @@ ghost use Rattle.book_texts.specs.AskingOf.{asking_of};
 ghost use Rattle.table_core.specs.Faults.{GivesTable};
 ghost use Rattle.table_core.specs.Rows.{rows_of};
 ghost use Rattle.csv.specs.Records.{fields_of};
-ghost use Rattle.table_core.specs.declared.fault.TableFault.TheVariants as out;
+ghost use Rattle.table_core.specs.declared.taking.TakeFault.TheVariants as out;
 
 use crate::operation::{is_op_blank, read_op};
 use crate::response::write_response;
@@ -21,7 +21,7 @@ use csv::ByteRecord;
 use price_core::MAX_MONEY;
 use std::alloc::Global;
 use std::io::Read;
-use table_core::{RowKind, Table, TableFault};
+use table_core::{RowKind, TableFault, TakeFault, TakeRow, take_table};
 
 /// The most rows of a table of operations, its header not counted.
 const MAX_OPERATIONS: u32 = 10_000;
@@ -54,28 +54,55 @@ pub fn replay<I: Read + Drop>(
             "seat", "op", "call", "x1", "x2", "x3", "x4", "x5", "x6", "x7", "x8", "x9",
         ],
     ];
-    let mut table = Table::open(alloc, reader, headers, MAX_OPERATIONS)?;
-    let mut teller = Teller::new(alloc, opening, None, limit);
-    let mut text = String::new(alloc);
-    while table.next_row()? {
-        let ask = match read_ask(table.row(), Version::of_header(table.header())) {
-            Ok(ask) => ask,
-            Err(kind) => return Err(table.fault(kind)),
-        };
-        write_answer(&mut text, teller.apply(ask.seat, ask.op))?;
-    }
+    let mut replay = Replaying {
+        teller: Teller::new(alloc, opening, None, limit),
+        text: String::new(alloc),
+    };
+    take_table(alloc, reader, headers, MAX_OPERATIONS, &mut replay)?;
+    let Replaying { text, .. } = replay;
     Ok(text)
 }
 
+/// An account, and its answers so far.
+#[derive(Drop)]
+struct Replaying {
+    teller: Teller,
+    text: String,
+}
+
+impl TakeRow for Replaying {
+    ghost use Rattle.std.specs.Prelude.{ℕ, List, None, string_bytes};
+    ghost use Rattle.account_core.specs.Ledger.{Ledger};
+    ghost use Rattle.account_core.specs.Tellers.{IsTellerOf};
+    ghost use Rattle.book_texts.specs.Asks.{SeatAsk, seat_ask_in};
+    ghost use Rattle.book_texts.specs.Replays.{IsReplayed};
+    ghost use Rattle.book_texts.specs.Versions.{version_at};
+    ghost use Rattle.table_core.specs.Judging.{adds};
+
+    ghost Terms = { ℕ × ℕ };
+
+    ghost Made = { List SeatAsk };
+
+    ghost judge = { λ terms header. adds (λ asks. seat_ask_in (version_at header)) };
+
+    ghost Has = { λ terms replay rows asks. (ledger : Ledger) × IsTellerOf ledger replay.teller
+        × IsReplayed terms.0 None terms.1 (string_bytes replay.text) ledger asks };
+
+    fn take(&mut self, header: usize, row: &ByteRecord) -> Result<(), TakeFault> {
+        let ask = read_ask(row, Version::of_header(header))?;
+        write_answer(&mut self.text, self.teller.apply(ask.seat, ask.op))
+    }
+}
+
 /// Adds the line of an answer. Memory that runs out has no line: it ends the replay.
-fn write_answer(text: &mut String, answer: Result<Reply, AccountFault>) -> Result<(), TableFault>
+fn write_answer(text: &mut String, answer: Result<Reply, AccountFault>) -> Result<(), TakeFault>
     ensures line { OnOk result (string_bytes text.new ≡ string_bytes text.old
         ++ response_line answer) }
     ensures known { OnOk result (answer ≢ Err AccountFault.OutOfMemory) }
     ensures fault { IfErr result (λ fault. fault ≡ out.OutOfMemory) }
 {
     if let Err(AccountFault::OutOfMemory) = answer {
-        return Err(TableFault::OutOfMemory);
+        return Err(TakeFault::OutOfMemory);
     }
     write_response(text, answer)?;
     Ok(text.push('\n')?)

@@ -1,6 +1,7 @@
 -- A directory, as a subscriber of a setup is entered.
-use Rattle.std.proofs.Common.{◌≡◌, ◌≢◌, ℕ, Bool, true, false, List, [], ◌∷◌, Option, Some, None, Ok, Err, refl, sym, ap, ◌∙◌}
-use Rattle.std.specs.Prelude.{◌||◌, cond, if◌then◌else◌, is_some}
+use Rattle.std.proofs.Common.{◌≡◌, ◌≢◌, ℕ, Bool, true, false, List, [], ◌∷◌, Option, Some, None, Result, Ok, Err, refl, sym, ap, ◌∙◌}
+use Rattle.std.specs.Result.{result_map_both}
+use Rattle.std.specs.Prelude.{IfErr, OnOk, ◌||◌, cond, if◌then◌else◌, is_some}
 use Rattle.std.specs.BTreeMap.{insert_entry}
 use Rattle.std.specs.Cmp.Lexicographic.{slice_cmp}
 use Rattle.std.specs.Ordering.{match_ordering, nat_cmp}
@@ -13,7 +14,7 @@ use Rattle.table_core.specs.declared.fault.RowKind.TheVariants as kind
 use Rattle.run_values.specs.Setups.{Listing, account_of, has_account, subscriber_fault, with_subscriber}
 use Rattle.run_values.specs.declared.setup_fault.SetupFault.{SetupFault}
 use Rattle.run_values.specs.declared.setup_fault.SetupFault.TheVariants as fault
-use Rattle.run_texts.specs.ListedRows.{RefusesRow, list_fault_of}
+use Rattle.run_texts.specs.ListedRows.{ListsRow, RefusesRow, list_fault_of}
 use Rattle.run_texts.specs.Setups.{TableSetup, has_subscriber, name_subscriber}
 use Rattle.run_texts.specs.Views.{setup_in, with_digits}
 
@@ -59,17 +60,26 @@ module _ (next : TableSetup) where
   entrance false true fine = refl
   entrance false false fine = cc
 
-pub subscriber_refused : (listing : Listing) (number : Number) (account : ℕ) (why : SetupFault)
+subscriber_refused : (listing : Listing) (number : Number) (account : ℕ) (why : SetupFault)
     → (why ≢ fault.OutOfMemory → subscriber_fault (is_some (account_of number listing.subscribers)) (has_account account listing.accounts) ≡ Some why)
     → RefusesRow (list_fault_of why) (name_subscriber (setup_in listing) (digits_of_number number) account)
 subscriber_refused listing number account why is =
     refusal _ (has_subscriber (digits_of_number number) (with_digits listing.subscribers)) (has_account account listing.accounts) why
     (λ other. ap (λ named. subscriber_fault named (has_account account listing.accounts)) (sym (subscriber_named number listing.subscribers)) ∙ is other)
 
-pub subscriber_entered : (listing : Listing) (number : Number) (account : ℕ)
+subscriber_entered : (listing : Listing) (number : Number) (account : ℕ)
     → subscriber_fault (is_some (account_of number listing.subscribers)) (has_account account listing.accounts) ≡ None
     → name_subscriber (setup_in listing) (digits_of_number number) account ≡ Ok (setup_in (with_subscriber listing number account))
 subscriber_entered listing number account fine =
     entrance _ (has_subscriber (digits_of_number number) (with_digits listing.subscribers)) (has_account account listing.accounts)
     (ap (λ named. subscriber_fault named (has_account account listing.accounts)) (sym (subscriber_named number listing.subscribers)) ∙ fine)
     ∙ ap (λ (subscribers : List (List ℕ × ℕ)). Ok (record { accounts = listing.accounts; subscribers = subscribers })) (sym (with_digits-inserted listing.subscribers number account))
+
+-- a subscriber is listed by what the directory says of it
+pub subscriber_listed : (listing after : Listing) (number : Number) (account : ℕ) (outcome : Result (Unit {0}) SetupFault)
+    → OnOk outcome (subscriber_fault (is_some (account_of number listing.subscribers)) (has_account account listing.accounts) ≡ None)
+    → OnOk outcome (after ≡ with_subscriber listing number account)
+    → IfErr outcome (λ why. why ≢ fault.OutOfMemory → subscriber_fault (is_some (account_of number listing.subscribers)) (has_account account listing.accounts) ≡ Some why)
+    → ListsRow (result_map_both (λ done. done) list_fault_of outcome) (setup_in after) (name_subscriber (setup_in listing) (digits_of_number number) account)
+subscriber_listed listing after number account (Ok done) fine is why = rw is (subscriber_entered listing number account fine)
+subscriber_listed listing after number account (Err other) fine is why = subscriber_refused listing number account other why

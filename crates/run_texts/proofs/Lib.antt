@@ -5,3 +5,4 @@ pub mod PlainLines
 pub mod RowLemmas
 pub mod ScriptLemmas
 pub mod SectionLemmas
+pub mod SetupLemmas

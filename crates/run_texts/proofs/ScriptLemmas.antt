@@ -1,15 +1,17 @@
 -- What a reader of a script keeps beside the rows.
-use Rattle.std.proofs.Common.{◌≡◌, ◌==◌, ◌≤◌, ℕ, Bool, true, false, List, [], ◌∷◌, ◌++◌, refl, reverse, arith}
+use Rattle.std.proofs.Common.{◌≡◌, ◌==◌, ◌≤◌, ℕ, Bool, true, false, List, [], ◌∷◌, ◌++◌, refl, reverse, sym, arith}
 use Rattle.std.specs.Prelude.{◌||◌, ◌&&◌, cond, map, nat_le}
-use Rattle.std.specs.BTreeSet.{BTreeSet, contains}
+use Rattle.std.specs.BTreeSet.{BTreeSet, IsEmpty, contains}
 use Rattle.std.specs.Ordering.{is_eq, nat_cmp}
 use Rattle.std.proofs.lemmas.Bool.Decides.{nat_tests}
+use Rattle.std.proofs.lemmas.List.Elements.{All-push}
 use Rattle.std.proofs.lemmas.List.{map-append, reverse-append, reverse-reverse}
 use Rattle.std.proofs.lemmas.Bool.{and_parts}
-use Rattle.run_texts.specs.Happenings.{RowData, Happens, Meets, Recharges, Starts}
+use Rattle.run_texts.specs.Happenings.{RowData, Happens, Meets, Recharges, Starts, is_in_time}
 use Rattle.run_texts.specs.Scripts.{is_started, starts}
+use Rattle.run_texts.specs.ScriptsRead.{AreRowsOf, last_moment_of}
 use Rattle.run_texts.specs.Starts.{HasCalls, NotesStart}
-use Rattle.run_texts.specs.Views.{rows_are_in_order, row_data}
+use Rattle.run_texts.specs.Views.{happens_of, rows_are_in_order, row_data}
 use Rattle.run_texts.specs.declared.script.ScriptRow.{ScriptRow}
 
 abbrev Fields : Type 0
@@ -41,27 +43,18 @@ calls_more before after row earlier notes has q = call_more before after row.wha
 
 -- ---- the rows so far, newest first
 
-abbrev pub earlier_of : List ScriptRow → List RowData
+abbrev earlier_of : List ScriptRow → List RowData
 earlier_of rows = reverse (map row_data rows)
 
 data_more : (rows : List ScriptRow) (row : ScriptRow) → map row_data (rows ++ row ∷ []) ≡ map row_data rows ++ row_data row ∷ []
 data_more rows row = map-append row_data rows (row ∷ [])
 
-pub earlier_more : (rows : List ScriptRow) (row : ScriptRow) → earlier_of (rows ++ row ∷ []) ≡ row_data row ∷ earlier_of rows
+earlier_more : (rows : List ScriptRow) (row : ScriptRow) → earlier_of (rows ++ row ∷ []) ≡ row_data row ∷ earlier_of rows
 earlier_more rows row = rw (data_more rows row) (reverse-append (map row_data rows) (row_data row ∷ []))
-
-pub calls_after : (before after : BTreeSet ℕ) (rows : List ScriptRow) (row : ScriptRow) → NotesStart (row_data row).what before after → HasCalls before (earlier_of rows)
-    → HasCalls after (earlier_of (rows ++ row ∷ []))
-calls_after before after rows row notes has = rw (earlier_more rows row) (calls_more before after (row_data row) (earlier_of rows) notes has)
 
 -- ---- the order of the moments
 
--- the moment of the last row
-abbrev pub end_of : ℕ → List ScriptRow → ℕ
-end_of start [] = start
-end_of start (row ∷ rows) = end_of row.at rows
-
-pub end_more : (start : ℕ) (rows : List ScriptRow) (row : ScriptRow) → end_of start (rows ++ row ∷ []) ≡ row.at
+pub end_more : (start : ℕ) (rows : List ScriptRow) (row : ScriptRow) → last_moment_of start (rows ++ row ∷ []) ≡ row.at
 end_more start [] row = refl
 end_more start (first ∷ rows) row = end_more first.at rows row
 
@@ -69,7 +62,7 @@ in_turn : (a b : Bool) → a ≡ true → b ≡ true → (a && b) ≡ true
 in_turn true b one two = two
 in_turn false b one two = cc
 
-pub order_more : (start : ℕ) (rows : List ScriptRow) (row : ScriptRow) → rows_are_in_order start rows ≡ true → end_of start rows ≤ row.at
+pub order_more : (start : ℕ) (rows : List ScriptRow) (row : ScriptRow) → rows_are_in_order start rows ≡ true → last_moment_of start rows ≤ row.at
     → rows_are_in_order start (rows ++ row ∷ []) ≡ true
 order_more start [] row ordered after = in_turn (nat_le start row.at) true (grind (arith, nat_tests, after)) refl
 order_more start (first ∷ rows) row ordered after =
@@ -81,3 +74,28 @@ order_more start (first ∷ rows) row ordered after =
 -- the rows so far, in turn
 pub rows_in_turn : (rows : List ScriptRow) → reverse (earlier_of rows) ≡ map row_data rows
 rows_in_turn rows = reverse-reverse (map row_data rows)
+
+-- ---- a script, row after row
+
+pub no_rows : (calls : BTreeSet ℕ) → IsEmpty calls → AreRowsOf [] calls 0 []
+no_rows calls none = record {
+  say = refl;
+  started = λ call. rw none refl;
+  before = refl;
+  ends = refl;
+  in_range = λ k d below. absurd (omega (arith, below));
+  in_time = λ k d below. absurd (omega (arith, below));
+  in_order = refl;
+}
+
+pub row_more : (earlier : List RowData) (calls after : BTreeSet ℕ) (last : ℕ) (rows : List ScriptRow) (row : ScriptRow) → AreRowsOf earlier calls last rows → NotesStart (happens_of row.what) calls after
+    → row.at ≤ 1000000000000 → is_in_time (happens_of row.what) ≡ true → last ≤ row.at → AreRowsOf (row_data row ∷ earlier) after row.at (rows ++ row ∷ [])
+row_more earlier calls after last rows row are notes in_range in_time in_turn = record {
+  say = rw are.say (sym (earlier_more rows row));
+  started = calls_more calls after (row_data row) earlier notes are.started;
+  before = refl;
+  ends = sym (end_more 0 rows row);
+  in_range = All-push (λ (row : ScriptRow). row.at ≤ 1000000000000) rows row are.in_range in_range;
+  in_time = All-push (λ (row : ScriptRow). is_in_time (happens_of row.what) ≡ true) rows row are.in_time in_time;
+  in_order = order_more 0 rows row are.in_order (rw are.ends at in_turn);
+}

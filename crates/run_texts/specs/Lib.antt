@@ -9,6 +9,7 @@ pub mod MessageViews
 pub mod Messages
 pub mod Said
 pub mod Scripts
+pub mod ScriptsRead
 pub mod Sections
 pub mod Setups
 pub mod Starts

@@ -19,7 +19,9 @@ use ssf_core::{BcsmEvent, Moment};
 use std::alloc::{AllocError, Global};
 use std::collections::BTreeSet;
 use std::io::Read;
-use table_core::{RowKind, Table, TableFault, field, has_word, is_blank, number};
+use table_core::{
+    RowKind, TableFault, TakeFault, TakeRow, field, has_word, is_blank, number, take_table,
+};
 
 /// The most rows of a script, its header not counted.
 const MAX_ROWS: u32 = 1_000_000;
@@ -54,20 +56,53 @@ pub fn read_script<I: Read + Drop>(
         &["moment", "call", "what", "x", "y"],
         &["moment", "call", "what", "x", "y", "z"],
     ];
-    let mut table = Table::open(alloc, reader, headers, MAX_ROWS)?;
-    let mut calls = BTreeSet::new(alloc);
-    let mut rows = Vec::new(alloc);
-    let mut last = 0;
-    while table.next_row()? {
-        let row = match judge(directory, &calls, last, table.row()) {
-            Ok(row) => row,
-            Err(kind) => return Err(table.fault(kind)),
-        };
-        note(&mut calls, row.what)?;
-        rows.push(row)?;
-        last = row.at;
-    }
+    let mut script = Script {
+        directory,
+        calls: BTreeSet::new(alloc),
+        rows: Vec::new(alloc),
+        last: 0,
+    };
+    take_table(alloc, reader, headers, MAX_ROWS, &mut script)?;
+    let Script { rows, .. } = script;
     Ok(rows)
+}
+
+/// A script, as far as it was read.
+#[derive(Drop)]
+struct Script<'d> {
+    directory: &'d Directory,
+    /// The calls that have started.
+    calls: BTreeSet<u64>,
+    rows: Vec<ScriptRow>,
+    /// The moment of the last row.
+    last: Moment,
+}
+
+impl TakeRow for Script<'_> {
+    ghost use Rattle.std.specs.Prelude.{◌≡◌, ◌∷◌, ℕ, List, Ok};
+    ghost use Rattle.run_texts.specs.Happenings.{RowData};
+    ghost use Rattle.run_texts.specs.Scripts.{script_row_at};
+    ghost use Rattle.run_texts.specs.ScriptsRead.{AreRowsOf};
+    ghost use Rattle.run_values.specs.declared.directory.OpeningCredit.{OpeningCredit};
+    ghost use Rattle.table_core.specs.Judging.{and_then};
+
+    ghost Terms = { List (ℕ × OpeningCredit) };
+
+    ghost Made = { List RowData };
+
+    ghost judge = { λ accounts header earlier fields.
+        and_then (script_row_at accounts earlier fields) (λ row. Ok (row ∷ earlier)) };
+
+    ghost Has = { λ accounts script taken earlier. (script.directory.now.accounts ≡ accounts)
+        × AreRowsOf earlier script.calls script.last script.rows.items };
+
+    fn take(&mut self, _header: usize, row: &ByteRecord) -> Result<(), TakeFault> {
+        let row = judge(self.directory, &self.calls, self.last, row)?;
+        note(&mut self.calls, row.what)?;
+        self.rows.push(row)?;
+        self.last = row.at;
+        Ok(())
+    }
 }
 
 /// What a row says, after a row of the moment `last` and the calls that have started.

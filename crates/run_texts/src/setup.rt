@@ -4,7 +4,7 @@ ghost use Rattle.std.specs.Prelude.{◌≡◌, ◌≤◌, ◌+◌, IfOk, IfSome,
 ghost use Rattle.run_texts.specs.ListedRows.{ListsRow, list_fault_of};
 ghost use Rattle.run_texts.specs.Setups.{account_row, setup_row_at, table_setup_of, subscriber_row};
 ghost use Rattle.run_texts.specs.Views.{setup_in};
-ghost use Rattle.run_texts.specs.declared.setup.ListFault.TheVariants as out;
+ghost use Rattle.std.specs.Result.{result_map_both};
 ghost use Rattle.csv.specs.Records.{fields_of};
 ghost use Rattle.table_core.specs.Faults.{GivesTable};
 ghost use Rattle.table_core.specs.Rows.{rows_of};
@@ -15,7 +15,7 @@ use csv::ByteRecord;
 use run_values::{Directory, MAX_ACCOUNTS, OpeningCredit, SetupFault};
 use std::alloc::Global;
 use std::io::Read;
-use table_core::{RowKind, Table, TableFault, field, has_word, is_blank};
+use table_core::{RowKind, TableFault, TakeFault, TakeRow, field, has_word, is_blank, take_table};
 
 /// The most rows of a setup, its header not counted.
 const MAX_ROWS: u32 = 10_000;
@@ -40,21 +40,41 @@ pub fn read_setup<I: Read + Drop>(alloc: Global, reader: I) -> Result<Directory,
         &["kind", "key", "value"],
         &["kind", "key", "value", "until"],
     ];
-    let mut table = Table::open(alloc, reader, headers, MAX_ROWS)?;
-    let mut directory = Directory::new(alloc);
-    while table.next_row()? {
-        match list_row(&mut directory, table.row()) {
-            Ok(()) => {}
-            Err(ListFault::Row(kind)) => return Err(table.fault(kind)),
-            Err(ListFault::OutOfMemory) => return Err(TableFault::OutOfMemory),
-        }
-    }
+    let mut setup = Setup {
+        directory: Directory::new(alloc),
+    };
+    take_table(alloc, reader, headers, MAX_ROWS, &mut setup)?;
+    let Setup { directory } = setup;
     Ok(directory)
+}
+
+/// A setup, as far as it was read.
+#[derive(Drop)]
+struct Setup {
+    directory: Directory,
+}
+
+impl TakeRow for Setup {
+    ghost use Rattle.std.specs.Prelude.{⊤};
+    ghost use Rattle.run_texts.specs.ListedRows.{IsListingOf};
+    ghost use Rattle.run_texts.specs.Setups.{TableSetup, setup_row_at};
+
+    ghost Terms = { ⊤ };
+
+    ghost Made = { TableSetup };
+
+    ghost judge = { λ terms header earlier fields. setup_row_at earlier fields };
+
+    ghost Has = { λ terms setup rows named. IsListingOf rows named setup.directory };
+
+    fn take(&mut self, _header: usize, row: &ByteRecord) -> Result<(), TakeFault> {
+        list_row(&mut self.directory, row)
+    }
 }
 
 /// Lists what a row names.
 #[tactic(auto, unfolding(crate::specs::Setups::setup_row_at))]
-fn list_row(directory: &mut Directory, row: &ByteRecord) -> Result<(), ListFault>
+fn list_row(directory: &mut Directory, row: &ByteRecord) -> Result<(), TakeFault>
     requires { length directory.old.accounts ≤ 1000 }
     ensures means { ListsRow result (setup_in directory.new)
         (setup_row_at (setup_in directory.old) (fields_of row.now)) }
@@ -67,11 +87,11 @@ fn list_row(directory: &mut Directory, row: &ByteRecord) -> Result<(), ListFault
     } else if has_word(row, 0, "subscriber") {
         list_subscriber(directory, row)
     } else {
-        Err(ListFault::Row(RowKind::What))
+        Err(TakeFault::Row(RowKind::What))
     }
 }
 
-fn list_account(directory: &mut Directory, row: &ByteRecord) -> Result<(), ListFault>
+fn list_account(directory: &mut Directory, row: &ByteRecord) -> Result<(), TakeFault>
     requires { length directory.old.accounts ≤ 1000 }
     ensures means { ListsRow result (setup_in directory.new)
         (account_row (setup_in directory.old) (fields_of row.now)) }
@@ -80,18 +100,17 @@ fn list_account(directory: &mut Directory, row: &ByteRecord) -> Result<(), ListF
         ≡ length directory.old.accounts + length directory.old.subscribers + 1) }
 {
     if directory.account_count() >= MAX_ACCOUNTS {
-        return Err(ListFault::Row(RowKind::TooManyRows));
+        return Err(TakeFault::Row(RowKind::TooManyRows));
     }
     let number = account(field(row, 1))?;
     let opening = OpeningCredit {
         amount: amount(field(row, 2))?,
         until: until(field(row, 3))?,
     };
-    directory.account(number, opening)?;
-    Ok(())
+    listed(directory.account(number, opening))
 }
 
-fn list_subscriber(directory: &mut Directory, row: &ByteRecord) -> Result<(), ListFault>
+fn list_subscriber(directory: &mut Directory, row: &ByteRecord) -> Result<(), TakeFault>
     requires { length directory.old.accounts ≤ 1000 }
     ensures means { ListsRow result (setup_in directory.new)
         (subscriber_row (setup_in directory.old) (fields_of row.now)) }
@@ -102,38 +121,20 @@ fn list_subscriber(directory: &mut Directory, row: &ByteRecord) -> Result<(), Li
     let number = party(field(row, 1))?;
     let account = account(field(row, 2))?;
     if !is_blank(row, 3) {
-        return Err(ListFault::Row(RowKind::Empty));
+        return Err(TakeFault::Row(RowKind::Empty));
     }
-    directory.subscriber(number, account)?;
-    Ok(())
+    listed(directory.subscriber(number, account))
 }
 
-/// Why what a row of a setup names isn't listed.
-#[derive(Clone, Copy)]
-enum ListFault {
-    /// The row has a fault.
-    Row(RowKind),
-    /// Memory ran out.
-    OutOfMemory,
-}
-
-impl From<RowKind> for ListFault {
-    ghost from_gives = { λ kind fault. fault ≡ out.Row kind };
-
-    fn from(kind: RowKind) -> ListFault {
-        ListFault::Row(kind)
-    }
-}
-
-impl From<SetupFault> for ListFault {
-    ghost from_gives = { λ why fault. fault ≡ list_fault_of why };
-
-    fn from(fault: SetupFault) -> ListFault {
-        match fault {
-            SetupFault::Repeated => ListFault::Row(RowKind::Repeated),
-            SetupFault::Unknown => ListFault::Row(RowKind::Unknown),
-            SetupFault::OutOfRange => ListFault::Row(RowKind::Number),
-            SetupFault::OutOfMemory => ListFault::OutOfMemory,
-        }
+/// Whether what a row of a setup names was listed, by what its directory says of it.
+fn listed(outcome: Result<(), SetupFault>) -> Result<(), TakeFault>
+    ensures { result ≡ result_map_both (λ done. done) list_fault_of outcome }
+{
+    match outcome {
+        Ok(()) => Ok(()),
+        Err(SetupFault::Repeated) => Err(TakeFault::Row(RowKind::Repeated)),
+        Err(SetupFault::Unknown) => Err(TakeFault::Row(RowKind::Unknown)),
+        Err(SetupFault::OutOfRange) => Err(TakeFault::Row(RowKind::Number)),
+        Err(SetupFault::OutOfMemory) => Err(TakeFault::OutOfMemory),
     }
 }

@@ -14,6 +14,10 @@ use Rattle.table_commands.specs.Reports.{AreInOrder, judged_report, last_times_a
 
 -- ---- one more report
 
+pub last_of_none : (last : Elapsed) → last_times_after last [] ≡ last
+unfolding last_times_after
+last_of_none last = refl
+
 pub last_more : (last : Elapsed) (reports : List Elapsed) (times : Elapsed) → last_times_after last (reports ++ times ∷ []) ≡ times
 unfolding last_times_after
 last_more last [] times = refl

@@ -11,7 +11,7 @@ use csv::ByteRecord;
 use price_core::{DAY, Plan, Times, lawful};
 use std::alloc::Global;
 use std::io::Read;
-use table_core::{RowKind, Table, TableFault, number};
+use table_core::{RowKind, TableFault, TakeFault, TakeRow, number, take_table};
 
 /// The most rows of a table of reports, its header not counted.
 const MAX_ROWS: u32 = 10_000;
@@ -26,17 +26,51 @@ pub fn read_reports<I: Read + Drop>(
         GivesTable (λ reports. reports.items) result (table_reports_of (rates_of plan.now)
         (rows_of text))) }
 {
-    let mut table = Table::open(alloc, reader, &[&["before", "after"]], MAX_ROWS)?;
-    let mut reports = Vec::new(alloc);
-    let mut last = Times::ZERO;
-    while table.next_row()? {
-        match report(plan, last, table.row()) {
-            Ok(times) => last = times,
-            Err(kind) => return Err(table.fault(kind)),
-        }
-        reports.push(last)?;
+    let mut reports = Reports {
+        plan,
+        times: Vec::new(alloc),
+        last: Times::ZERO,
+    };
+    let headers: &[&[&str]] = &[&["before", "after"]];
+    take_table(alloc, reader, headers, MAX_ROWS, &mut reports)?;
+    let Reports { times, .. } = reports;
+    Ok(times)
+}
+
+/// Reports under a plan, as far as they were read.
+#[derive(Drop)]
+struct Reports<'p> {
+    plan: &'p Plan,
+    times: Vec<Times>,
+    /// The times of the last report.
+    last: Times,
+}
+
+impl TakeRow for Reports<'_> {
+    ghost use Rattle.std.specs.Prelude.{◌≡◌, List};
+    ghost use Rattle.price_core.specs.Rates.{Rates};
+    ghost use Rattle.price_core.specs.RatesOf.{rates_of};
+    ghost use Rattle.price_core.specs.Times.{Elapsed, no_times};
+    ghost use Rattle.table_commands.specs.Reports.{last_times_after, report_row_in};
+    ghost use Rattle.table_core.specs.Judging.{adds};
+
+    ghost Terms = { Rates };
+
+    ghost Made = { List Elapsed };
+
+    ghost judge = { λ plan header.
+        adds (λ earlier. report_row_in plan (last_times_after no_times earlier)) };
+
+    ghost Has = { λ plan reports rows read. (rates_of reports.plan.now ≡ plan)
+        × (reports.times.items ≡ read)
+        × (reports.last ≡ last_times_after no_times read) };
+
+    fn take(&mut self, _header: usize, row: &ByteRecord) -> Result<(), TakeFault> {
+        let times = report(self.plan, self.last, row)?;
+        self.times.push(times)?;
+        self.last = times;
+        Ok(())
     }
-    Ok(reports)
 }
 
 /// The report in a row, after the times of the row before it.

@@ -6,3 +6,4 @@ pub mod Known
 pub mod PrintedLemmas
 pub mod RowLemmas
 pub mod TableLemmas
+pub mod TakingLemmas

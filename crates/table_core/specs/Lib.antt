@@ -7,3 +7,4 @@ pub mod Printed
 pub mod Reading
 pub mod Rows
 pub mod Tables
+pub mod Taking

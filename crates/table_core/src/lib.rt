@@ -2,8 +2,9 @@
 //! have.
 //!
 //! Every table that this repository reads (reports, operations, tariffs, setups, scripts, books)
-//! is read by this crate, so it is the one place that knows the library `csv`. What is printed of
-//! them reaches its writer by `write_text`.
+//! is read by this crate, so it is the one place that knows the library `csv`: `take_table` gives
+//! the rows to what makes something of them. What is printed of them reaches its writer by
+//! `write_text`.
 #![tactic(auto)]
 
 mod fault;
@@ -11,6 +12,7 @@ mod fields;
 mod optional_field;
 mod printed;
 mod table;
+mod taking;
 mod writing;
 
 pub use fault::{RowFault, RowKind, TableFault};
@@ -21,4 +23,5 @@ pub use fields::{
 pub use optional_field::Field;
 pub use printed::{printed_decimals_are_read, printed_tables_are_read};
 pub use table::{Rows, Table};
+pub use taking::{TakeFault, TakeRow, take_table};
 pub use writing::write_text;

@@ -1,47 +1,23 @@
-use Rattle.std.proofs.Common.{refl, arith}
-use Rattle.table_core.specs.Rows.{rows_of}
-use Rattle.table_core.proofs.TableLemmas.{ended, not_opened, opened, refused, refuses, stopped, taken, fault_says}
-use Rattle.run_texts.specs.Setups.{setup_form, table_setup_of}
+use Rattle.std.proofs.Common.{[], ap, arith, refl, Ok}
+use Rattle.table_core.proofs.TakingLemmas.{refused_gives, taken_gives}
+use Rattle.run_texts.specs.Views.{setup_in}
+use Rattle.run_texts.proofs.SetupLemmas.{nothing_named}
 use Rattle.run_texts.proofs.setup.read_setup.Goals as goal
 
-pub returns-in_err-table-clause-means : goal.returns-in_err-table-clause-means
-returns-in_err-table-clause-means g c =
-    fault_says (g.I.Read.remaining c.args.reader) _ c.from_residual.result c.in_err-table.field-0.0 _ (λ text. table_setup_of (rows_of text)) c.from_residual.ensures.1
-    (not_opened setup_form g.I.Read.remaining _ c.in_err-table.field-0.0 c.in_err-table.ensures.opens)
-    (λ text. refuses setup_form (λ row why. refl) (λ all. all) (λ why. refl) c.in_err-table.field-0.0 (table_setup_of (rows_of text)))
+pub take_table-requires-clause-has : goal.take_table-requires-clause-has
+take_table-requires-clause-has g c = (tt {0}, record { accounts = []; subscribers = [] }, rw c.new.ensures nothing_named)
 
-pub loop-directory-init : goal.loop-directory-init
-loop-directory-init g c = record {
-  within = omega (arith, c.in_ok-table.ensures.first.number);
-  few = rw c.new-directory.ensures (omega arith);
-  count = rw (c.new-directory.ensures, c.in_ok-table.ensures.first.number) refl;
-  so_far = rw c.new-directory.ensures (opened setup_form g.I.Read.remaining _ c.in_ok-table.table c.in_ok-table.ensures.first c.in_ok-table.ensures.opens);
-}
-
-pub returns-in_err-next_row-clause-means : goal.returns-in_err-next_row-clause-means
-returns-in_err-next_row-clause-means g c =
-    fault_says (g.I.Read.remaining c.args.reader) _ c.from_residual-in_err-next_row.result c.in_err-next_row.field-0.0 _ (λ text. table_setup_of (rows_of text)) c.from_residual-in_err-next_row.ensures.1
-    (stopped setup_form g.I.Read.remaining _ c.loop-directory.table c.next_row.new.self _ c.loop-directory.invariant.so_far c.in_err-next_row.field-0.0 c.in_err-next_row.ensures.steps)
-    (λ text. refuses setup_form (λ row why. refl) (λ all. all) (λ why. refl) c.in_err-next_row.field-0.0 (table_setup_of (rows_of text)))
-
-pub loop-directory-preserved : goal.loop-directory-preserved
-loop-directory-preserved g c =
-    let next = rw c.if-branch.true at c.in_ok-next_row.ensures.moves in
-    record {
-      within = omega (arith, next.within, next.same.most_rows, c.loop-directory.invariant.so_far.most_rows);
-      few = c.in-Ok.ensures.few;
-      count = omega (arith, next.number, c.in-Ok.ensures.count, c.loop-directory.invariant.count);
-      so_far = taken setup_form g.I.Read.remaining _ c.loop-directory.table c.next_row.new.self _ c.loop-directory.invariant.so_far _
-          next (rw c.if-branch.true at c.in_ok-next_row.ensures.steps) (rw c.row.ensures at c.in-Ok.ensures.means);
-    }
-
-pub returns-in-Err-Row-clause-means : goal.returns-in-Err-Row-clause-means
-returns-in-Err-Row-clause-means g c =
-    rw c.fault.ensures (refused setup_form g.I.Read.remaining _ c.loop-directory.table c.next_row.new.self _ c.loop-directory.invariant.so_far c.in-Err-Row.kind
-    (rw c.if-branch.true at c.in_ok-next_row.ensures.moves) (rw c.if-branch.true at c.in_ok-next_row.ensures.steps)
-    (rw (c.row.ensures, c.in-Err-Row.field-0-is) at c.in-Err-Row.ensures.means))
+pub returns-in_err-take_table-clause-means : goal.returns-in_err-take_table-clause-means
+returns-in_err-take_table-clause-means g c =
+    refused_gives (g.I.Read.remaining c.args.reader) _ (tt {0}) (record { accounts = []; subscribers = [] }) _ (λ setup. setup) setup_in (rw c.new.ensures nothing_named) (λ why. refl) _ c.in_err-take_table.field-0.0
+    c.from_residual.ensures.1 c.in_err-take_table.ensures.taken
 
 pub returns-clause-means : goal.returns-clause-means
 returns-clause-means g c =
-    ended setup_form g.I.Read.remaining _ c.loop-directory.table c.next_row.new.self _ c.loop-directory.invariant.so_far
-    (rw c.if-branch.false at c.in_ok-next_row.ensures.steps)
+    taken_gives (g.I.Read.remaining c.args.reader) _ (tt {0}) (record { accounts = []; subscribers = [] }) _ (λ setup. setup) setup_in (rw c.new.ensures nothing_named) c.take_table.new.taker.directory _
+    (λ named (rows, is). ap Ok is.is) c.in_ok-take_table.ensures.taken
+
+pub returns-clause-within : goal.returns-clause-within
+returns-clause-within g c =
+    let (rows, named, is, few) = c.in_ok-take_table.ensures.has (tt {0}) (record { accounts = []; subscribers = [] }) (rw c.new.ensures nothing_named) in
+    record { accounts = is.few; subscribers = omega (arith, few, is.count) }
