@@ -11,8 +11,8 @@ use crate::options::{price_request, replay_request};
 use crate::quote_words::quote_request;
 use crate::rate_words::rate_request;
 use crate::request::Request;
-use crate::run_words::{run_ask, run_request};
-use crate::serve_words::{live_ask, serve_request};
+use crate::run_words::run_request;
+use crate::serve_words::serve_request;
 use crate::times::{explain_live_times, explain_run_times};
 use crate::words_fault::WordsFault;
 use clap::error::ErrorKind;
@@ -63,14 +63,20 @@ pub fn explain_words<S: AsStr>(alloc: Global, words: &[S]) -> Result<String, All
 /// Which time of a command is out of its range.
 fn explain_options(alloc: Global, matches: &ArgMatches<'_>) -> Result<String, AllocError> {
     match matches.subcommand() {
-        Some(("run", options)) => match run_ask(options) {
-            Some(ask) => explain_run_times(alloc, options, &ask),
-            None => Ok(String::new(alloc)),
-        },
-        Some(("serve", options)) => match live_ask(options) {
-            Some(ask) => explain_live_times(alloc, options, &ask),
-            None => Ok(String::new(alloc)),
-        },
+        Some((name, options)) => explain_command(alloc, name, options),
+        None => Ok(String::new(alloc)),
+    }
+}
+
+/// Which time of the command of a name is out of its range.
+fn explain_command(
+    alloc: Global,
+    name: &str,
+    options: &ArgMatches<'_>,
+) -> Result<String, AllocError> {
+    match name {
+        "run" => explain_run_times(alloc, options),
+        "serve" => explain_live_times(alloc, options),
         _ => Ok(String::new(alloc)),
     }
 }

@@ -1,9 +1,10 @@
 //! Which time of a command is out of its range.
 
 use crate::options::option_text;
+use crate::run_words::run_ask;
+use crate::serve_words::live_ask;
 use clap::ArgMatches;
 use price_core::DAY;
-use run_values::{LiveAsk, RunAsk};
 use std::alloc::{AllocError, Global};
 use std::fmt;
 
@@ -11,8 +12,10 @@ use std::fmt;
 pub(crate) fn explain_run_times(
     alloc: Global,
     options: &ArgMatches<'_>,
-    ask: &RunAsk,
 ) -> Result<String, AllocError> {
+    let Some(ask) = run_ask(options) else {
+        return Ok(String::new(alloc));
+    };
     let rising = [
         ("delay", ask.delay),
         ("tccd", ask.tccd),
@@ -30,8 +33,10 @@ pub(crate) fn explain_run_times(
 pub(crate) fn explain_live_times(
     alloc: Global,
     options: &ArgMatches<'_>,
-    ask: &LiveAsk,
 ) -> Result<String, AllocError> {
+    let Some(ask) = live_ask(options) else {
+        return Ok(String::new(alloc));
+    };
     let rising = [
         ("tccd", ask.tccd),
         ("least", ask.least),
