@@ -1,5 +1,5 @@
 -- The seats of accounts that are opened go to the teams of the workers.
-use Rattle.std.proofs.Common.{◌≡◌, ◌<◌, ◌≤◌, ℕ, ◌+◌, Bool, true, false, List, [], ◌∷◌, ◌++◌, length, map, refl, ap, sym, ◌∙◌, arith, zero, suc, take}
+use Rattle.std.proofs.Common.{◌≡◌, ◌<◌, ◌≤◌, ℕ, ◌+◌, Bool, true, false, List, [], ◌∷◌, ◌++◌, length, map, refl, ap, subst, sym, ◌∙◌, arith, zero, suc, take}
 use Rattle.std.specs.Prelude.{◌==◌, ◌&&◌, All, HoldsAt, replicate}
 use Rattle.std.proofs.Math.ListN.{get_or}
 use Rattle.std.proofs.lemmas.Bool.Decides.{nat_tests}
@@ -102,3 +102,8 @@ one_opened read terms key inside limit workers all place number opening accounts
       rw (deals, map-append key accounts (account ∷ []))
           (laid_out_fresh read (map key accounts) (key account) 0 (map inside teams) seats before.2 enough parts.1 new.of_account new.empty),
     )
+
+-- the first of fresh teams, and the others
+pub first_fresh : {K T V : Type 0} (read : Reads K T) (keys : List K) (number : ℕ) (inside : V → List T) (teams : List V) (first : V) (rest : List V) → teams ≡ first ∷ rest
+    → AreFresh read keys number (map inside teams) → IsFresh read keys number (inside first) × AreFresh read keys (number + 1) (map inside rest)
+first_fresh read keys number inside teams first rest is fresh = subst (λ teams. AreFresh read keys number (map inside teams)) is fresh

@@ -1,39 +1,72 @@
-use Rattle.std.proofs.Common.{◌≡◌, ◌<◌, arith, length, refl, rules, ◌∙◌}
-use Rattle.std.proofs.Math.ListN.{get_or}
+use Rattle.std.proofs.Common.{◌≡◌, ◌≤◌, ◌<◌, ℕ, ◌+◌, List, Some, ap, arith, length, map, refl, sym, ◌∙◌}
+use Rattle.std.proofs.Math.ListN.{get_or, set}
 use Rattle.std.proofs.Math.Seq.{map-set_same}
 use Rattle.std.proofs.lemmas.List.{length-set}
-use Rattle.runs_core.specs.Sending.{heard_by, sent_by}
+use Rattle.std.specs.Vec.{vec_len}
+use Rattle.runs_core.specs.Ends.{sent}
+use Rattle.runs_core.specs.Mails.{items_in}
+use Rattle.runs_core.specs.Sending.{heard_by, promises_of, sent_by}
+use Rattle.runs_core.specs.declared.worker_link.WorkerLink.{WorkerLink}
 use Rattle.runs_core.proofs.Finishing.{err_named, or_some, own_or}
 use Rattle.runs_core.proofs.HearingLemmas.{none_heard, one_heard}
 use Rattle.runs_core.proofs.crew.hear_all.Goals as goal
 use Rattle.runs_core.proofs.crew.hear_all.Goals.{in-Err, in-Ok}
 
+-- facts on numbers alone, where `omega` has little to read
+
+none_long : (long many : ℕ) → long ≡ many → many ≡ 0 → long ≤ 0
+none_long long many is none = omega (arith, is, none)
+
+below_all : (at end all many : ℕ) → at < end → end ≡ all → all ≡ many → at < many
+below_all at end all many below is same = omega (arith, below, is, same)
+
+one_longer : (long longer at : ℕ) → long ≤ at → longer ≡ long + 1 → longer ≤ at + 1
+one_longer long longer at within is = omega (arith, within, is)
+
+no_longer : (long at : ℕ) → long ≤ at → long ≤ at + 1
+no_longer long at within = omega (arith, within)
+
+-- of the link that was heard nothing is changed but what has come by it
+one_kept : {S G T : Type 0} (old links : List (WorkerLink S G T)) (at : ℕ) (link heard : WorkerLink S G T) → link ≡ get_or links at link → heard.outbox ≡ link.outbox → heard.child ≡ link.child
+    → length links ≡ length old → map sent_by links ≡ map sent_by old → promises_of links ≡ promises_of old
+    → (length (set links at heard) ≡ length old) × (map sent_by (set links at heard) ≡ map sent_by old) × (promises_of (set links at heard) ≡ promises_of old)
+one_kept old links at link heard is outbox child many posts promises = (
+  length-set links at heard ∙ many,
+  map-set_same sent_by links at heard link (ap (λ outbox. items_in (sent outbox)) (outbox ∙ ap (λ link. link.outbox) is)) ∙ posts,
+  map-set_same (λ link. link.child.promise) links at heard link (ap (λ child. child.promise) (child ∙ ap (λ link. link.child) is)) ∙ promises,
+)
+
 pub loop-at-init : goal.loop-at-init
-loop-at-init g c = (refl, refl, refl, (λ never. absurd (cc)), (λ never. absurd (cc)), (λ _. none_heard heard_by (λ queue. queue.items) _ _ _ refl c.requires.none), search rules, refl)
+loop-at-init g c =
+    let none = none_heard heard_by (λ queue. queue.items) _ _ _ refl c.requires.none in
+    (refl, refl, refl, (λ never. absurd (cc)), (λ never. absurd (cc)), (λ _. none), none_long _ _ c.args.queues.now.ok.0 (ap length c.requires.none), refl)
 
 pub loop-at-preserved : goal.loop-at-preserved
 loop-at-preserved g c =
     let before = c.loop-at.invariant in
     let links = c.loop-at.links.items in
-    let many = length-set links c.loop-at.at c.hear.new.self ∙ before.0 in
-    let posts = map-set_same sent_by links c.loop-at.at c.hear.new.self c.index_mut.result.now (search rules) ∙ before.1 in
-    let promises = map-set_same (λ link. link.child.promise) links c.loop-at.at c.hear.new.self c.index_mut.result.now (search rules) ∙ before.2 in
-    let below : c.loop-at.at < length links = omega (arith, c.loop-at-test.true, c.len-at-end.ensures, before.0, c.args.links.now.ok) in
-    let is : c.index_mut.result.now ≡ get_or links c.loop-at.at c.index_mut.result.now = search rules in
+    let link = c.index_mut.result.now in
+    let heard = c.hear.new.self in
+    let is : link ≡ get_or links c.loop-at.at link = c.index_mut.ensures.value in
+    let kept = one_kept c.args.links.now.items links c.loop-at.at link heard is c.hear.ensures.outbox c.hear.ensures.child before.0 before.1 before.2 in
     elim c.match-hear.branch [
-      | in-Ok w ↦ rw (w.queues-is, w.fault-is) (
-        many,
-        posts,
-        promises,
-        before.3,
-        before.4,
-        λ none. one_heard heard_by (λ queue. queue.items) _ c.loop-at.at links c.loop-at.queues.items _ _ c.index_mut.result.now c.hear.new.self
-            before.0 below is (before.5 none) w.in-Ok.ensures.answers w.push_reserved.ensures.items,
-        omega (arith, before.6, w.push_reserved.ensures.len),
-        w.push_reserved.ensures.capacity ∙ before.7,
-      )
+      | in-Ok w ↦
+          let all = c.args.links.now in
+          let below = below_all c.loop-at.at c.len-at-end.result (vec_len all) (length links) c.loop-at-test.true c.len-at-end.ensures (all.ok.0 ∙ sym before.0) in
+          rw (w.queues-is, w.fault-is) (
+            kept.0,
+            kept.1,
+            kept.2,
+            before.3,
+            before.4,
+            λ none. one_heard heard_by (λ queue. queue.items) c.args.links.now.items c.loop-at.at links c.loop-at.queues.items w.push_reserved.new.self.items w.in-Ok.queue link heard
+                before.0 below is (before.5 none) w.in-Ok.ensures.answers w.push_reserved.ensures.items,
+            one_longer (vec_len c.loop-at.queues) (vec_len w.push_reserved.new.self) c.loop-at.at before.6 w.push_reserved.ensures.len,
+            w.push_reserved.ensures.capacity ∙ before.7,
+          )
       | in-Err w ↦
           let named = err_named c.hear.result w.in-Err.why w.in-Err.is c.hear.ensures.fault.0 c.hear.ensures.fault.1 in
-          let fault = own_or c.loop-at.fault _ before.3 before.4 named.0 named.1 in
-          rw (w.queues-is, w.fault-is, w.or-fault.ensures) (many, posts, promises, fault.0, fault.1, λ none. absurd (or_some _ _ none), omega (arith, before.6), before.7)
+          let fault = own_or c.loop-at.fault (Some w.in-Err.why) before.3 before.4 named.0 named.1 in
+          rw (w.queues-is, w.fault-is, w.or-fault.ensures)
+          (kept.0, kept.1, kept.2, fault.0, fault.1, λ none. absurd (or_some c.loop-at.fault w.in-Err.why none), no_longer (vec_len c.loop-at.queues) c.loop-at.at before.6, before.7)
     ]
