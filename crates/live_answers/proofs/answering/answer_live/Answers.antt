@@ -1,4 +1,5 @@
 use Rattle.std.proofs.Common.{◌∙◌, [], rules, sym, ap, subst, subst₂}
+use Rattle.std.specs.Prelude.{IfSome}
 use Rattle.live_answers.proofs.Chain.{answered, writes_on}
 use Rattle.live_answers.proofs.answering.answer_live.Goals as goal
 use Rattle.live_answers.specs.Live.{heard_in}
@@ -20,9 +21,14 @@ returns-clause-answered g c =
     record {
       answers = all_heard ran.heard;
       run = ran.run;
-      lines = if_known (remaining c.args.input) _ (λ text known.
+      lines =
+          subst₂ (λ o l. IfSome (remaining c.args.input) (λ text.
+          AnswersLines c.args.replay c.fault.result (heard_in text) (all_heard ran.heard) driver.given.items (contents c.args.output.now) (contents o) (logged c.args.log.now) (logged l)))
+          (search rules) (search rules)
+          (if_known (remaining c.args.input) _ (λ text known.
           let done = answered remaining contents logged c.args.replay _ ran.heard driver text ran.rounds made.replay made.given made.line made.said made.stage (ap remaining made.input ∙ known) in
           let from_there = rw (made.output, made.log) at done in
-          let said = subst (λ why. AnswersLines c.args.replay why (heard_in text) (all_heard ran.heard) driver.given.items (contents c.args.output.now) (contents driver.output.now) (logged c.args.log.now) (logged driver.log.now)) (sym c.fault.ensures) from_there in
-          subst₂ (λ o l. AnswersLines c.args.replay c.fault.result (heard_in text) (all_heard ran.heard) driver.given.items (contents c.args.output.now) (contents o) (logged c.args.log.now) (logged l)) (search rules) (search rules) said);
+          subst (λ why. AnswersLines c.args.replay why (heard_in text) (all_heard ran.heard) driver.given.items (contents c.args.output.now) (contents driver.output.now) (logged c.args.log.now)
+          (logged driver.log.now))
+          (sym c.fault.ensures) from_there));
     }
