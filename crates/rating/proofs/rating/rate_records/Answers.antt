@@ -1,4 +1,4 @@
-use Rattle.std.proofs.Common.{◌∙◌, inl, length, ap, sym, refl, arith}
+use Rattle.std.proofs.Common.{◌≡◌, ◌≤◌, ◌<◌, ◌∙◌, ℕ, List, Option, Some, inl, length, ap, sym, refl, arith}
 use Rattle.std.proofs.lemmas.Result.{IfOk-from_err}
 use Rattle.std.specs.Prelude.{option_map}
 use Rattle.csv.specs.Records.{fields_of}
@@ -13,12 +13,22 @@ use Rattle.rating.proofs.StopLemmas.{stopped_silent}
 use Rattle.rating.proofs.RateLemmas.{ends_same, ends_silent, long_header, no_columns, no_header, opened, over_printed, rows_may, stopped_ends, within_printed}
 use Rattle.rating.proofs.rating.rate_records.Goals as goal
 
+no_more : (long many most : ℕ) → long ≤ most → long ≡ many → many ≤ most
+no_more long many most within is = omega (arith, within, is)
+
+any_more : (long many most : ℕ) → most < long → long ≡ many → most < many
+any_more long many most over is = omega (arith, over, is)
+
+passed_known : {C R : Type 0} (passed : C → List ℕ → List ℕ) (remaining : R → Option (List ℕ)) (cursor start : C) (reader whole : R) (text : List ℕ)
+    → cursor ≡ start → reader ≡ whole → remaining whole ≡ Some text → option_map (passed cursor) (remaining reader) ≡ Some (passed start text)
+passed_known passed remaining cursor start reader whole text begins reads known = rw (begins, reads, known) refl
+
 pub returns-clause-ends : goal.returns-clause-ends
 returns-clause-ends g c = if_known (g.I.Read.remaining c.args.records) _ (λ text known.
     let has = at_known (option_map (passed_text (cut_cursor c.new.result)) (g.I.Read.remaining (reader_of c.new.result))) _ (cut_start MAX_SHOWN text)
-    (rw (c.new.ensures.cursor, c.new.ensures.reader, known) refl) c.new-rows.ensures in
+    (passed_known passed_text g.I.Read.remaining _ _ _ _ text c.new.ensures.cursor c.new.ensures.reader known) c.new-rows.ensures in
     let printed = rw (c.new-text.ensures.items, c.row-2.ensures) at c.in_ok-push_fields.ensures in
-    let small = within_printed _ _ printed (omega (arith, c.if-len-gt-MAX_SHOWN.false, c.len.ensures)) in
+    let small = within_printed _ _ printed (no_more _ _ _ c.if-len-gt-MAX_SHOWN.false (c.len.ensures ∙ c.push_fields.new.text.ok.0)) in
     let (below, is, left) = opened _ (wished_names c.args.ask.now.names) c.args.tariff.now text c.next_row.new.self c.in-Some.columns
     (rw c.if-not-branch.false at c.in_ok-next_row.ensures.takes (rows_of (cut_start MAX_SHOWN text)) has) small
     (rw c.row.ensures at (sym c.find.ensures ∙ c.in-Some.is)) in
@@ -30,7 +40,7 @@ returns-clause-ends g c = if_known (g.I.Read.remaining c.args.records) _ (λ tex
 pub returns-then-not-branch-clause-ends : goal.returns-then-not-branch-clause-ends
 returns-then-not-branch-clause-ends g c = if_known (g.I.Read.remaining c.args.records) _ (λ text known.
     let has = at_known (option_map (passed_text (cut_cursor c.new.result)) (g.I.Read.remaining (reader_of c.new.result))) _ (cut_start MAX_SHOWN text)
-    (rw (c.new.ensures.cursor, c.new.ensures.reader, known) refl) c.new-rows.ensures in (
+    (passed_known passed_text g.I.Read.remaining _ _ _ _ text c.new.ensures.cursor c.new.ensures.reader known) c.new-rows.ensures in (
       no_header (wished_names c.args.ask.now.names) c.args.tariff.now text
           (rw c.if-not-branch.true at c.in_ok-next_row.ensures.takes (rows_of (cut_start MAX_SHOWN text)) has),
       still_held (g.O.Write.contents c.args.output.now),
@@ -39,7 +49,7 @@ returns-then-not-branch-clause-ends g c = if_known (g.I.Read.remaining c.args.re
 pub returns-in_default-clause-ends : goal.returns-in_default-clause-ends
 returns-in_default-clause-ends g c = if_known (g.I.Read.remaining c.args.records) _ (λ text known.
     let has = at_known (option_map (passed_text (cut_cursor c.new.result)) (g.I.Read.remaining (reader_of c.new.result))) _ (cut_start MAX_SHOWN text)
-    (rw (c.new.ensures.cursor, c.new.ensures.reader, known) refl) c.new-rows.ensures in (
+    (passed_known passed_text g.I.Read.remaining _ _ _ _ text c.new.ensures.cursor c.new.ensures.reader known) c.new-rows.ensures in (
       no_columns _ (wished_names c.args.ask.now.names) c.args.tariff.now text c.next_row.new.self
           (rw c.if-not-branch.false at c.in_ok-next_row.ensures.takes (rows_of (cut_start MAX_SHOWN text)) has)
           (rw c.row.ensures at (sym c.find.ensures ∙ c.in_default.is)),
@@ -49,11 +59,11 @@ returns-in_default-clause-ends g c = if_known (g.I.Read.remaining c.args.records
 pub returns-then-len-gt-MAX_SHOWN-clause-ends : goal.returns-then-len-gt-MAX_SHOWN-clause-ends
 returns-then-len-gt-MAX_SHOWN-clause-ends g c = if_known (g.I.Read.remaining c.args.records) _ (λ text known.
     let has = at_known (option_map (passed_text (cut_cursor c.new.result)) (g.I.Read.remaining (reader_of c.new.result))) _ (cut_start MAX_SHOWN text)
-    (rw (c.new.ensures.cursor, c.new.ensures.reader, known) refl) c.new-rows.ensures in
+    (passed_known passed_text g.I.Read.remaining _ _ _ _ text c.new.ensures.cursor c.new.ensures.reader known) c.new-rows.ensures in
     let printed = rw (c.new-text.ensures.items, c.row-2.ensures) at c.in_ok-push_fields.ensures in (
       long_header _ (wished_names c.args.ask.now.names) c.args.tariff.now text c.next_row.new.self
           (rw c.if-not-branch.false at c.in_ok-next_row.ensures.takes (rows_of (cut_start MAX_SHOWN text)) has)
-          (over_printed _ _ printed (omega (arith, c.if-len-gt-MAX_SHOWN.true, c.len.ensures))),
+          (over_printed _ _ printed (any_more _ _ _ c.if-len-gt-MAX_SHOWN.true (c.len.ensures ∙ c.push_fields.new.text.ok.0))),
       still_held (g.O.Write.contents c.args.output.now),
     ))
 
