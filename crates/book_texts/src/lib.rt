@@ -26,5 +26,5 @@ mod wrong_row;
 pub use audit::{Audit, audit_books};
 pub use lines::{RunLines, run_lines};
 pub use replaying::replay;
-pub use size::{AuditAsk, BookSize, MAX_LONG_ROWS, MAX_ROWS};
+pub use size::{AuditAsk, BookSize, MAX_ROWS};
 pub use table::book_table;

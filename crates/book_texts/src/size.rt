@@ -1,10 +1,9 @@
 //! How a table of books is audited, and how long it may be.
 
+use table_core::MAX_TABLE_ROWS;
+
 /// The most rows of a short table of books, its header not counted.
 pub const MAX_ROWS: u32 = 1_000_000;
-
-/// The most rows of a long one, its header not counted: as many as a `table_core::Table` takes.
-pub const MAX_LONG_ROWS: u32 = 4_294_967_293;
 
 /// How a table of books is audited.
 #[derive(Clone, Copy)]
@@ -22,7 +21,7 @@ pub struct AuditAsk {
 pub enum BookSize {
     /// At most `MAX_ROWS` rows, 1,000,000.
     Short,
-    /// At most `MAX_LONG_ROWS` rows, as many as any table may have.
+    /// At most `table_core::MAX_TABLE_ROWS` rows, as many as any table may have.
     Long,
 }
 
@@ -36,7 +35,7 @@ impl BookSize {
     {
         match self {
             BookSize::Short => MAX_ROWS,
-            BookSize::Long => MAX_LONG_ROWS,
+            BookSize::Long => MAX_TABLE_ROWS,
         }
     }
 }

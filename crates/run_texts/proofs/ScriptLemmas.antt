@@ -7,6 +7,7 @@ use Rattle.std.proofs.lemmas.Bool.Decides.{nat_tests}
 use Rattle.std.proofs.lemmas.List.Elements.{All-push}
 use Rattle.std.proofs.lemmas.List.{map-append, reverse-append, reverse-reverse}
 use Rattle.std.proofs.lemmas.Bool.{and_parts}
+use Rattle.price_core.specs.declared.times.TheConstants.{MAX_MOMENT}
 use Rattle.run_texts.specs.Happenings.{RowData, Happens, Meets, Recharges, Starts, is_in_time}
 use Rattle.run_texts.specs.Scripts.{is_started, starts}
 use Rattle.run_texts.specs.ScriptsRead.{AreRowsOf, last_moment_of}
@@ -89,13 +90,13 @@ no_rows calls none = record {
 }
 
 pub row_more : (earlier : List RowData) (calls after : BTreeSet ℕ) (last : ℕ) (rows : List ScriptRow) (row : ScriptRow) → AreRowsOf earlier calls last rows → NotesStart (happens_of row.what) calls after
-    → row.at ≤ 1000000000000 → is_in_time (happens_of row.what) ≡ true → last ≤ row.at → AreRowsOf (row_data row ∷ earlier) after row.at (rows ++ row ∷ [])
+    → row.at ≤ MAX_MOMENT → is_in_time (happens_of row.what) ≡ true → last ≤ row.at → AreRowsOf (row_data row ∷ earlier) after row.at (rows ++ row ∷ [])
 row_more earlier calls after last rows row are notes in_range in_time in_turn = record {
   say = rw are.say (sym (earlier_more rows row));
   started = calls_more calls after (row_data row) earlier notes are.started;
   before = refl;
   ends = sym (end_more 0 rows row);
-  in_range = All-push (λ (row : ScriptRow). row.at ≤ 1000000000000) rows row are.in_range in_range;
+  in_range = All-push (λ (row : ScriptRow). row.at ≤ MAX_MOMENT) rows row are.in_range in_range;
   in_time = All-push (λ (row : ScriptRow). is_in_time (happens_of row.what) ≡ true) rows row are.in_time in_time;
   in_order = order_more 0 rows row are.in_order (rw are.ends at in_turn);
 }

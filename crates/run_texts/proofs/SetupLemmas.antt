@@ -9,10 +9,11 @@ use Rattle.run_texts.specs.ListedRows.{IsListingOf, ListsRow}
 use Rattle.run_texts.specs.Setups.{TableSetup, setup_row_at}
 use Rattle.run_texts.specs.Views.{setup_in}
 use Rattle.run_values.specs.Setups.{Listing}
+use Rattle.run_values.specs.declared.setup.TheConstants.{MAX_ACCOUNTS}
 
 -- what a row lists comes to what was listed before it
 pub row_listed : (before after : Listing) (rows : List Fields) (fields : Fields) (named : TableSetup) (listed : Result (Unit {0}) TakeFault) → IsListingOf rows named before
-    → ListsRow listed (setup_in after) (setup_row_at (setup_in before) fields) → OnOk listed (length after.accounts ≤ 1000)
+    → ListsRow listed (setup_in after) (setup_row_at (setup_in before) fields) → OnOk listed (length after.accounts ≤ MAX_ACCOUNTS)
     → OnOk listed (length after.accounts + length after.subscribers ≡ length before.accounts + length before.subscribers + 1)
     → TakesNextRow (λ named. IsListingOf (rows ++ fields ∷ []) named after) listed (setup_row_at named fields)
 row_listed before after rows fields named (Ok done) is means few count = (

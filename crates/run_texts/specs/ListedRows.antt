@@ -3,6 +3,7 @@ use Rattle.std.specs.Prelude.{◌≡◌, ◌≤◌, ◌+◌, List, length, Resul
 use Rattle.run_texts.specs.Setups.{TableSetup}
 use Rattle.run_texts.specs.Views.{setup_in}
 use Rattle.run_values.specs.Setups.{Listing}
+use Rattle.run_values.specs.declared.setup.TheConstants.{MAX_ACCOUNTS}
 use Rattle.table_core.specs.Rows.{Fields}
 use Rattle.table_core.specs.declared.fault.RowKind.{RowKind}
 use Rattle.table_core.specs.declared.fault.RowKind.TheVariants as kind
@@ -31,5 +32,5 @@ ListsRow (Err why) named meaning = RefusesRow why meaning
 -- a directory has what the rows name: one account or one subscriber a row, and no more accounts than a run may have
 pub record IsListingOf (rows : List Fields) (named : TableSetup) (directory : Listing) : Type 0 where
   pub is : named ≡ setup_in directory
-  pub few : length directory.accounts ≤ 1000
+  pub few : length directory.accounts ≤ MAX_ACCOUNTS
   pub count : length directory.accounts + length directory.subscribers ≡ length rows

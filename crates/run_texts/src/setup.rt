@@ -75,10 +75,10 @@ impl TakeRow for Setup {
 /// Lists what a row names.
 #[tactic(auto, unfolding(crate::specs::Setups::setup_row_at))]
 fn list_row(directory: &mut Directory, row: &ByteRecord) -> Result<(), TakeFault>
-    requires { length directory.old.accounts ≤ 1000 }
+    requires { length directory.old.accounts ≤ MAX_ACCOUNTS }
     ensures means { ListsRow result (setup_in directory.new)
         (setup_row_at (setup_in directory.old) (fields_of row.now)) }
-    ensures few { OnOk result (length directory.new.accounts ≤ 1000) }
+    ensures few { OnOk result (length directory.new.accounts ≤ MAX_ACCOUNTS) }
     ensures count { OnOk result (length directory.new.accounts + length directory.new.subscribers
         ≡ length directory.old.accounts + length directory.old.subscribers + 1) }
 {
@@ -92,10 +92,10 @@ fn list_row(directory: &mut Directory, row: &ByteRecord) -> Result<(), TakeFault
 }
 
 fn list_account(directory: &mut Directory, row: &ByteRecord) -> Result<(), TakeFault>
-    requires { length directory.old.accounts ≤ 1000 }
+    requires { length directory.old.accounts ≤ MAX_ACCOUNTS }
     ensures means { ListsRow result (setup_in directory.new)
         (account_row (setup_in directory.old) (fields_of row.now)) }
-    ensures few { OnOk result (length directory.new.accounts ≤ 1000) }
+    ensures few { OnOk result (length directory.new.accounts ≤ MAX_ACCOUNTS) }
     ensures count { OnOk result (length directory.new.accounts + length directory.new.subscribers
         ≡ length directory.old.accounts + length directory.old.subscribers + 1) }
 {
@@ -111,10 +111,10 @@ fn list_account(directory: &mut Directory, row: &ByteRecord) -> Result<(), TakeF
 }
 
 fn list_subscriber(directory: &mut Directory, row: &ByteRecord) -> Result<(), TakeFault>
-    requires { length directory.old.accounts ≤ 1000 }
+    requires { length directory.old.accounts ≤ MAX_ACCOUNTS }
     ensures means { ListsRow result (setup_in directory.new)
         (subscriber_row (setup_in directory.old) (fields_of row.now)) }
-    ensures few { OnOk result (length directory.new.accounts ≤ 1000) }
+    ensures few { OnOk result (length directory.new.accounts ≤ MAX_ACCOUNTS) }
     ensures count { OnOk result (length directory.new.accounts + length directory.new.subscribers
         ≡ length directory.old.accounts + length directory.old.subscribers + 1) }
 {

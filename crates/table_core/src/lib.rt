@@ -22,6 +22,6 @@ pub use fields::{
 };
 pub use optional_field::Field;
 pub use printed::{printed_decimals_are_read, printed_tables_are_read};
-pub use table::{Rows, Table};
+pub use table::{MAX_TABLE_ROWS, Rows, Table};
 pub use taking::{TakeFault, TakeRow, take_table};
 pub use writing::write_text;

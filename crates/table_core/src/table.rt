@@ -7,11 +7,16 @@ ghost use Rattle.table_core.specs.Tables.{headers_of, is_header, names_of};
 ghost use Rattle.table_core.specs.Faults.{IsOfReading};
 ghost use Rattle.csv.specs.Records.{fields_of};
 ghost use Rattle.table_core.specs.declared.fault.TableFault.TheVariants as out;
+ghost use Rattle.table_core.specs.declared.table.TheConstants.{MAX_TABLE_ROWS};
 
 use crate::{RowFault, RowKind, TableFault, has_word};
 use csv::{ByteRecord, ErrorKind, Reader, ReaderBuilder};
 use std::alloc::Global;
 use std::io::Read;
+
+/// The most rows that a table may have besides its header, so that the number of a row too many
+/// fits into 32 bits.
+pub const MAX_TABLE_ROWS: u32 = u32::MAX - 2;
 
 /// The rows of a table below its header, judged one after another: each has as many fields as the
 /// header, and there are no more of them than the table may have.
@@ -25,7 +30,7 @@ pub struct Table<R> {
     number: u32,
     fault: Option<TableFault>,
     ghost within: { number ≤ most_rows + 1 },
-    ghost counted: { most_rows ≤ 4294967293 },
+    ghost counted: { most_rows ≤ MAX_TABLE_ROWS },
 }
 
 // Written out, since a derived one is proved field by field again wherever a table is let go.
@@ -53,7 +58,7 @@ impl<R: Read + Drop> Table<R> {
         headers: &[&[&str]],
         most_rows: u32,
     ) -> Result<Table<R>, TableFault>
-        requires { most_rows ≤ 4294967293 }
+        requires { most_rows ≤ MAX_TABLE_ROWS }
         ensures opens { IfSome (R.remaining reader)
             (λ text. Opens R.remaining (headers_of headers.now) result (rows_of text)) }
         ensures first { IfOk result (IsAtFirst (headers_of headers.now) most_rows) }

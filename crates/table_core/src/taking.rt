@@ -6,7 +6,7 @@ ghost use Rattle.table_core.specs.Tables.{headers_of, table_form, table_of};
 ghost use Rattle.table_core.specs.Taking.{TakesTable};
 ghost use Rattle.table_core.specs.declared.taking.TakeFault.TheVariants as out;
 
-use crate::{RowKind, Table, TableFault};
+use crate::{MAX_TABLE_ROWS, RowKind, Table, TableFault};
 use csv::ByteRecord;
 use std::alloc::{AllocError, AllocFailed, Global};
 use std::io::Read;
@@ -87,7 +87,7 @@ pub fn take_table<I: Read + Drop, T: TakeRow>(
     most_rows: u32,
     taker: &mut T,
 ) -> Result<(), TableFault>
-    requires few { most_rows ≤ 4294967293 }
+    requires few { most_rows ≤ MAX_TABLE_ROWS }
     requires has { (terms : T.Terms) × (start : T.Made) × T.Has terms taker.old [] start }
     ensures taken { IfSome (I.remaining reader) (λ text. (terms : T.Terms) (start : T.Made)
         → T.Has terms taker.old [] start
