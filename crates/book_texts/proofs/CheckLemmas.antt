@@ -22,7 +22,7 @@ use Rattle.table_core.specs.declared.fault.RowFault.{RowFault}
 use Rattle.table_core.specs.declared.fault.RowKind.{RowKind}
 use Rattle.table_core.specs.declared.fault.TableFault.{TableFault}
 use Rattle.table_core.specs.declared.table.Table.{Table}
-use Rattle.table_core.proofs.Known.{map_known}
+use Rattle.table_core.proofs.Known.{both_known, map_known}
 use Rattle.book_texts.specs.Versions.{version_at}
 use Rattle.book_texts.specs.Audits.{AreVerdicts, GivesAuditOf, IsSaidOfBooks}
 use Rattle.book_texts.specs.BookRows.{Enters, Opens, RowSaid, columns_in, row_said_in}
@@ -188,10 +188,6 @@ module _ {R : Type 0} (most : ℕ) (remaining : R → Option (List ℕ)) where
     right_next (Ok (Opens account opening until)) is noted = opens_so account opening until (account_so_far account books) refl is noted
     right_next (Ok (Enters account entry)) is noted = enters_so account entry (account_so_far account books) refl is noted
     right_next (Err why) is noted = cc
-
-both_known : {X : Type 0} (known : Option X) (P Q : X → Type 0) → IfSome known P → IfSome known Q → IfSome known (λ x. P x × Q x)
-both_known None P Q one other = tt
-both_known (Some x) P Q one other = (one, other)
 
 module _ {R : Type 0} (most : ℕ) (remaining : R → Option (List ℕ)) (known : Option (List ℕ)) (table after : Table R) (books next : Books) where
   -- the same after a row

@@ -33,10 +33,12 @@ lines_more opening until limit h [] ask = append-nil (line_of_ask opening until 
 lines_more opening until limit h (first ∷ asks) ask =
     rw (lines_more opening until limit (history_after opening until limit h first) asks ask) (sym (append_assoc (line_of_ask opening until limit h first) _ _))
 
-pub none_replayed : (opening : ℕ) (until : Option ℕ) (limit : ℕ)
-    → IsReplayed opening until limit [] (record { opening = opening; until = until; limit = limit; history = [] }) []
+-- before the first ask
+pub none_replayed : (opening : ℕ) (until : Option ℕ) (limit : ℕ) (teller : Teller) (text : List ℕ) → IsTellerOf (record { opening = opening; until = until; limit = limit; history = [] }) teller → text ≡ []
+    → (ledger : Ledger) × IsTellerOf ledger teller × IsReplayed opening until limit text ledger []
 unfolding history_of replay_lines
-none_replayed opening until limit = record { opened = refl; lasting = refl; limited = refl; lines = refl; history = refl }
+none_replayed opening until limit teller text is none =
+    (record { opening = opening; until = until; limit = limit; history = [] }, is, record { opened = refl; lasting = refl; limited = refl; lines = sym none; history = refl })
 
 -- ---- one operation
 

@@ -78,8 +78,9 @@ rows_in_turn rows = reverse-reverse (map row_data rows)
 
 -- ---- a script, row after row
 
-pub no_rows : (calls : BTreeSet ℕ) → IsEmpty calls → AreRowsOf [] calls 0 []
-no_rows calls none = record {
+-- before the first row
+pub no_rows : (calls : BTreeSet ℕ) (rows : List ScriptRow) → IsEmpty calls → rows ≡ [] → AreRowsOf [] calls 0 rows
+no_rows calls rows none is = rw is (record {
   say = refl;
   started = λ call. rw none refl;
   before = refl;
@@ -87,7 +88,7 @@ no_rows calls none = record {
   in_range = λ k d below. absurd (omega (arith, below));
   in_time = λ k d below. absurd (omega (arith, below));
   in_order = refl;
-}
+})
 
 pub row_more : (earlier : List RowData) (calls after : BTreeSet ℕ) (last : ℕ) (rows : List ScriptRow) (row : ScriptRow) → AreRowsOf earlier calls last rows → NotesStart (happens_of row.what) calls after
     → row.at ≤ MAX_MOMENT → is_in_time (happens_of row.what) ≡ true → last ≤ row.at → AreRowsOf (row_data row ∷ earlier) after row.at (rows ++ row ∷ [])

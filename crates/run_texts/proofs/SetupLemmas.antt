@@ -24,5 +24,6 @@ row_listed before after rows fields named (Ok done) is means few count = (
 row_listed before after rows fields named (Err (out.Row kind)) is means few count = rw is.is means
 row_listed before after rows fields named (Err out.OutOfMemory) is means few count = tt
 
-pub nothing_named : IsListingOf [] (record { accounts = []; subscribers = [] }) (record { accounts = []; subscribers = [] })
-nothing_named = record { is = refl; few = omega arith; count = refl }
+-- before the first row
+pub nothing_named : (directory : Listing) → directory ≡ record { accounts = []; subscribers = [] } → IsListingOf [] (record { accounts = []; subscribers = [] }) directory
+nothing_named directory none = rw none (record { is = refl; few = omega arith; count = refl })

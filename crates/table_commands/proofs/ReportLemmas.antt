@@ -14,9 +14,10 @@ use Rattle.table_commands.specs.Reports.{AreInOrder, judged_report, last_times_a
 
 -- ---- one more report
 
-pub last_of_none : (last : Elapsed) → last_times_after last [] ≡ last
+-- before the first report
+pub none_reported : (plan : Rates) (times : List Elapsed) → times ≡ [] → (plan ≡ plan) × (times ≡ []) × (no_times ≡ last_times_after no_times [])
 unfolding last_times_after
-last_of_none last = refl
+none_reported plan times none = (refl, none, refl)
 
 pub last_more : (last : Elapsed) (reports : List Elapsed) (times : Elapsed) → last_times_after last (reports ++ times ∷ []) ≡ times
 unfolding last_times_after

@@ -5,7 +5,7 @@ use Rattle.std.specs.Prelude.{IfSome, IsErrAnd, ⊤, ok_or}
 use Rattle.std.proofs.lemmas.Bool.Decides.{nat_tests}
 use Rattle.csv.specs.Records.{fields_of}
 use Rattle.table_core.proofs.Known.{map_known}
-use Rattle.table_core.specs.Faults.{GivesTable, RefusesTable}
+use Rattle.table_core.specs.Faults.{RefusesTable}
 use Rattle.table_core.specs.Reading.{HasRows, IsAtFirst, IsNextRow, Opens, StepsRow, StepsBy, first_header}
 use Rattle.table_core.specs.Rows.{Fields, HasRowsLeft, rows_of}
 use Rattle.table_core.specs.Tables.{TableForm, below, own_fault, rows_from, table_of, then_rows, unless_own, which_header}
@@ -68,12 +68,6 @@ pub refuses : {S Y : Type 0} (form : TableForm S RowKind RowFault) → ((row : �
 refuses form plain next passes (fault.Row refused) meaning is = rw (is, plain refused.row refused.kind) (passes refused)
 refuses form plain next passes fault.Device meaning is = tt
 refuses form plain next passes fault.OutOfMemory meaning is = tt
-
--- a fault that a table's reader passes on is that of the meaning
-pub fault_says : {X Y : Type 0} (known : Option (List ℕ)) (view : X → Y) (answer : Result X TableFault) (why : TableFault) (P : List ℕ → Type 0) (meaning : List ℕ → Result Y RowFault)
-    → IsErrAnd answer (λ met. met ≡ why) → IfSome known P → ((text : List ℕ) → P text → RefusesTable why (meaning text)) → IfSome known (λ text. GivesTable view answer (meaning text))
-fault_says known view (Ok x) why P meaning met holds so = absurd met
-fault_says known view (Err other) why P meaning met holds so = map_known known P _ holds (λ text at. rw met (so text at))
 
 module _ {R S K F : Type 0} (form : TableForm S K F) (remaining : R → Option (List ℕ)) where
   -- what was read so far and what is read from the rows that are left are what is read from the table

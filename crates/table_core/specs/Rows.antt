@@ -1,5 +1,5 @@
 -- The rows of a text, and those that a reader of rows has left.
-use Rattle.std.specs.Prelude.{◌≡◌, ◌<◌, ℕ, Bool, true, false, List, [], ◌∷◌, length, Option, Some}
+use Rattle.std.specs.Prelude.{◌≡◌, ◌<◌, ℕ, Bool, true, false, List, [], ◌∷◌, drop, length, Option, Some}
 use Rattle.csv.specs.Machine.{ends_at_end}
 use Rattle.csv.specs.Reading.{Ready, default_config, records, records_from, source_of, strip_bom}
 use Rattle.csv.specs.Records.{fields_of}
@@ -13,6 +13,10 @@ Fields = List (List ℕ)
 -- the rows of a text, after a byte order mark at its start
 unfoldable pub rows_of : List ℕ → List Fields
 rows_of text = records default_config (strip_bom text)
+
+-- the rows of a table below its header
+abbrev pub rows_below_header : List Fields → List Fields
+rows_below_header rows = drop 1 rows
 
 -- the rows that are left to a reader of rows, where the bytes below are known
 pub record HasRowsLeft {R : Type 0} (remaining : R → Option (List ℕ)) (rows : Rows R) (left : List Fields) : Type 0 where

@@ -1,7 +1,7 @@
 //! What is made of the rows of a table, one after another.
 
 ghost use Rattle.std.specs.Prelude.{◌≡◌, ◌≤◌, [], List, length, IfSome, OnOk};
-ghost use Rattle.table_core.specs.Rows.{Fields, rows_of};
+ghost use Rattle.table_core.specs.Rows.{Fields, rows_below_header, rows_of};
 ghost use Rattle.table_core.specs.Tables.{headers_of, table_form, table_of};
 ghost use Rattle.table_core.specs.Taking.{TakesTable};
 ghost use Rattle.table_core.specs.declared.taking.TakeFault.TheVariants as out;
@@ -91,7 +91,7 @@ pub fn take_table<I: Read + Drop, T: TakeRow>(
     requires has { (terms : T.Terms) × (start : T.Made) × T.Has terms taker.old [] start }
     ensures taken { IfSome (I.remaining reader) (λ text. (terms : T.Terms) (start : T.Made)
         → T.Has terms taker.old [] start
-        → TakesTable (λ made. (rows : List Fields) × T.Has terms taker.new rows made) result
+        → TakesTable (T.Has terms taker.new (rows_below_header (rows_of text))) result
         (table_of (table_form (headers_of headers.now) most_rows start (T.judge terms))
         (rows_of text))) }
     ensures has { OnOk result ((terms : T.Terms) (start : T.Made)
