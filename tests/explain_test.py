@@ -284,7 +284,7 @@ def pause(process):
         process.send_signal(signal.SIGCONT)
 
 
-def on_terminal(program, words, text=None, pauses=False):
+def on_terminal(program, words, text=None, pauses=False, environment=None):
     """What a terminal shows of the error writer, where the input is a text, or else what is typed there: one Ctrl-D."""
     outer, inner = pty.openpty()
     shown = []
@@ -297,7 +297,7 @@ def on_terminal(program, words, text=None, pauses=False):
             pass
 
     stdin = subprocess.PIPE if text is not None else inner
-    with subprocess.Popen([program, *words.split()], stdin=stdin, stdout=subprocess.PIPE, stderr=inner) as it:
+    with subprocess.Popen([program, *words.split()], stdin=stdin, stdout=subprocess.PIPE, stderr=inner, env=environment) as it:
         os.close(inner)
         reader = threading.Thread(target=read)
         reader.start()

@@ -5,7 +5,8 @@ It refuses the Nth growth alone, and all growths from the Nth on, for N = 1, 2, 
 command (growths_commands.py), and to the public calls of crates/refused_growths, which no command makes or shows enough of.
 A refused growth ends in its fault, or the run goes on, and its trace says for which messages an account had no memory. Then
 all that the run comes to is what the model says of accounts that have none for just these. What a call of the crate comes
-to, its status says. Prints how many growths each has, and for how many messages an account had no memory in some try.
+to, its status says. Where a long run on a terminal runs out of memory, what was shown of it is taken away before the fault is
+said. Prints how many growths each has, and for how many messages an account had no memory in some try.
 """
 import argparse
 import os
@@ -14,10 +15,13 @@ import sys
 import tempfile
 from concurrent.futures import ThreadPoolExecutor
 
-from growths_commands import ROOT, Ended, commands, write
+from explain_test import SHOWN, TAKEN, long_input, on_terminal
+from growths_commands import OUT_OF_MEMORY, ROOT, Ended, commands, write
 
 CALLS = f"{ROOT}/crates/refused_growths/out/refused_growths"
 SECONDS = 20
+# The run on a terminal, and its name among the tries.
+LONG_RUN, ON_TERMINAL = "run --workers 1", "run-on-terminal"
 # Growths of threads come in any order, so it ends only where so many tries in turn had none refused.
 IDLE = 3
 
@@ -51,14 +55,18 @@ def calls():
     return {name: Call(name) for name in printed.split()}
 
 
+def refusing(shim, folder, form, number):
+    """The environment of a program to which growths are refused."""
+    return {**os.environ, f"REFUSE_{form}": str(number), "REFUSED_TO": f"{folder}/refused", "LD_PRELOAD": shim}
+
+
 def run(shim, program, words, folder, form, number):
     """Runs a program with growths refused."""
-    told = f"{folder}/refused"
-    write(told, b"0")
-    environment = {**os.environ, f"REFUSE_{form}": str(number), "REFUSED_TO": told, "LD_PRELOAD": shim}
+    environment = refusing(shim, folder, form, number)
+    write(environment["REFUSED_TO"], b"0")
     with open(f"{folder}/input", "rb") as text:
         ended = subprocess.run([program, *words], stdin=text, capture_output=True, env=environment, timeout=SECONDS)
-    with open(told, encoding="utf-8") as file:
+    with open(environment["REFUSED_TO"], encoding="utf-8") as file:
         return Ended(ended.returncode, ended.stdout, ended.stderr, int(file.read()))
 
 
@@ -86,19 +94,35 @@ def try_both(shim, program, name, it):
     return f"{name}: {most} growths" + f"; messages without memory: {len(it.refused)}" * bool(it.refused)
 
 
+def try_terminal(shim, program):
+    """What is found of a long run on a terminal to which all growths are refused from one on, late in the run."""
+    text, number = long_input(program)[0], 1
+    with tempfile.TemporaryDirectory() as folder:
+        write(f"{folder}/input", text.encode())
+        while run(shim, program, LONG_RUN.split(), folder, "FROM", 2 * number).status:
+            number *= 2
+        # There are as many growths as this and at most as many again, so this one is neither early nor at the end.
+        number = number * 3 // 4
+        shown, output, status = on_terminal(program, LONG_RUN, text, True, refusing(shim, folder, "FROM", number))
+    steps, taken, said = shown.partition(TAKEN)
+    if not steps or SHOWN.sub("", steps) or (taken + said, output, status) != (TAKEN + OUT_OF_MEMORY.decode(), "", 2):
+        raise Wrong(f"{ON_TERMINAL}: wrong with all growths from {number} on refused: {shown[-200:]!r} {status}")
+    return f"{ON_TERMINAL}: more than {number} growths"
+
+
 def main():
     asked = argparse.ArgumentParser(description=__doc__, formatter_class=argparse.RawDescriptionHelpFormatter)
     asked.add_argument("--program", default=f"{ROOT}/bin/prepaid")
     asked.add_argument("name", nargs="*")
     words = asked.parse_args()
     program, wrong = os.path.abspath(words.program), 0
-    tries = {name: (program, name, it) for name, it in commands(program).items()}
+    tries = {name: (try_both, program, name, it) for name, it in commands(program).items()} | {ON_TERMINAL: (try_terminal, program)}
     if not words.name or set(words.name) - set(tries):
-        tries |= {name: (CALLS, name, it) for name, it in calls().items()}
+        tries |= {name: (try_both, CALLS, name, it) for name, it in calls().items()}
     with tempfile.NamedTemporaryFile() as shim, ThreadPoolExecutor(len(os.sched_getaffinity(0))) as pool:
         source = f"{ROOT}/tests/refuse_growths.c"
         subprocess.run(["cc", "-shared", "-fPIC", "-O2", "-o", shim.name, source, "-ldl"], check=True)
-        for found in [pool.submit(try_both, shim.name, *tries[name]) for name in words.name or tries]:
+        for found in [pool.submit(it, shim.name, *of) for it, *of in (tries[name] for name in words.name or tries)]:
             try:
                 print(found.result(), flush=True)
             except Wrong as why:
