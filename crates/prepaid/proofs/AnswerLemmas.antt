@@ -231,7 +231,7 @@ run_added words text_of view (Some text) more (Err why) wish asked run said = tt
 run_added words text_of view (Some text) None (Ok x) wish asked run said = tt
 run_added words text_of view (Some text) (Some m) (Ok x) wish asked run said = record { wish = wish; asked = asked; run = run; said = said }
 
-none_said : {W : Type 0} (text_of : W → List ℕ) (more : Option W) → more ≡ None → option_map text_of more ≡ None
+pub none_said : {W : Type 0} (text_of : W → List ℕ) (more : Option W) → more ≡ None → option_map text_of more ≡ None
 none_said text_of more is = rw is refl
 
 answered_known : (words : List (List ℕ)) (known : Option (List ℕ)) (wish : Wish) → ((input : List ℕ) (answer : Result Printout Fault) → IsAnswerTo wish input answer → IfErr answer IsOfInput)

@@ -11,6 +11,7 @@ use Rattle.table_commands.specs.declared.fault.Fault.{Fault}
 use Rattle.table_commands.specs.declared.fault.Fault.TheVariants as fault
 use Rattle.prepaid.specs.Explanations.{IsSaidBehind}
 use Rattle.prepaid.specs.Faults.{of_files}
+use Rattle.prepaid.proofs.AnswerLemmas.{none_said}
 
 -- what is meant by an input, where its bytes mean this
 abbrev Means : (List ℕ → Result Printout Fault → Type 0) → List ℕ → Result Printout Fault → Type 0
@@ -69,9 +70,6 @@ said_over text_of None bytes more answer same said = tt
 said_over text_of (Some text) bytes more (Ok x) same said = tt
 said_over text_of (Some text) bytes None (Err why) same said = tt
 said_over text_of (Some text) bytes (Some m) (Err why) same said = subst (λ (t : List ℕ). IsSaidOfFault true t why (text_of m)) same said
-
-none_said : {W : Type 0} (text_of : W → List ℕ) (more : Option W) → more ≡ None → option_map text_of more ≡ None
-none_said text_of more is = rw is refl
 
 pub read_said : {W X : Type 0} (explaining : Bool) (text_of : W → List ℕ) (known : Option (List ℕ)) (bytes : List ℕ) (more : Option W) (answer : Result X Fault)
     → (explaining ≡ false → more ≡ None) → IfSome known (λ text. bytes ≡ text) → IfErr answer (λ why. IfSome more (λ said. IsSaidOfFault true bytes why (text_of said)))

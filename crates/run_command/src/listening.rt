@@ -12,8 +12,8 @@ use script_player::ScriptPlayer;
 use shared_account::Book;
 use std::alloc::{AllocError, Global};
 
-/// Plays a script, counts the refusals that the answers speak of, keeps the answers where a trace is
-/// to be printed of them, and shows how far it is.
+/// Plays a script, counts the refusals that the answers speak of, keeps the answers where a trace
+/// is to be printed of them, and shows how far it is.
 #[derive(Drop)]
 pub(crate) struct Listener<'w, W> {
     /// The player of the script.
