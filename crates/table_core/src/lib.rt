@@ -9,6 +9,7 @@
 
 mod fault;
 mod fields;
+mod laws;
 mod optional_field;
 mod printed;
 mod table;
@@ -20,6 +21,7 @@ pub use fields::{
     are_digits, decimal, field, has_word, is_blank, is_decimal, is_word, number, optional,
     write_digits,
 };
+pub use laws::limits_in_numbers;
 pub use optional_field::Field;
 pub use printed::{printed_decimals_are_read, printed_tables_are_read};
 pub use table::{MAX_TABLE_ROWS, Rows, Table};
