@@ -5,7 +5,7 @@ ghost use Rattle.run_texts.specs.FirstSections.{first_section};
 ghost use Rattle.table_commands.specs.Sections.{IsFirstSection, IsSection};
 
 use run_texts::{InputFault, read_section};
-use std::alloc::{AllocError, Global};
+use std::alloc::Global;
 
 /// Which section of an input a table is.
 #[derive(Clone, Copy)]
@@ -38,15 +38,15 @@ pub(crate) fn find_section(
     ensures { IfOk result (λ found. IsSection section input.now found.start found.text.items) }
 {
     match section {
-        Section::Whole => Ok(whole(alloc, input, input)?),
+        Section::Whole => whole(alloc, input, input),
         Section::First => front(alloc, input, input),
         Section::Second => front(alloc, input, behind(alloc, input)?),
-        Section::Third => Ok(whole(alloc, input, behind(alloc, behind(alloc, input)?)?)?),
+        Section::Third => whole(alloc, input, behind(alloc, behind(alloc, input)?)?),
     }
 }
 
 /// All of what is left of an input.
-fn whole(alloc: Global, input: &[u8], rest: &[u8]) -> Result<SectionText, AllocError>
+fn whole(alloc: Global, input: &[u8], rest: &[u8]) -> Result<SectionText, InputFault>
     ensures start { IfOk result (λ found. found.start ≡ length input.now - length rest.now) }
     ensures text { IfOk result (λ found. found.text.items ≡ rest.now) }
 {
