@@ -144,22 +144,7 @@ answers words wish input of_input (Err (fault.Run run.Thread)) asked is = record
 gives_one : {X : Type 0} (view : X → Printout) (result : Result X Fault) (meaning : Result Printout Fault) → GivesAnswer view result meaning
     → GivesOne (λ answer. meaning ≡ answer) (result_map_both view (λ why. why) result)
 gives_one view (Ok x) meaning gives = gives
-gives_one view (Err fault.Arguments) meaning gives = gives
-gives_one view (Err fault.Config) meaning gives = gives
-gives_one view (Err fault.TooLong) meaning gives = gives
-gives_one view (Err fault.Parts) meaning gives = gives
-gives_one view (Err (fault.Tariff row)) meaning gives = gives
-gives_one view (Err (fault.Table name row)) meaning gives = gives
-gives_one view (Err (fault.Log why)) meaning gives = gives
-gives_one view (Err (fault.LogRow row kind)) meaning gives = gives
-gives_one view (Err fault.Into) meaning gives = gives
-gives_one view (Err fault.Device) meaning gives = tt
-gives_one view (Err (fault.Run run.OutOfMemory)) meaning gives = tt
-gives_one view (Err (fault.Run run.Workers)) meaning gives = gives
-gives_one view (Err (fault.Run run.GateClosed)) meaning gives = gives
-gives_one view (Err (fault.Run run.Mismatch)) meaning gives = gives
-gives_one view (Err (fault.Run run.Channel)) meaning gives = gives
-gives_one view (Err (fault.Run run.Thread)) meaning gives = gives
+gives_one view (Err why) meaning gives = gives
 
 refused_words : (words : List (List ℕ)) (input : List ℕ) (why : WordsFault) → IsRead words (Err why) → IsAnswer words input (Err (of_words why))
 refused_words words input words_fault.Arguments is = is

@@ -1,10 +1,10 @@
 -- What a run makes of an input is what it makes of its bytes.
-use Rattle.std.proofs.Common.{◌≡◌, ℕ, Bool, true, false, List, Option, Some, None, Result, Ok, Err, refl, subst, sym}
-use Rattle.std.specs.Prelude.{IfErr, IfOk, IfSome, MatchResult, option_map, if◌then◌else◌}
+use Rattle.std.proofs.Common.{◌≡◌, ℕ, Bool, true, false, List, Option, Some, None, Result, Ok, Err, inl, inr, refl, subst, sym}
+use Rattle.std.specs.Prelude.{◌⊎◌, IfErr, IfOk, IfSome, MatchResult, option_map, if◌then◌else◌}
 use Rattle.std.specs.declared.io.ErrorKind.{ErrorKind}
 use Rattle.run_values.specs.declared.run_fault.RunFault.TheVariants as run
 use Rattle.table_commands.specs.Explanations.{IsSaidOfAnswer, IsSaidOfFault}
-use Rattle.table_commands.specs.Faults.{GivesOne, RefusesCommand}
+use Rattle.table_commands.specs.Faults.{GivesOne, RefusesCommand, UnlessMayAlwaysCome}
 use Rattle.table_commands.specs.Input.{is_out_of_memory, sized}
 use Rattle.table_commands.specs.Printouts.{Printout}
 use Rattle.table_commands.specs.declared.fault.Fault.{Fault}
@@ -17,43 +17,36 @@ use Rattle.prepaid.proofs.AnswerLemmas.{none_said}
 abbrev Means : (List ℕ → Result Printout Fault → Type 0) → List ℕ → Result Printout Fault → Type 0
 Means IsMeant input answer = MatchResult (sized input) (λ text. IsMeant text answer) (λ why. answer ≡ Err why)
 
+either_meant : {P Q : Type 0} → (P → Q) → Q ⊎ P → Q
+either_meant so (inl is) = is
+either_meant so (inr is) = so is
+
+-- what is so of a fault: itself, or what it follows from
+meant : {P Q : Type 0} (why : Fault) → (P → Q) → Q ⊎ UnlessMayAlwaysCome why P → UnlessMayAlwaysCome why Q
+meant fault.Arguments so is = either_meant so is
+meant fault.Config so is = either_meant so is
+meant fault.TooLong so is = either_meant so is
+meant fault.Parts so is = either_meant so is
+meant (fault.Tariff row) so is = either_meant so is
+meant (fault.Table name row) so is = either_meant so is
+meant (fault.Log why) so is = either_meant so is
+meant (fault.LogRow row kind) so is = either_meant so is
+meant fault.Into so is = either_meant so is
+meant fault.Device so is = tt
+meant (fault.Run run.OutOfMemory) so is = tt
+meant (fault.Run run.Workers) so is = either_meant so is
+meant (fault.Run run.GateClosed) so is = either_meant so is
+meant (fault.Run run.Mismatch) so is = either_meant so is
+meant (fault.Run run.Channel) so is = either_meant so is
+meant (fault.Run run.Thread) so is = either_meant so is
+
 -- an answer that is meant is given
 pub gives_meant : {Y : Type 0} (IsMeant : Result Y Fault → Type 0) (why : Fault) → IsMeant (Err why) → GivesOne IsMeant (Err why)
-gives_meant IsMeant fault.Arguments is = is
-gives_meant IsMeant fault.Config is = is
-gives_meant IsMeant fault.TooLong is = is
-gives_meant IsMeant fault.Parts is = is
-gives_meant IsMeant (fault.Tariff row) is = is
-gives_meant IsMeant (fault.Table name row) is = is
-gives_meant IsMeant (fault.Log why) is = is
-gives_meant IsMeant (fault.LogRow row kind) is = is
-gives_meant IsMeant fault.Into is = is
-gives_meant IsMeant fault.Device is = tt
-gives_meant IsMeant (fault.Run run.OutOfMemory) is = tt
-gives_meant IsMeant (fault.Run run.Workers) is = is
-gives_meant IsMeant (fault.Run run.GateClosed) is = is
-gives_meant IsMeant (fault.Run run.Mismatch) is = is
-gives_meant IsMeant (fault.Run run.Channel) is = is
-gives_meant IsMeant (fault.Run run.Thread) is = is
+gives_meant IsMeant why is = meant why (λ all. all) (inl is)
 
 -- a fault that the reading of an input gave is meant by it
 read_meant : (IsMeant : Result Printout Fault → Type 0) (read : Result (List ℕ) Fault) (why : Fault) → (read ≡ Err why → IsMeant (Err why)) → RefusesCommand why read → GivesOne IsMeant (Err why)
-read_meant IsMeant read fault.Device so is = tt
-read_meant IsMeant read (fault.Run run.OutOfMemory) so is = tt
-read_meant IsMeant read fault.Arguments so is = so is
-read_meant IsMeant read fault.Config so is = so is
-read_meant IsMeant read fault.TooLong so is = so is
-read_meant IsMeant read fault.Parts so is = so is
-read_meant IsMeant read (fault.Tariff row) so is = so is
-read_meant IsMeant read (fault.Table name row) so is = so is
-read_meant IsMeant read (fault.Log why) so is = so is
-read_meant IsMeant read (fault.LogRow row kind) so is = so is
-read_meant IsMeant read fault.Into so is = so is
-read_meant IsMeant read (fault.Run run.Workers) so is = so is
-read_meant IsMeant read (fault.Run run.GateClosed) so is = so is
-read_meant IsMeant read (fault.Run run.Mismatch) so is = so is
-read_meant IsMeant read (fault.Run run.Channel) so is = so is
-read_meant IsMeant read (fault.Run run.Thread) so is = so is
+read_meant IsMeant read why so is = meant why so (inr is)
 
 -- ---- an input that was read
 

@@ -1,5 +1,5 @@
 -- What the program answers to words and an input.
-use Rattle.std.specs.Prelude.{◌≡◌, ◌⊎◌, ◌++◌, ℕ, Bool, true, List, [], MatchResult, Option, Some, None, Result, Ok, Err, ⊤, IfErr, IfOk, IfSome, codes, false, unwrap_or}
+use Rattle.std.specs.Prelude.{◌≡◌, ◌⊎◌, ◌++◌, ℕ, Bool, true, List, [], MatchResult, Option, Some, None, Result, Ok, Err, IfErr, IfOk, IfSome, codes, false, unwrap_or}
 use Rattle.std.specs.Io.KnownBytes.{Appends, Keeps}
 use Rattle.std.specs.Result.{result_map_both}
 use Rattle.live_answers.specs.Inputs.{live_input_of}
@@ -17,9 +17,8 @@ use Rattle.run_command.specs.declared.error.RunError.{RunError}
 use Rattle.run_values.specs.Logs.{LogWish}
 use Rattle.run_values.specs.declared.live.LiveAsk.{LiveAsk}
 use Rattle.run_values.specs.declared.options.RunAsk.{RunAsk}
-use Rattle.run_values.specs.declared.run_fault.RunFault.TheVariants as run
 use Rattle.table_commands.specs.Answers.{IsAuditOfInput, IsQuoteOfInput, price_of_input, replay_of_input}
-use Rattle.table_commands.specs.Faults.{line_of_fault, status_of}
+use Rattle.table_commands.specs.Faults.{UnlessMayAlwaysCome, line_of_fault, status_of}
 use Rattle.table_commands.specs.Input.{sized}
 use Rattle.table_commands.specs.Outputs.{IsSaidOfOutput}
 use Rattle.table_commands.specs.Printouts.{Printout, status_of_printout}
@@ -74,9 +73,7 @@ IsAnswer words input (Ok printout) =
     ((AsksHelp words ⊎ AsksVersion words) × (printout.passes ≡ true)) ⊎ AskForAnswer words input (Ok printout)
 IsAnswer words input (Err fault.Arguments) = AsksNothing words
 IsAnswer words input (Err fault.Config) = AsksInVain words words_fault.Config
-IsAnswer words input (Err fault.Device) = ⊤
-IsAnswer words input (Err (fault.Run run.OutOfMemory)) = ⊤
-IsAnswer words input (Err why) = AskForAnswer words input (Err why)
+IsAnswer words input (Err why) = UnlessMayAlwaysCome why (AskForAnswer words input (Err why))
 
 -- a text went to the output whole, at its status, and behind it the line about refusals and what is said besides to the error writer, or where that failed a front of these
 pub record IsPrinted (printout : Printout) (more : List ℕ) (status : ℕ) (old new : Written) : Type 0 where

@@ -5,7 +5,7 @@ use Rattle.std.specs.declared.io.ErrorKind.{ErrorKind}
 use Rattle.std.proofs.lemmas.Bool.Decides.{nat_tests}
 use Rattle.std.proofs.lemmas.List.{take_all}
 use Rattle.run_values.specs.declared.run_fault.RunFault.TheVariants as run
-use Rattle.table_commands.specs.Faults.{FaultMayAlwaysCome, RefusesCommand}
+use Rattle.table_commands.specs.Faults.{RefusesCommand, UnlessMayAlwaysCome}
 use Rattle.table_commands.specs.Input.{failed_input, is_out_of_memory, sized}
 use Rattle.table_commands.specs.declared.fault.Fault.{Fault}
 use Rattle.table_commands.specs.declared.fault.Fault.TheVariants as fault
@@ -36,29 +36,10 @@ same_bytes (Some text) bytes read short =
     let count : length bytes ≡ min 16777217 (length text) = ap length read ∙ length-take 16777217 text in
     read ∙ take_all 16777217 text (omega arith)
 
--- a fault that may always come may come at any meaning
-pub run_fault : {Y : Type 0} (why : Fault) (meaning : Result Y Fault) → FaultMayAlwaysCome why → RefusesCommand why meaning
-run_fault fault.Arguments meaning is = absurd is
-run_fault fault.Config meaning is = absurd is
-run_fault fault.TooLong meaning is = absurd is
-run_fault fault.Parts meaning is = absurd is
-run_fault (fault.Tariff row) meaning is = absurd is
-run_fault (fault.Table name row) meaning is = absurd is
-run_fault (fault.Log why) meaning is = absurd is
-run_fault (fault.LogRow row kind) meaning is = absurd is
-run_fault fault.Into meaning is = absurd is
-run_fault fault.Device meaning is = tt
-run_fault (fault.Run run.OutOfMemory) meaning is = tt
-run_fault (fault.Run run.Workers) meaning is = absurd is
-run_fault (fault.Run run.GateClosed) meaning is = absurd is
-run_fault (fault.Run run.Mismatch) meaning is = absurd is
-run_fault (fault.Run run.Channel) meaning is = absurd is
-run_fault (fault.Run run.Thread) meaning is = absurd is
-
-either_may_come : (is : Bool) → FaultMayAlwaysCome (if is then fault.Run run.OutOfMemory else fault.Device)
-either_may_come true = tt
-either_may_come false = tt
-
 -- what says that an input failed may come at any input
-pub failed_may_come : (why : ErrorKind) (ending : Fault) → ending ≡ failed_input why → FaultMayAlwaysCome ending
-failed_may_come why ending is = rw is (either_may_come (is_out_of_memory why))
+failed_by : (fact : Type 0) (out : Bool) → UnlessMayAlwaysCome (if out then fault.Run run.OutOfMemory else fault.Device) fact
+failed_by fact true = tt
+failed_by fact false = tt
+
+pub failed_may_come : {Y : Type 0} (why : ErrorKind) (ending : Fault) (meaning : Result Y Fault) → ending ≡ failed_input why → RefusesCommand ending meaning
+failed_may_come why ending meaning is = rw is (failed_by _ (is_out_of_memory why))

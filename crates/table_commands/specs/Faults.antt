@@ -97,17 +97,15 @@ abbrev pub meaning_of_section : {X : Type 0} → Result X InputFault → Result 
 meaning_of_section (Ok x) = Ok x
 meaning_of_section (Err why) = Err (of_run_input why)
 
--- the input may fail, and memory run out, at any words and any input
-abbrev pub FaultMayAlwaysCome : Fault → Type 0
-FaultMayAlwaysCome fault.Device = ⊤
-FaultMayAlwaysCome (fault.Run run.OutOfMemory) = ⊤
-FaultMayAlwaysCome _ = ⊥
+-- this is so of a fault, unless it may come at any words and any input: the input failed, or memory ran out
+abbrev pub UnlessMayAlwaysCome : Fault → Type 0 → Type 0
+UnlessMayAlwaysCome fault.Device fact = ⊤
+UnlessMayAlwaysCome (fault.Run run.OutOfMemory) fact = ⊤
+UnlessMayAlwaysCome _ fact = fact
 
--- a fault of the words or of the input is what these mean, but for one that may always come
+-- a fault is what the words and the input mean, unless it may always come
 abbrev pub RefusesCommand : {Y : Type 0} → Fault → Result Y Fault → Type 0
-RefusesCommand fault.Device meaning = ⊤
-RefusesCommand (fault.Run run.OutOfMemory) meaning = ⊤
-RefusesCommand why meaning = meaning ≡ Err why
+RefusesCommand why meaning = UnlessMayAlwaysCome why (meaning ≡ Err why)
 
 -- an answer, seen by `view`, is what is meant
 abbrev pub GivesAnswer : {X Y : Type 0} → (X → Y) → Result X Fault → Result Y Fault → Type 0
@@ -117,6 +115,4 @@ GivesAnswer view (Err why) meaning = RefusesCommand why meaning
 -- an answer is one of those that are meant
 abbrev pub GivesOne : {Y : Type 0} → (Result Y Fault → Type 0) → Result Y Fault → Type 0
 GivesOne IsMeant (Ok x) = IsMeant (Ok x)
-GivesOne IsMeant (Err fault.Device) = ⊤
-GivesOne IsMeant (Err (fault.Run run.OutOfMemory)) = ⊤
-GivesOne IsMeant (Err why) = IsMeant (Err why)
+GivesOne IsMeant (Err why) = UnlessMayAlwaysCome why (IsMeant (Err why))

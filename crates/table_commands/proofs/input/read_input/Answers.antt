@@ -1,6 +1,6 @@
 use Rattle.std.proofs.Common.{◌≡◌, ◌≤◌, length, arith}
 use Rattle.std.specs.IoError.{error_kind}
-use Rattle.table_commands.proofs.InputLemmas.{failed_may_come, fits, run_fault, same_bytes}
+use Rattle.table_commands.proofs.InputLemmas.{failed_may_come, fits, same_bytes}
 use Rattle.table_core.proofs.Known.{if_known}
 use Rattle.table_commands.specs.Faults.{RefusesCommand}
 use Rattle.table_commands.specs.Input.{sized}
@@ -18,4 +18,4 @@ returns-in-Ok-2 g c =
 
 pub returns-in-Err-clause-read : goal.returns-in-Err-clause-read
 returns-in-Err-clause-read g c = if_known (g.I.Read.remaining c.args.input) (λ text. RefusesCommand c.fault_of.result (sized text)) (λ text known.
-    run_fault c.fault_of.result (sized text) (failed_may_come (error_kind c.in-Err.error) c.fault_of.result c.fault_of.ensures.exact))
+    failed_may_come (error_kind c.in-Err.error) c.fault_of.result (sized text) c.fault_of.ensures.exact)
