@@ -21,7 +21,7 @@ either_meant : {P Q : Type 0} → (P → Q) → Q ⊎ P → Q
 either_meant so (inl is) = is
 either_meant so (inr is) = so is
 
--- what is so of a fault: itself, or what it follows from
+-- a fact about a fault: it is so, or it follows from one that is so unless the fault may always come
 meant : {P Q : Type 0} (why : Fault) → (P → Q) → Q ⊎ UnlessMayAlwaysCome why P → UnlessMayAlwaysCome why Q
 meant fault.Arguments so is = either_meant so is
 meant fault.Config so is = either_meant so is
