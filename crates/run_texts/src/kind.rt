@@ -21,7 +21,7 @@ impl fmt::Display for LineKind {
     fn fmt<W: fmt::Write>(&self, f: &mut fmt::Formatter<W>) -> fmt::Result {
         match self {
             LineKind::TooLong => f.write_str("TooLong"),
-            LineKind::Row(kind) => write!(f, "{kind}"),
+            LineKind::Row(kind) => kind.fmt(f),
         }
     }
 }

@@ -86,7 +86,7 @@ impl fmt::Display for TableFault {
 
     fn fmt<W: fmt::Write>(&self, f: &mut fmt::Formatter<W>) -> fmt::Result {
         match self {
-            TableFault::Row(fault) => write!(f, "{fault}"),
+            TableFault::Row(fault) => fault.fmt(f),
             TableFault::Device => f.write_str("the reader failed"),
             TableFault::OutOfMemory => f.write_str("out of memory"),
         }

@@ -25,8 +25,8 @@ impl fmt::Display for Field {
 
     fn fmt<W: fmt::Write>(&self, f: &mut fmt::Formatter<W>) -> fmt::Result {
         match self.0 {
-            Some(number) => write!(f, "{number}"),
-            None => f.write_str(""),
+            Some(number) => number.fmt(f),
+            None => Ok(()),
         }
     }
 }

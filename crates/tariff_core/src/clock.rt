@@ -25,7 +25,7 @@ impl fmt::Display for MomentField {
 
     fn fmt<W: fmt::Write>(&self, f: &mut fmt::Formatter<W>) -> fmt::Result {
         let Some(at) = self.1 else {
-            return f.write_str("");
+            return Ok(());
         };
         let day = match self.0 {
             Clock::Digits => None,
@@ -37,7 +37,7 @@ impl fmt::Display for MomentField {
                 let (minutes, seconds) = (TimeOfDay(time), Seconds(time));
                 write!(f, "{day}T{minutes}:{seconds}")
             }
-            None => write!(f, "{at}"),
+            None => at.fmt(f),
         }
     }
 }
