@@ -17,4 +17,4 @@ pub use error::RunError;
 pub use running::run;
 pub use strangers::stranger_calls;
 pub use tables::run_tables;
-pub use watching::{Progress, Unwatched, Watch};
+pub use watching::{Progress, Watch};

@@ -60,20 +60,6 @@ pub trait Watch {
     fn clear(&self);
 }
 
-/// Nobody watches.
-#[derive(Clone, Copy)]
-pub struct Unwatched;
-
-impl Watch for Unwatched {
-    fn time(&self) -> Option<Duration> {
-        None
-    }
-
-    fn show(&self, _progress: Progress) {}
-
-    fn clear(&self) {}
-}
-
 /// Who watches a run, when it is shown first how far it is, if at all, and which of its parts.
 #[derive(Drop)]
 pub(crate) struct Watching<'w, W> {

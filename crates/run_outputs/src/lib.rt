@@ -39,4 +39,4 @@ pub use recording::records;
 pub use refusals::Refusals;
 pub use refused_lines::refused_line;
 pub use tables::{RunTables, clock_of};
-pub use unplaced::{UnplacedEvent, by_call, events_by_call, events_of};
+pub use unplaced::UnplacedEvent;

@@ -7,10 +7,8 @@ ghost use Rattle.run_values.specs.declared.options.RunOutput.{RunOutput};
 ghost use Rattle.run_outputs.specs.Kept.{AreKept, IsMergedText, IsPartsText, KeepsBooks, KeepsCalls, KeepsOwn, KeepsPart, PartSaid, PrintsParts, joined_parts, own_books, with_part};
 ghost use Rattle.run_outputs.specs.Texts.{run_said_of};
 
-use crate::{
-    CallRecord, Firsts, Played, Ran, Refusals, UnplacedEvent, by_call, call_table, events_of,
-    records,
-};
+use crate::unplaced::{UnplacedEvent, by_call, events_of};
+use crate::{CallRecord, Firsts, Played, Ran, Refusals, call_table, records};
 use book_texts::{RunLines, book_table};
 use run_values::{Body, RunOutput, RunSetup};
 use shared_account::Book;

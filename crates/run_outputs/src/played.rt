@@ -5,7 +5,8 @@ ghost use Rattle.book_texts.specs.Typed.{IsTyped};
 ghost use Rattle.run_outputs.specs.Texts.{IsTextOf, run_of};
 ghost use Rattle.run_outputs.specs.Unplaced.{AreByCall, events_in_rows};
 
-use crate::{Refusals, UnplacedEvent, call_table, events_by_call, records};
+use crate::unplaced::{UnplacedEvent, events_by_call};
+use crate::{Refusals, call_table, records};
 use book_texts::{book_table, run_lines};
 use run_texts::{ScriptRow, trace_table};
 use run_values::{Answer, Body, RunOutput, RunSetup};

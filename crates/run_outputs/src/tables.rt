@@ -5,7 +5,8 @@ ghost use Rattle.book_texts.specs.Typed.{IsTyped};
 ghost use Rattle.run_outputs.specs.Texts.{AreTextsOf, clock_of, run_of, tables_said};
 ghost use Rattle.run_outputs.specs.Unplaced.{AreByCall, events_in_rows};
 
-use crate::{Played, Refusals, UnplacedEvent, events_by_call};
+use crate::unplaced::{UnplacedEvent, events_by_call};
+use crate::{Played, Refusals};
 use run_values::{RunOutput, RunSetup};
 use std::alloc::{AllocError, Global};
 use tariff_core::Clock;
