@@ -47,7 +47,8 @@ picture: report
 TREE = $(shell git rev-parse HEAD) $(if $(shell git status --porcelain),changed,clean)
 
 # Looks whether each edit fits its file, compares the page of definitions with their comments and the names on the page
-# of proofs with the code, proves everything from nothing, and runs the tests and the programs. Then, several at once:
+# of proofs with the code, looks whether each lemma is used, proves everything from nothing, and runs the tests and the
+# programs. Then, several at once:
 # tries the edits of the gate, what tries edits, and what make proves; holds the words of the man page and the
 # completions against the formats, runs the program over worked rows and the commands of the pages as they are, makes
 # packages and uses them, compares reports with their tables, runs in parts with whole ones and the files of a run with

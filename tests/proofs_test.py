@@ -1,13 +1,15 @@
 #!/usr/bin/env python3
-"""Looks whether docs/PROOFS.md names what there is: tests/proofs_test.py
+"""Looks whether docs/PROOFS.md names what there is, and whether each lemma is used: tests/proofs_test.py
 
 Each name in backquotes is a name of the code, of specs, proofs or tests. Where a function, a type or a record is in
-front of a colon, what is behind it are its own clauses or fields; where a clause is, they are definitions.
+front of a colon, what is behind it are its own clauses or fields; where a clause is, they are definitions. What specs
+or proofs define is named somewhere else too, besides what only brings it into a file.
 """
 import glob
 import os
 import re
 import sys
+from collections import Counter
 
 from definitions import DEFINED, lines_of
 
@@ -19,6 +21,10 @@ WORD = re.compile(r"[A-Za-z_]\w*")
 OWNER = re.compile(r"(?:pub(?:\(crate\))? )?(?:impl(?:<.*?>)? (?:[\w<>:', ]+ for )?|trait |struct |enum )(\w+)")
 FUNCTION = re.compile(r"\s*(?:pub(?:\(crate\))? )?fn (\w+)")
 CLAUSE = re.compile(r"\s*(?:ensures|requires) (\w+) \{|\s*(?:pub )?ghost (\w+)(?: =|:)")
+# What names nothing that it uses: comments, and what is brought into a file.
+BROUGHT = re.compile(r"--.*|^ *(?:pub )?use .*|^ *ghost use [^;]*;", re.MULTILINE)
+LEMMA = re.compile(r"^((?:  (?=pub))?)(?:abbrev )?(?:pub )?([A-Za-z_][\w'-]*) :(?: |$)", re.MULTILINE)
+LEMMA_NAME = re.compile(r"[A-Za-z_][\w'-]*")
 
 
 def files(crate, folder):
@@ -82,12 +88,25 @@ def wrong_clauses(line, crate, of_crate, defined):
                 yield f"{name} of {crate} has no {other}"
 
 
+def unused_lemmas(crates):
+    """The lemmas and definitions that nothing names but their own types and equations."""
+    paths = [it for crate in crates for folder in ("src", "specs", "proofs") for it in files(crate, folder)]
+    texts = {path: BROUGHT.sub("", "\n".join(lines_of(path))) for path in paths}
+    named = Counter(name for text in texts.values() for name in LEMMA_NAME.findall(text))
+    for path, text in texts.items():
+        for indent, name in LEMMA.findall(text) if path.endswith(".antt") else []:
+            equations = len(re.findall(rf"^{indent}{re.escape(name)}(?= |$)(?! :)", text, re.MULTILINE))
+            # A field of a record has no equation, and may be there to be read.
+            if equations and named[name] == 1 + equations:
+                yield f"{path}: nothing uses {name}"
+
+
 def main():
     crates = sorted(os.listdir("crates"))
     of_crate = {crate: (clauses(crate), definitions(crate)) for crate in crates}
     defined = {name for _, records in of_crate.values() for name in records}
     names = names_there_are(crates)
-    faults, count, crate = [], 0, ""
+    faults, count, crate = [*unused_lemmas(crates)], 0, ""
     for number, line in enumerate(lines_of(PAGE), 1):
         if section := SECTION.match(line):
             crate = section[1]

@@ -1,6 +1,6 @@
 -- What is known of the call that is asked for is enough for the reply: that to a Credit needs nothing of a call.
 use Rattle.std.proofs.Common.{◌≡◌, ℕ, ◌+◌, ◌≤◌, Option, List, refl, sym, ap, ◌∙◌, arith, subst}
-use Rattle.account_core.specs.Asked.{Asked, Credits, Reserves, Returns, Settles, call_of}
+use Rattle.account_core.specs.Asked.{Asked, Credits, Reserves, Returns, Settles, call_of, IsOfCall}
 use Rattle.account_core.specs.Available.{available}
 use Rattle.account_core.specs.Entries.{EntryData}
 use Rattle.account_core.specs.Known.{CallFacts, known, known_asked, nothing_known, taken_of}
@@ -59,3 +59,10 @@ module _ (h : List EntryData) where
     money_asked opening credit sound credit_is =
         let P : CallFacts → Type 0 = λ k. credit + taken_of k ≤ 1000000000000000 in
         subst P (sym call_is) (omega (arith, credit_is, money_alike opening asked sound))
+
+-- what is asked of a call has that call
+pub asked_call : (call : ℕ) (asked : Asked) → IsOfCall call asked → call_of asked ≡ call
+asked_call call (Credits amount moment) is = absurd is
+asked_call call (Reserves other plan wanted least at) is = is
+asked_call call (Settles other number info) is = is
+asked_call call (Returns other) is = is

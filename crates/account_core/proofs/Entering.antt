@@ -244,12 +244,6 @@ credit_rests (Reserves call plan wanted least at) response is = absurd is
 credit_rests (Settles call number info) response is = absurd is
 credit_rests (Returns call) response is = absurd is
 
-pub credit_needs : (h : List EntryData) (asked : Asked) → IsCredit asked → needed h asked ≡ 1
-credit_needs h (Credits amount moment) is = refl
-credit_needs h (Reserves call plan wanted least at) is = absurd is
-credit_needs h (Settles call number info) is = absurd is
-credit_needs h (Returns call) is = absurd is
-
 pub owed_resting : (h : List EntryData) (entry : EntryData) → its_deed entry ≡ Rests → owed (entry ∷ h) ≡ owed h
 owed_resting h entry rests =
     let same : owed_to (known_after (known (its_call entry) h) (its_deed entry)) ≡ owed_to (known (its_call entry) h) = ap (λ d. owed_to (known_after (known (its_call entry) h) d)) rests in
@@ -291,9 +285,6 @@ module _ (opening : ℕ) (until : Option ℕ) (limit : ℕ) (h : List EntryData)
   placed_known =
       let P : CallFacts → Type 0 = λ k. misplaced k entry.asked ≡ None in
       subst P (sym before_its) (in_place h entry.asked (admitted limit h entry.asked open_yet).0).1
-
-  pub needs_known : needed_by before entry.asked ≡ needed h entry.asked
-  needs_known = ap (λ k. needed_by k entry.asked) before_its
 
   pub room_known : AnswersFit opening until h → GrantsWithinDay before (its_deed entry)
   room_known fitting =

@@ -69,9 +69,6 @@ money_within opening h c sound =
 
 -- ---- the answers in closed form
 
-an_entry : Asked → Reply → EntryData
-an_entry asked response = record { seat = 0; asked = asked; reply = response }
-
 module _ (opening : ℕ) (until : Option ℕ) (h : List EntryData) (sound : IsSoundPast opening h) where
   credit_by : (fits : Bool) (amount : ℕ) (moment : Option ℕ)
       → showing (available opening (record { seat = 0; asked = Credits amount moment; reply = if fits then reply.Credited 0 else reply.CreditOver 0 } ∷ h)) (if fits then reply.Credited 0 else reply.CreditOver 0)

@@ -33,9 +33,6 @@ kept_new opening until limit entries teller none is =
     record { teller_is = subst P (sym none) (subst L (sym is.limit_is) is); room = omega (arith, is.counted, is.owed_are, nothing_owed_yet) }
 
 module _ (a : Inside) (ledger : Ledger) (view_is : shown a ≡ ledger) (kept : IsKeptTeller (shown a) a.teller (vec_capacity a.entries)) where
-  pub teller_of : IsTellerOf ledger a.teller
-  teller_of = let P : Ledger → Type 0 = λ l. IsTellerOf l a.teller in subst P view_is kept.teller_is
-
   module _ (admitted : Admitted) (is_admitted : IsAdmitted ledger admitted) where
     pub admits : Admits (shown a) a.teller admitted
     admits =

@@ -1,5 +1,5 @@
 -- What is kept of a legal history is kept as legal entries are added to it.
-use Rattle.std.proofs.Common.{◌≡◌, ℕ, ◌+◌, ◌≤◌, Option, Some, None, List, [], ◌∷◌, sym, ap, ◌∙◌, refl, arith}
+use Rattle.std.proofs.Common.{◌≡◌, ℕ, ◌+◌, ◌≤◌, Option, None, List, [], ◌∷◌, sym, ap, ◌∙◌, refl, arith}
 use Rattle.std.specs.Prelude.{◌≢◌, Err, Ok, Result}
 use Rattle.account_core.specs.Answers.{IsAnswered, answer, inadmissible, inadmissible_for, shown_by}
 use Rattle.account_core.specs.Available.{credited}
@@ -61,11 +61,6 @@ module _ (opening : ℕ) (until : Option ℕ) (h : List EntryData) (entry : Entr
   response_legal sounds fits none reply reply_is same =
       let admissible : inadmissible h entry.asked ≡ None = sym admissible_is ∙ none in
       record { admissible = admissible; answered = sym same ∙ response_answer sounds fits admissible reply reply_is }
-
-  -- the fault by what is kept is what the account answers, and so is a reply by it that isn't the entry's
-  pub refused_response : (why : AccountFault) → Some why ≡ inadmissible_for call entry.asked → IsWrong opening until h entry (Err why)
-  refused_response why why_is =
-      record { is_response = sym (ap (λ found. response_of found (answer opening until h entry.asked)) (sym admissible_is ∙ sym why_is)); differs = λ same. cc }
 
   pub replied_response : LegalPastsAreSound → SoundPastsAnswer → inadmissible_for call entry.asked ≡ None
       → (reply : Reply) → reply ≡ reply_for credit funds last call entry.asked → reply ≢ entry.reply → IsWrong opening until h entry (Ok reply)

@@ -60,9 +60,6 @@ any_false false false c d is = refl
 some_units : (n : ℕ) → (n == 0) ≡ false → 1 ≤ n
 some_units n is = grind (arith, nat_tests)
 
-pub credits_by : ℕ → ℕ → Bool → ℕ
-credits_by opening amount fits = if fits then amount else 0
-
 credited_if : (fits : Bool) (amount : ℕ) (moment : Option ℕ) → credited (Credits amount moment) (if fits then reply.Credited 0 else reply.CreditOver 0) ≡ (if fits then amount else 0)
 credited_if true amount moment = refl
 credited_if false amount moment = refl

@@ -64,8 +64,8 @@ pub(crate) fn legal_pasts_are_sound()
     tariff_laws();
 }
 
-/// The laws of the tariff, as the proofs of this crate take them.
-fn tariff_laws()
+/// The laws of the tariff that accounts rest on.
+pub fn tariff_laws()
     ensures { TariffLaws }
 {
     ceiling_is_greatest();

@@ -32,7 +32,7 @@ pub use history_check::HistoryCheck;
 pub use laws::{
     accounts_have_no_gate, answers_fit_their_operations, closed_calls_pay_the_tariff,
     entries_are_in_range, limits_in_numbers, no_balance_is_negative, nothing_is_granted_late,
-    places_go_with_entries, settles_keep_the_credit,
+    places_go_with_entries, settles_keep_the_credit, tariff_laws,
 };
 pub use limits::{MAX_LIMIT, MIN_LIMIT};
 pub use teller::Teller;

@@ -48,10 +48,6 @@ abbrev pub Ascend : ℕ → Books → Type 0
 Ascend least [] = Unit {0}
 Ascend least (book ∷ books) = (least ≤ book.0) × Ascend (book.0 + 1) books
 
-lower : (low high : ℕ) (books : Books) → low ≤ high → Ascend high books → Ascend low books
-lower low high [] less ascend = tt
-lower low high (book ∷ books) less ascend = (omega (arith, less, ascend.0), ascend.1)
-
 is_less : (number key : ℕ) → nat_cmp number key ≡ order.Less → number + 1 ≤ key
 is_less number key less = grind (arith, nat_tests)
 

@@ -1,5 +1,5 @@
 -- The lines of calls: from the summaries of books, one after another, to their order.
-use Rattle.std.proofs.Common.{◌≡◌, ◌==◌, ◌&&◌, if◌then◌else◌, ℕ, ◌+◌, ◌<◌, Bool, true, false, not, cond, Option, Some, List, [], ◌∷◌, ◌++◌, length, get_or, map, take, reverse, refl, sym, ap, ◌∙◌, arith}
+use Rattle.std.proofs.Common.{◌≡◌, ◌==◌, ◌&&◌, if◌then◌else◌, ℕ, ◌+◌, Bool, true, false, not, cond, Option, Some, List, [], ◌∷◌, ◌++◌, map, reverse, refl, sym, ap, ◌∙◌, arith}
 use Rattle.std.proofs.lemmas.Bool.Decides.{nat_tests}
 use Rattle.std.proofs.lemmas.List.Elements.{filter-append, filter_agree, filter_map-append}
 use Rattle.std.specs.List.{AllByRecursion, cons_option, filter, filter_map}
@@ -11,7 +11,6 @@ use Rattle.account_core.specs.Sums.{AreSums, sum_in}
 use Rattle.account_core.specs.declared.call_sum.CallSum.{CallSum}
 use Rattle.account_core.specs.declared.call_sum.Fate.TheVariants as fate
 use Rattle.shared_account.specs.Closed.{Closed}
-use Rattle.book_texts.proofs.TextLemmas.{next_item}
 use Rattle.book_texts.specs.RunTexts.{line_in, call_line_of, call_lines_of}
 use Rattle.book_texts.specs.declared.lines.CallLine.{CallLine}
 
@@ -51,7 +50,7 @@ calls_more before book lines sums are so_far call =
     let here = sum_listed book.account call sums are.rising ∙ ap (λ sum. cons_option (option_map (call_line_of book.account) sum) []) (are.each call) in
     rw (filter_map-append (line_in call) before (book ∷ []), filter-append, so_far call, here) refl
 
-is_tie : (call other : ℕ) → other == call ≡ not (is_lt (nat_cmp call other)) && not (is_lt (nat_cmp other call))
+pub is_tie : (call other : ℕ) → other == call ≡ not (is_lt (nat_cmp call other)) && not (is_lt (nat_cmp other call))
 is_tie call other = grind (arith, nat_tests)
 
 -- a stable sort leaves the lines of each call as they were

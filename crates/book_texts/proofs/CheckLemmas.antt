@@ -7,6 +7,7 @@ use Rattle.std.specs.Ordering.{match_ordering}
 use Rattle.std.specs.Prelude.{⊤, IfSome, IsErrAnd, is_some}
 use Rattle.std.specs.declared.cmp.Ordering.{Ordering}
 use Rattle.std.specs.declared.cmp.Ordering.TheVariants as order
+use Rattle.std.proofs.lemmas.Option.{IfSome_then}
 use Rattle.account_core.specs.Answers.{IsAnswered, IsLegal}
 use Rattle.account_core.specs.Checked.{IsCheckOf}
 use Rattle.account_core.specs.Entries.{EntryData}
@@ -22,12 +23,12 @@ use Rattle.table_core.specs.declared.fault.RowFault.{RowFault}
 use Rattle.table_core.specs.declared.fault.RowKind.{RowKind}
 use Rattle.table_core.specs.declared.fault.TableFault.{TableFault}
 use Rattle.table_core.specs.declared.table.Table.{Table}
-use Rattle.table_core.proofs.Known.{both_known, map_known}
+use Rattle.table_core.proofs.Known.{both_known}
 use Rattle.book_texts.specs.Versions.{version_at}
 use Rattle.book_texts.specs.Audits.{AreVerdicts, GivesAuditOf, IsSaidOfBooks}
 use Rattle.book_texts.specs.BookRows.{Enters, Opens, RowSaid, columns_in, row_said_in}
 use Rattle.book_texts.specs.Books.{Books, Booked, books_form, books_headers, books_of, entered_in_books, judged_books, opened, book_row_at, account_so_far, books_with_entry, with_opening}
-use Rattle.book_texts.specs.Checks.{AreChecks, AreNoted, HaveVerdicts, Comes, GivesChecks, HaveChecks, HearsBy, IsOrdered, HasItsVerdict, ListComes, NotesEntry, audited_by, checks_by_account, verdicts_of, wrong_of}
+use Rattle.book_texts.specs.Checks.{AreChecks, AreNoted, HaveVerdicts, Comes, GivesChecks, HaveChecks, HearsBy, HasItsVerdict, NotesEntry, audited_by, verdicts_of, wrong_of}
 use Rattle.book_texts.specs.declared.account_checks.AccountChecks.{AccountChecks}
 use Rattle.book_texts.specs.declared.audit.Audit.{Audit}
 use Rattle.book_texts.specs.declared.audit.Checked.{Checked}
@@ -128,20 +129,12 @@ pub row_refused : (before : Books) (meaning : Result Books RowKind) (checks : Ac
 row_refused before (Ok next) checks kind never = absurd never
 row_refused before (Err why) checks kind is = ap (λ k. Err k) (sym is.0)
 
--- where the checks of a list or a map are those after a row, and they are in order
-pub list_comes : (before : Books) (refused : Option RowKind) (meaning : Result Books RowKind) (checks : AccountChecks) → ListComes before refused meaning (checks_by_account checks) → IsOrdered checks
-    → Comes before refused meaning checks
-list_comes before None (Ok books) checks are ordered = (are, ordered)
-list_comes before None (Err why) checks are ordered = are
-list_comes before (Some kind) (Ok books) checks are ordered = are
-list_comes before (Some kind) (Err why) checks are ordered = (are.0, (are.1, ordered))
-
 -- a fault that the table's reader passes on is that of the meaning
 pub fault_booked : (most : ℕ) (known : Option (List ℕ)) (answer : Result Checked TableFault) (why : TableFault) (P : List ℕ → Type 0) (meaning : List ℕ → Result Books RowFault)
     → IsErrAnd answer (λ met. met ≡ why) → IfSome known P → ((text : List ℕ) → P text → RefusesTable why (meaning text))
     → IfSome known (λ text. GivesChecks most (rows_of text) answer (meaning text))
 fault_booked most known (Ok checked) why P meaning met holds so = absurd met
-fault_booked most known (Err other) why P meaning met holds so = map_known known P _ holds (λ text at. rw met (so text at))
+fault_booked most known (Err other) why P meaning met holds so = IfSome_then known holds (λ text at. rw met (so text at))
 
 -- an entry was heard, by what the check says of it
 pub heard_by : (booked : Booked) (entry : EntryData) (wrong : Option (Result Reply AccountFault))
@@ -165,7 +158,7 @@ module _ {R : Type 0} (most : ℕ) (remaining : R → Option (List ℕ)) where
   pub right_at_first : (table : Table R) (known : Option (List ℕ)) → table.number ≡ 1 → IfSome known (λ text. OpensTable remaining books_headers (Ok table) (rows_of text))
       → IfSome known (AreRightSoFar table [] [])
   right_at_first table known number opens =
-      map_known known _ _ opens (λ text opened.
+      IfSome_then known opens (λ text opened.
       let above = at_first (books_form most) remaining table text number opened in (above, none_wrong (above.first ∷ above.rows)))
 
   module _ (number : ℕ) (rows : List Fields) (more : Fields) (books next : Books) (before after : List (ℕ × WrongRow)) (number_is : number ≡ length rows + 1)
@@ -196,7 +189,7 @@ module _ {R : Type 0} (most : ℕ) (remaining : R → Option (List ℕ)) (known 
       → AreNoted after.number books (row_said_in (columns_in (version_at table.header) (fields_of after.rows.row))) wrongs now
       → IfSome known (AreRightSoFar most remaining table books wrongs) → IfSome known (AreRightSoFar most remaining after next now)
   unfolding book_row_at
-  right_so_far wrongs now most_rows moves steps is noted right = map_known known _ _ right (λ text (above, are).
+  right_so_far wrongs now most_rows moves steps is noted right = IfSome_then known right (λ text (above, are).
       let fields = fields_of after.rows.row in
       let (further, first_is, rows_are) = next_above (books_form most) remaining table after books next text most_rows moves steps is above in
       let so_far = above_is (books_form most) remaining table books text above in
@@ -210,7 +203,7 @@ module _ {R : Type 0} (most : ℕ) (remaining : R → Option (List ℕ)) (known 
   pub checks_given : (checks : List (ℕ × HistoryCheck)) (wrongs : List (ℕ × WrongRow)) (checked : Checked) → IfSome known (λ text. books_of most (rows_of text) ≡ Ok books)
       → StepsRow remaining table after (Ok false) → checked.checks.items ≡ checks → AreChecks books checks → IfSome known (AreRightSoFar most remaining table books wrongs)
       → checked.wrongs ≡ wrongs → IfSome known (λ text. GivesChecks most (rows_of text) (Ok checked) (books_of most (rows_of text)))
-  checks_given checks wrongs checked whole steps same are right kept = map_known known _ _ (both_known known _ _ whole right) (λ text (is, (above, holds)).
+  checks_given checks wrongs checked whole steps same are right kept = IfSome_then known (both_known known _ _ whole right) (λ text (is, (above, holds)).
       let none = steps above.left above.has in
       let rows_are : rows_of text ≡ above.first ∷ above.rows = above.rows_are ∙ ap (λ l. above.first ∷ (above.rows ++ l)) none ∙ ap (λ l. above.first ∷ l) (append-nil above.rows) in
       rw is (record { checks = rw same are; wrongs = rw (rows_are, kept) holds }))

@@ -3,15 +3,13 @@ use Rattle.std.proofs.Common.{◌≡◌, ◌<◌, ◌+◌, ℕ, List, [], ◌∷
 use Rattle.std.proofs.lemmas.List.{append-nil}
 use Rattle.std.proofs.lemmas.List.Concat.{flat_map-append}
 use Rattle.std.proofs.lemmas.List.Elements.{filter-append, filter_map-append}
-use Rattle.std.specs.List.{filter_map, flat_map}
 use Rattle.account_core.specs.Available.{available}
 use Rattle.account_core.specs.Sums.{AreSums}
 use Rattle.account_core.specs.declared.call_sum.CallSum.{CallSum}
 use Rattle.shared_account.specs.Closed.{Closed}
 use Rattle.book_texts.proofs.CallLemmas.{calls_more}
 use Rattle.book_texts.proofs.TextLemmas.{next_item}
-use Rattle.book_texts.specs.RunTexts.{AreLinesOf, LinesSaid, account_line, account_text, line_in, call_line_of, call_lines_of}
-use Rattle.book_texts.specs.declared.lines.CallLine.{CallLine}
+use Rattle.book_texts.specs.RunTexts.{AreLinesOf, LinesSaid, account_line, account_text, line_in, call_line_of}
 
 -- the lines of one more book, from its summary
 one_more : (before : List Closed) (book : Closed) (old new : LinesSaid) (account opening credit entries : ℕ) (sums : List CallSum)

@@ -1,15 +1,12 @@
 -- One more book among the texts so far.
-use Rattle.std.proofs.Common.{◌≡◌, ℕ, ◌+◌, ◌<◌, List, [], ◌∷◌, ◌++◌, length, get_or, map, take, refl, reverse, sym, ap, ◌∙◌, append_assoc, subst}
+use Rattle.std.proofs.Common.{◌≡◌, ℕ, ◌+◌, ◌<◌, List, [], ◌∷◌, ◌++◌, length, get_or, map, take, refl, sym, ap, ◌∙◌, append_assoc, subst}
 use Rattle.std.proofs.lemmas.List.{append-nil, take_more}
 use Rattle.std.proofs.lemmas.List.Concat.{flat_map-append}
 use Rattle.std.proofs.lemmas.List.Elements.{All-more}
 use Rattle.std.specs.List.{All, flat_map, list_any}
-use Rattle.account_core.specs.Available.{available}
 use Rattle.account_core.specs.Entries.{asked_of, entry_data}
 use Rattle.account_core.specs.declared.entry.Entry.{Entry}
-use Rattle.shared_account.specs.Closed.{Closed}
 use Rattle.book_texts.specs.BookTexts.{asks_steps, history_has_steps}
-use Rattle.book_texts.specs.RunTexts.{account_line, account_text}
 
 -- the next item of a list
 pub next_item : {X : Type 0} (items : List X) (i : ℕ) (item : X) → i < length items → item ≡ get_or items i item

@@ -22,9 +22,6 @@ abbrev with_entry : Booked → EntryData → Booked
 with_entry booked entry = record booked { history = booked.history ++ entry ∷ [] }
 
 module _ (booked : Booked) (entry : EntryData) where
-  legal_is : IsLegal booked.opening booked.until (booked.history ++ entry ∷ []) ≡ IsLegalPast booked.opening booked.until (entry ∷ reverse booked.history)
-  legal_is = ap (IsLegalPast booked.opening booked.until) (reverse-append booked.history (entry ∷ []))
-
   still_legal : IsLegal booked.opening booked.until booked.history → IsAnswered booked.opening booked.until (reverse booked.history) entry
       → IsLegal booked.opening booked.until (booked.history ++ entry ∷ [])
   still_legal legal answered = rw (reverse-append booked.history (entry ∷ [])) (legal, answered)

@@ -1,7 +1,8 @@
 -- Armings, taken one by one.
-use Rattle.std.proofs.Common.{◌≡◌, ◌<◌, ◌≤◌, ◌+◌, ℕ, List, [], ◌∷◌, Option, Some, None, Result, Ok, Err, length, get_or, drop, sym, ap, ◌∙◌, refl, add-one, drop-cons, arith}
+use Rattle.std.proofs.Common.{◌≡◌, ◌<◌, ◌≤◌, ◌+◌, ℕ, List, [], ◌∷◌, Option, Some, None, Ok, Err, length, get_or, drop, sym, ap, ◌∙◌, refl, arith}
 use Rattle.std.proofs.Math.Seq.{drop-length}
 use Rattle.std.specs.Option.{option_or}
+use Rattle.std.proofs.lemmas.List.{drop_more}
 use Rattle.cap_values.specs.Armings.{mode_asked_at, first_fault, fault_or, arming_fault, mode_for, point_of}
 use Rattle.cap_values.specs.Arms.{arm_at, arms_of}
 use Rattle.cap_values.specs.declared.arming.Arming.{Arming}
@@ -12,21 +13,17 @@ use Rattle.cap_values.specs.declared.fault.ValueFault.{ValueFault}
 use Rattle.cap_values.specs.declared.leg.Leg.TheVariants.{One, Two}
 use Rattle.cap_values.specs.declared.mode.Mode.{Mode}
 
--- the armings that are left begin with the one at this place
-at_place : (armings : List Arming) (i : ℕ) (d : Arming) → i < length armings → drop i armings ≡ get_or armings i d ∷ drop (i + 1) armings
-at_place armings i d lt = drop-cons armings i d lt ∙ ap (λ n. get_or armings i d ∷ drop n armings) (sym (add-one i))
-
 -- an arming with a point leaves the fault to those after it
 pub taken_fault : (armings : List Arming) (i : ℕ) (d : Arming) (p : Point) → i < length armings → point_of (get_or armings i d) ≡ Ok p
     → first_fault armings ≡ first_fault (drop i armings) → first_fault armings ≡ first_fault (drop (i + 1) armings)
 taken_fault armings i d p lt named so_far =
-    so_far ∙ ap first_fault (at_place armings i d lt) ∙ ap (λ q. fault_or q (first_fault (drop (i + 1) armings))) named
+    so_far ∙ ap first_fault (drop_more armings i d lt) ∙ ap (λ q. fault_or q (first_fault (drop (i + 1) armings))) named
 
 -- an arming with a fault decides
 pub refused_fault : (armings : List Arming) (i : ℕ) (d : Arming) (fault : ValueFault) → i < length armings → point_of (get_or armings i d) ≡ Err fault
     → first_fault armings ≡ first_fault (drop i armings) → Some fault ≡ first_fault armings
 refused_fault armings i d fault lt named so_far =
-    sym (so_far ∙ ap first_fault (at_place armings i d lt) ∙ ap (λ q. fault_or q (first_fault (drop (i + 1) armings))) named)
+    sym (so_far ∙ ap first_fault (drop_more armings i d lt) ∙ ap (λ q. fault_or q (first_fault (drop (i + 1) armings))) named)
 
 -- where armings were given, the first fault among them counts
 pub given_fault : (armings : List Arming) → 0 < length armings → arming_fault armings ≡ first_fault armings
@@ -46,7 +43,7 @@ taken_modes armings i d p arms arms' lt named armed so_far q =
     let later = mode_for q (drop (i + 1) armings) in
     let mode = (get_or armings i d).mode in
     so_far q
-    ∙ ap (λ l. option_or (mode_for q l) (arm_at arms q)) (at_place armings i d lt)
+    ∙ ap (λ l. option_or (mode_for q l) (arm_at arms q)) (drop_more armings i d lt)
     ∙ ap (λ n. option_or (option_or later (mode_asked_at q n mode)) (arm_at arms q)) named
     ∙ option_or-assoc later (mode_asked_at q (Ok p) mode) (arm_at arms q)
     ∙ ap (option_or later) (sym (armed q))

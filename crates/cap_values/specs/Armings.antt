@@ -1,5 +1,5 @@
 -- How armings are judged, and what they say of a point.
-use Rattle.std.specs.Prelude.{◌==◌, ℕ, Bool, true, false, Option, Some, None, Result, Ok, Err, List, [], ◌∷◌, if◌then◌else◌}
+use Rattle.std.specs.Prelude.{◌==◌, Bool, true, false, Option, Some, None, Result, Ok, Err, List, [], ◌∷◌, if◌then◌else◌}
 use Rattle.std.specs.Option.{option_or}
 use Rattle.cap_values.specs.Codes.{leg_code}
 use Rattle.cap_values.specs.declared.arming.Arming.{Arming}

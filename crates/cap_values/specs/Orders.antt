@@ -1,5 +1,5 @@
 -- Operations as plain data, which definitions can write down.
-use Rattle.std.specs.Prelude.{◌+◌, ℕ, Bool, Option, List, [], ◌∷◌}
+use Rattle.std.specs.Prelude.{ℕ, Bool, Option, List, [], ◌∷◌}
 use Rattle.cap_values.specs.declared.arms.Arms.{Arms}
 use Rattle.cap_values.specs.declared.instructions.Instructions.{Instructions}
 use Rattle.cap_values.specs.declared.instructions.Instructions.TheVariants as instructions

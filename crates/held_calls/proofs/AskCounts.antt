@@ -9,7 +9,7 @@ use Rattle.cap_values.specs.declared.message.SsfMsg.{SsfMsg}
 use Rattle.cap_values.specs.declared.message.SsfMsg.TheVariants as msg
 use Rattle.cap_values.specs.declared.mode.Mode.{Mode}
 use Rattle.cap_values.specs.Orders.{Pay}
-use Rattle.dialogue_core.specs.Phases.{Conditions, Phase, Says, Sequel, FirstAsk, Running, Settling, MoreAsk, Returning, Ending, Closed, Asks, Sends, Finished}
+use Rattle.dialogue_core.specs.Phases.{Conditions, Phase, Sequel, FirstAsk, Running, Settling, MoreAsk, Returning, Ending, Closed, Sends}
 use Rattle.dialogue_core.specs.Phases as phase
 use Rattle.held_calls.specs.Dialogues.{Exchange, Input, IsDialogueRun, Message, Answer, Refusal, is_grant_input, is_over, returns_asked, returns_in, settles_in, settles_since_grant, step, was_granted}
 use Rattle.dialogue_core.specs.Rules.{Step, are_units, on_begin, ending, says_first_period, first_reply, going_on, more_reply, on_reply, event_reported, while_running, sequel}

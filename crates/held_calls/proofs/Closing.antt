@@ -11,7 +11,7 @@ use Rattle.account_core.specs.declared.fault.AccountFault.{AccountFault}
 use Rattle.cap_values.specs.declared.message.SsfMsg.{SsfMsg}
 use Rattle.cap_values.specs.declared.message.SsfMsg.TheVariants as msg
 use Rattle.dialogue_core.specs.Phases as phase
-use Rattle.dialogue_core.specs.Phases.{Conditions, Phase, Says, Sequel, Running, Settling, Returning, Asks}
+use Rattle.dialogue_core.specs.Phases.{Phase, Says, Sequel, Running, Settling, Returning, Asks}
 use Rattle.dialogue_core.specs.Rules.{on_message}
 use Rattle.dialogue_core.specs.Talks.{Got, after_got, is_ask, talked}
 use Rattle.held_calls.proofs.Holding.{AreKept, IsKept, first_kept, kept_all}

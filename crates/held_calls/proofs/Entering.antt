@@ -1,9 +1,10 @@
 -- The recharges of a worker are entered, each once, or refused.
-use Rattle.std.proofs.Common.{◌≡◌, ◌<◌, ◌++◌, ◌∙◌, ℕ, zero, suc, Bool, true, false, Option, Some, None, Ok, Err, List, [], ◌∷◌, length, map, refl, sym, ap, subst, arith, append-nil, get_or}
+use Rattle.std.proofs.Common.{◌≡◌, ◌<◌, ◌++◌, ◌∙◌, ℕ, zero, suc, true, false, Option, Some, None, Ok, Err, List, [], ◌∷◌, length, map, refl, sym, ap, subst, arith, append-nil, get_or}
 use Rattle.std.specs.Prelude.{◌==◌, slice_index_or}
 use Rattle.std.specs.Map.{keys_of}
 use Rattle.std.proofs.lemmas.Bool.Decides.{nat_tests}
 use Rattle.std.proofs.lemmas.List.{append_assoc}
+use Rattle.std.proofs.lemmas.Bool.{false_from_ne_true}
 use Rattle.account_core.specs.Asked.{Credits}
 use Rattle.account_core.specs.Entries.{EntryData}
 use Rattle.account_core.specs.declared.fault.AccountFault.{AccountFault}
@@ -69,10 +70,6 @@ others_money : (account other amount : ℕ) (until : Option ℕ) (refusal : Opti
 others_money account other amount until None is = rw is refl
 others_money account other amount until (Some fault) is = refl
 
-differs : (b : Bool) → (b ≡ true → ⊥) → b ≡ false
-differs true not = absurd (not refl)
-differs false not = refl
-
 -- two accounts at one place are one
 same_place : (setup : Setup) (account other place : ℕ) → place_of account setup ≡ Some place → place_of other setup ≡ Some place → (other == account) ≡ true
 same_place setup account other place its others =
@@ -95,13 +92,13 @@ recharge_adds : (setup : Setup) (numbers : List ℕ) (account other place amount
     → credits_of (slice_index_or new.lists place []) ≡ credits_of (slice_index_or old.lists place []) ++ credited_by account (Recharge other amount until) refusal
 recharge_adds setup numbers account other place amount at until None refusal old new t within its found refused done =
     let not : (other == account) ≡ true → ⊥ = λ same. let one = same_number other account same in let P : ℕ → Type 0 = λ n. place_of n setup ≡ None in let none = subst P one found in absurd (cc) in
-    rw (done.lists, others_money account other amount until refusal (differs (other == account) not)) (sym (append-nil (credits_of (slice_index_or old.lists place []))))
+    rw (done.lists, others_money account other amount until refusal (false_from_ne_true (other == account) not)) (sym (append-nil (credits_of (slice_index_or old.lists place []))))
 recharge_adds setup numbers account other place amount at until (Some there) refusal old new t within its found refused done =
     rw done.lists
     (read_grown (λ (e : EntryData). credited_in e.asked) old.lists there place (entry_of (slice_index_or numbers there 0) (Asks (Credits amount until)) done.got)
     (credited_by account (Recharge other amount until) refusal) (λ here. omega (arith, here, within))
     (λ here. its_money account other amount until (slice_index_or numbers there 0) refusal done.got (same_place setup account other place its (found ∙ ap Some here)) (sym refused ∙ done.refused))
-    (λ elsewhere. others_money account other amount until refusal (differs (other == account) (λ same. elsewhere (one_place setup account other there place its found same)))))
+    (λ elsewhere. others_money account other amount until refusal (false_from_ne_true (other == account) (λ same. elsewhere (one_place setup account other there place its found same)))))
 
 -- ---- a post, and all posts
 

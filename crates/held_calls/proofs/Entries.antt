@@ -5,6 +5,8 @@ use Rattle.std.proofs.lemmas.Bool.{eq-eqb}
 use Rattle.std.proofs.lemmas.Bool.Decides.{nat_tests}
 use Rattle.std.proofs.lemmas.List.{reverse-append}
 use Rattle.std.proofs.lemmas.List.Elements.{filter-append}
+use Rattle.account_core.proofs.Moves.{known_here}
+use Rattle.account_core.proofs.Asking.{asked_call}
 use Rattle.account_core.specs.Asked.{Asked, Credits, IsOfCall, Reserves, Returns, Settles, call_of}
 use Rattle.account_core.specs.Entries.{EntryData}
 use Rattle.account_core.specs.Known.{CallFacts, deed_of, known, known_after}
@@ -15,7 +17,6 @@ use Rattle.held_calls.specs.Dialogues.{IsHonest}
 use Rattle.dialogue_core.specs.Talks.{Got, after_got, is_ask, talked}
 use Rattle.held_calls.proofs.Rules.{Stands, facts_after, got_stands}
 use Rattle.held_calls.specs.Held.{entries_at, facts_at}
-use Rattle.shared_account.proofs.Knowing.{known_here}
 use Rattle.shared_account.proofs.Owning.{known_alike}
 use Rattle.shared_account.specs.Own.{asks_of_call, of_call}
 use Rattle.runs_core.proofs.OwnCalls.{SaysOf}
@@ -29,12 +30,6 @@ abbrev pub IsHonestEntry : EntryData → Type 0
 IsHonestEntry entry = IsHonest entry.asked entry.reply
 
 -- ---- the call of an entry
-
-asks_call : (call : ℕ) (asked : Asked) → IsOfCall call asked → call_of asked ≡ call
-asks_call call (Credits amount until) of = absurd of
-asks_call call (Reserves other plan wanted least at) of = of
-asks_call call (Settles other number info) of = of
-asks_call call (Returns other) of = of
 
 of_this : (call : ℕ) (asked : Asked) → IsOfCall call asked → asks_of_call call asked ≡ true
 of_this call (Credits amount until) of = absurd of
@@ -120,7 +115,7 @@ known_next call h seat asked reply is =
 facts_next : (call seat : ℕ) (mine : List EntryData) (asked : Asked) (got : Got) → IsOfCall call asked
     → known call (reverse (mine ++ entry_of seat (Asks asked) got)) ≡ facts_after (known call (reverse mine)) asked got
 facts_next call seat mine asked (Ok reply) of =
-    ap (known call) (reverse-append mine (entry_by seat asked reply ∷ [])) ∙ known_next call (reverse mine) seat asked reply (asks_call call asked of)
+    ap (known call) (reverse-append mine (entry_by seat asked reply ∷ [])) ∙ known_next call (reverse mine) seat asked reply (asked_call call asked of)
 facts_next call seat mine asked (Err fault) of = ap (λ l. known call (reverse l)) (append-nil mine)
 
 step_stands : (call seat : ℕ) (mine : List EntryData) (said : Says) (phase : Phase) (got : Got) → SaysOf call said → is_ask said ≡ true → Stands (known call (reverse mine)) (said, phase)

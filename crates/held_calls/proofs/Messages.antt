@@ -2,6 +2,7 @@
 use Rattle.std.proofs.Common.{All, ◌≡◌, ◌<◌, ◌++◌, ◌∙◌, ℕ, Bool, true, false, Option, Some, None, Ok, Err, List, [], ◌∷◌, length, refl, sym, ap, subst, append-nil}
 use Rattle.std.specs.Map.{keys_of}
 use Rattle.std.specs.Prelude.{◌==◌, if◌then◌else◌, slice_index_or}
+use Rattle.std.proofs.lemmas.Bool.{not_from_false}
 use Rattle.account_core.specs.Asked.{Returns, Settles}
 use Rattle.account_core.specs.Entries.{EntryData}
 use Rattle.account_core.specs.declared.entry.Reply.TheVariants.{Granted, Denied}
@@ -18,7 +19,7 @@ use Rattle.held_calls.proofs.ReturnedOnce.{sequel_to}
 use Rattle.held_calls.proofs.Entries.{IsHonestEntry}
 use Rattle.held_calls.proofs.Holding.{AreKept, IsBound, IsKept, apart_from, begins_bound, goes_bound, same_lists, talk_said}
 use Rattle.held_calls.proofs.Leaving.{talk_leaves}
-use Rattle.held_calls.proofs.Steps.{same_grows, same_returns, said_grows, IsOwnStep, asked_pays, has_passed, idle_over, idle_pays, idle_place, idle_step, idle_talk, is_running, none_either, not_false, read_said, settles_none, stands_at, stray_step, through_idle, unasked_stray}
+use Rattle.held_calls.proofs.Steps.{same_grows, same_returns, said_grows, IsOwnStep, asked_pays, has_passed, idle_over, idle_pays, idle_place, idle_step, idle_talk, is_running, none_either, read_said, settles_none, stands_at, stray_step, through_idle, unasked_stray}
 use Rattle.held_calls.specs.Going.{after_message, pays, left_in}
 use Rattle.held_calls.specs.Held.{entries_at}
 use Rattle.run_values.specs.Setups.{Setup, account_of}
@@ -176,7 +177,7 @@ ended_step Shows setup numbers posts post old new answer call place message soun
       ends = λ closes ended there stands.
           let same : place ≡ there = cc in
           let returned = ending_returned Shows numbers call place message old new answer closes running taken in (
-            ap has_passed said.now ∙ not_false (is_running talk.phase) idle,
+            ap has_passed said.now ∙ not_from_false (is_running talk.phase) idle,
             λ p.
                 read_said (λ (e : EntryData). returned_in e.asked) seat call place first talk.gots old new talk.phase p (p == place) refl said
                 ∙ ap (λ l. l ++ (if p == place then returns_of (entries_of seat first talk.gots) else [])) (none_before old.lists call (Running running.terms) place held refl p (p == place) refl)

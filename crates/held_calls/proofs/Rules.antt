@@ -1,5 +1,5 @@
 -- What a dialogue asks for fits what is known of its call, ask by ask.
-use Rattle.std.proofs.Common.{◌≡◌, ℕ, Bool, true, false, Option, Some, None, Ok, Err, List, refl, ap}
+use Rattle.std.proofs.Common.{◌≡◌, ℕ, Bool, true, false, Option, Some, None, Ok, Err, List, refl}
 use Rattle.std.specs.Prelude.{◌&&◌, if◌then◌else◌, is_some, not}
 use Rattle.account_core.specs.Asked.{Asked, Reserves, Returns, Settles}
 use Rattle.account_core.specs.Known.{CallFacts, deed_of, known_after}
@@ -49,9 +49,6 @@ stands_after facts phase.Continues = (tt, tt)
 stands_after facts phase.Clears = (tt, tt)
 stands_after facts phase.Fails = (tt, tt)
 stands_after facts phase.Closes = (tt, tt)
-
-open_after : (returned : Bool) → returned ≡ false → not returned ≡ true
-open_after returned is = ap not is
 
 first_stands : (facts : CallFacts) (t : Conditions) (b : Bool) (orders : List Order) → facts.returned ≡ false → facts.awaits ≡ true → is_some facts.plan ≡ true
     → Stands facts (or_done (FirstAsk t) (if b then Ok (Sends orders, Running t) else Err Unexpected))

@@ -2,6 +2,7 @@
 use Rattle.std.proofs.Common.{All, ◌≡◌, ◌++◌, ◌∙◌, ℕ, Bool, true, false, Option, Some, None, Ok, Err, List, [], ◌∷◌, refl, sym, ap, subst, append-nil}
 use Rattle.std.specs.Prelude.{◌==◌, flat_map, if◌then◌else◌, not, slice_index_or}
 use Rattle.std.proofs.lemmas.Grind.{flat_map-append}
+use Rattle.std.proofs.lemmas.Bool.{not_from_false}
 use Rattle.account_core.specs.Entries.{EntryData}
 use Rattle.account_core.specs.declared.entry.Reply.TheVariants.{Granted, Denied, Settled, Forfeit, Returned}
 use Rattle.cap_values.specs.Orders.{Pay}
@@ -292,9 +293,6 @@ idle_talk numbers call at first old new answer rests is =
       orders = is.orders ∙ ap (λ (p : Says × Phase). orders_sent_by p.0) (sym first_is);
     }
 
-pub not_false : (b : Bool) → b ≡ false → not b ≡ true
-not_false b is = ap not is
-
 pub idle_step : (Closes : Type 0) (setup : Setup) (numbers : List ℕ) (at call number : ℕ) (message : SsfMsg) (phase : Phase) (place : ℕ) (step : Step) (old new : Holding) (answer : AnswerView) → is_running phase ≡ false
     → StepIsOver step → StepPaysNone step → old.talks call ≡ Some (record { phase = phase; place = place })
     → IsDone setup numbers at (goes_on call place step) old new answer → IsOwnStep Closes setup call number message (Some (record { phase = phase; place = place })) old new answer
@@ -310,7 +308,7 @@ idle_step Closes setup numbers at call number message phase place (Ok next) old 
       settles = λ closes place'.
           ap settles_of (talk.same place') ∙ sym (append-nil (settles_of (entries_at call old.lists place')))
           ∙ ap (λ (was : Option ℕ). settles_of (entries_at call old.lists place') ++ (if is_there was place' then report_in number call message else [])) (sym none);
-      passed = λ was. (talk.same, ap has_passed talk.now ∙ not_false (is_running next.1) later);
+      passed = λ was. (talk.same, ap has_passed talk.now ∙ not_from_false (is_running next.1) later);
       ends = λ closes ended there stands. let never : None ≡ Some there = sym none ∙ stands in absurd (cc);
       grows = same_grows call old new talk.same;
       returns = λ closes p honest.

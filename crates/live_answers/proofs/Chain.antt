@@ -6,6 +6,7 @@ use Rattle.std.proofs.lemmas.List.{length-map, take-append-le}
 use Rattle.std.proofs.lemmas.Option.{slice_get-map}
 use Rattle.std.specs.Prelude.{IfSome, option_map, slice_get}
 use Rattle.std.specs.Io.KnownBytes.{Appends}
+use Rattle.runs_core.proofs.HearingLemmas.{many_answers}
 use Rattle.live_answers.proofs.GroupLemmas.{given_many, given_on, heard_on, logged_on, rows_are, text_on}
 use Rattle.live_answers.proofs.Growing.{kept_is_grown, logs_twice, prints_twice}
 use Rattle.live_answers.proofs.LineLemmas.{no_line}
@@ -31,17 +32,8 @@ use Rattle.run_texts.specs.Messages.{Speech}
 use Rattle.run_values.specs.declared.post.Answer.{Answer}
 use Rattle.run_values.specs.declared.post.Body.{Body}
 use Rattle.runs_core.specs.Hearing.{AnswersEach, HearsRounds, all_heard}
-use Rattle.runs_core.specs.Shares.{Item, numbered}
 
 -- ---- answers at the places of their items
-
-numbered-length : (first : ℕ) (given : List (ℕ × Body)) → length (numbered first given) ≡ length given
-numbered-length first [] = refl
-numbered-length first (item ∷ given) = ap suc (numbered-length (first + 1) given)
-
-as_many : (given : List (ℕ × Body)) (answers : List Answer) → AnswersEach 0 given answers → length answers ≡ length given
-as_many given answers each =
-    sym (length-map answers (λ (a : Answer). a.number)) ∙ ap length each ∙ length-map (numbered 0 given) (λ (i : Item). i.number) ∙ numbered-length 0 given
 
 behind : {X : Type 0} (xs ys : List X) → slice_get (xs ++ ys) (length xs) ≡ slice_get ys 0
 behind [] ys = refl
@@ -311,8 +303,8 @@ module _ {I O L : Type 0} (remaining : I → Option (List ℕ)) (contents : O �
       let was = old.given.items in
       let (rest, split, there) = takes_so _ _ text behind took.lines (is_known old.stage _ text took.opened has) took.takes in
       let before_next = before_this ++ answers in
-      let many = as_many was before_next hears.each in
-      let all_many = as_many between.given.items (before_next ++ next) (first_each before_next between next heard new later) in
+      let many = many_answers 0 was before_next hears.each in
+      let all_many = many_answers 0 between.given.items (before_next ++ next) (first_each before_next between next heard new later) in
       let due_is = is_due before_next next (all_heard heard) old answers between behind took many all_many in
       let all = before_next ++ all_heard (next ∷ heard) in
       let is : left_to old text ≡ heard_behind was took.lines ++ left_to between rest = ap (heard_behind was) split ∙ behind_lines was between.given.items took.lines (live_lines rest) took.gives in

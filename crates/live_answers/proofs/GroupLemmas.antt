@@ -188,7 +188,7 @@ text_on replay all line next (one ∷ heard) more =
 
 -- ---- the answers to their messages, among the answers to all
 
-got_first : (answers more : List Answer) (k : ℕ) → k < length answers → slice_get (answers ++ more) k ≡ slice_get answers k
+pub got_first : {X : Type 0} (answers more : List X) (k : ℕ) → k < length answers → slice_get (answers ++ more) k ≡ slice_get answers k
 got_first [] more k within = absurd (omega (arith, within))
 got_first (answer ∷ answers) more zero within = refl
 got_first (answer ∷ answers) more (suc k) within = got_first answers more k (omega (arith, within))

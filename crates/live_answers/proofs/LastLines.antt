@@ -1,6 +1,5 @@
 -- A text up to its last LF, and what is behind it.
 use Rattle.std.proofs.Common.{◌≡◌, ◌≢◌, ◌<◌, ◌+◌, ◌-◌, ◌∙◌, ℕ, List, All, length, take, drop, arith, ap, sym}
-use Rattle.std.proofs.Math.ListN.{get_or}
 use Rattle.std.specs.Io.{IsEmptyOrEndsWith}
 use Rattle.std.specs.Prelude.{slice_index}
 use Rattle.std.proofs.lemmas.Bool.{eq-eqb, eqb-true}

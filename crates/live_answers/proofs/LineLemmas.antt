@@ -4,16 +4,9 @@ use Rattle.std.proofs.lemmas.Bool.{cases_lt}
 use Rattle.std.proofs.lemmas.List.{length-take, take-append-le, take-take, take_all}
 use Rattle.std.specs.Prelude.{if◌then◌else◌}
 use Rattle.std.specs.Io.BufRead.{drop_through, ends_with_byte, take_through}
-use Rattle.run_texts.specs.Sections.{with_first_byte, lines_in_text}
+use Rattle.run_texts.proofs.FirstSectionLemmas.{first_line}
+use Rattle.run_texts.specs.Sections.{lines_in_text}
 use Rattle.live_answers.specs.Lines.{kept, live_lines}
-
-first_line : (ends : Bool) (c : ℕ) (text : List ℕ)
-    → (if ends then (c ∷ []) ∷ lines_in_text text else with_first_byte c (lines_in_text text))
-    ≡ (if ends then c ∷ [] else c ∷ take_through 10 text) ∷ lines_in_text (if ends then text else drop_through 10 text)
-unfolding lines_in_text
-first_line true c text = refl
-first_line false c [] = refl
-first_line false c (d ∷ text) = ap (with_first_byte c) (first_line (d == 10) d text)
 
 one_line : (text : List ℕ) → 0 < length text → lines_in_text text ≡ take_through 10 text ∷ lines_in_text (drop_through 10 text)
 unfolding lines_in_text

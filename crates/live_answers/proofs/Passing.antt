@@ -1,10 +1,10 @@
 -- What is in front of the end of a text.
-use Rattle.std.proofs.Common.{◌≡◌, ◌-◌, ◌++◌, ◌∙◌, ℕ, Bool, true, false, Option, Some, None, List, [], length, length-append, take, drop, take-append-drop, refl, sym, ap, subst, arith, append_assoc, append-nil}
+use Rattle.std.proofs.Common.{◌≡◌, ◌-◌, ◌++◌, ◌∙◌, ℕ, Bool, true, false, Option, Some, None, List, length, length-append, take, drop, take-append-drop, refl, sym, ap, arith, append_assoc}
 use Rattle.std.specs.Prelude.{if◌then◌else◌, not}
 use Rattle.std.specs.Str.{bytes_eq}
 use Rattle.std.proofs.lemmas.List.{drop_at, take_at}
 use Rattle.std.proofs.lemmas.Slice.Eq.{bytes_eq-Decides}
-use Rattle.std.specs.Io.KnownBytes.{Appends, Keeps}
+use Rattle.std.specs.Io.KnownBytes.{Appends}
 use Rattle.live_answers.specs.Passing.{in_front_of, without_end}
 
 -- an end that is there
@@ -13,11 +13,6 @@ front_is front end =
     let size : length front ≡ length (front ++ end) - length end = omega (arith, length-append front end) in
     let there : bytes_eq (drop (length (front ++ end) - length end) (front ++ end)) end ≡ true = (bytes_eq-Decides _ _).1 (drop_at front end _ size) in
     rw there (ap Some (take_at front end _ size))
-
--- behind the last byte there is nothing
-pub nothing_left : (known : Option (List ℕ)) → in_front_of [] known ≡ known
-nothing_left None = refl
-nothing_left (Some text) = subst (λ (t : List ℕ). without_end [] t ≡ Some text) (append-nil text) (front_is text [])
 
 by_end : (there : Bool) (text left : List ℕ) (n : ℕ) → bytes_eq (drop (length text - length left) text) left ≡ there
     → Appends (if there then Some (take (length text - length left) text) else None) (without_end (drop n left) text) (take n left)
@@ -34,10 +29,6 @@ by_end true text left n is =
 pub passes : (known : Option (List ℕ)) (left : List ℕ) (n : ℕ) → Appends (in_front_of left known) (in_front_of (drop n left) known) (take n left)
 passes None left n = tt
 passes (Some text) left n = by_end (bytes_eq (drop (length text - length left) text) left) text left n refl
-
-pub keeps_itself : (known : Option (List ℕ)) → Keeps known known
-keeps_itself None = tt
-keeps_itself (Some text) = refl
 
 by_not : (same : Bool) → false ≡ not same → same ≡ true
 by_not true differ = refl

@@ -1,19 +1,15 @@
 -- What is printed is printed piece by piece: the header, the rows and the end.
-use Rattle.std.proofs.Common.{◌≡◌, ◌+◌, ◌<◌, ◌≤◌, ◌⊎◌, ℕ, true, false, List, ◌++◌, length, take, Option, Some, None, Result, Ok, Err, refl, sym, ap, subst, ◌∙◌, inl, inr, arith}
-use Rattle.std.proofs.KnownBytes.{Keeps-refl}
-use Rattle.std.proofs.lemmas.Bool.{cases_lt}
-use Rattle.std.proofs.lemmas.List.{take-append-le, take_all}
+use Rattle.std.proofs.Common.{◌≡◌, ◌+◌, ℕ, true, false, List, ◌++◌, take, Option, Some, None, Result, Ok, Err, refl, sym, ap, subst, ◌∙◌, inl, inr}
+use Rattle.std.proofs.KnownBytes.{Keeps-refl, Appends-trans}
 use Rattle.std.specs.Prelude.{IfErr, IsErrAnd, IsSome, OnOk}
 use Rattle.std.specs.Io.KnownBytes.{Appends}
-use Rattle.std.proofs.Math.Seq.{take-append-add}
-use Rattle.live_answers.proofs.Growing.{grow_twice}
+use Rattle.table_core.proofs.FrontLemmas.{front_before, front_behind}
 use Rattle.run_outputs.specs.Records.{Run}
 use Rattle.live_answers.specs.Live.{heard_in, replayed_text}
 use Rattle.live_answers.specs.Runs.{AnswersLines, IsLiveRunTo, PrintsText}
 use Rattle.live_answers.specs.declared.replay.Replay.{Replay}
 use Rattle.live_answers.specs.declared.stage.LiveFault.{LiveFault}
 use Rattle.live_answers.specs.declared.stage.LiveFault.TheVariants as fault
-use Rattle.table_core.specs.Fronts.{AppendsFront}
 use Rattle.run_values.specs.Logs.{LogWish}
 use Rattle.run_values.specs.declared.live.LiveAsk.{LiveAsk}
 use Rattle.run_values.specs.declared.live.LiveOutput.{LiveOutput}
@@ -30,21 +26,6 @@ use Rattle.live_answers.specs.Replays.{IsReplayOf}
 use Rattle.live_answers.specs.Serves.{EndsServing, IsServedWhole, AreRowsServed, IsLiveSetupOf, LosesLog, ServesBy, ServesInput}
 use Rattle.live_answers.specs.declared.error.ServeError.{ServeError}
 use Rattle.live_answers.specs.declared.error.ServeError.TheVariants as error
-
--- one text was written, and then a front of another
-pub front_behind : (a b c : Option (List ℕ)) (xs ys : List ℕ) → Appends a b xs → AppendsFront b c ys → AppendsFront a c (xs ++ ys)
-front_behind a b c xs ys first second =
-    (length xs + second.0, subst (λ l. Appends a c l) (sym (take-append-add xs ys second.0)) (grow_twice a b c xs (take second.0 ys) first second.1))
-
--- a front of a text is a front of a longer one
-front_before : (a b : Option (List ℕ)) (xs ys : List ℕ) → AppendsFront a b xs → AppendsFront a b (xs ++ ys)
-front_before a b xs ys (count, front) = by_size (cases_lt count (length xs))
-  where
-    by_size : (count < length xs) ⊎ (length xs ≤ count) → AppendsFront a b (xs ++ ys)
-    by_size (inl less) = (count, subst (λ l. Appends a b l) (sym (take-append-le count xs ys (omega (arith, less)))) front)
-    by_size (inr more) =
-        let all : take count xs ≡ take (length xs) (xs ++ ys) = take_all count xs more ∙ sym (take-append-le (length xs) xs ys (omega arith) ∙ take_all (length xs) xs (omega arith)) in
-        (length xs, subst (λ l. Appends a b l) all front)
 
 -- ---- the rows
 
@@ -108,7 +89,7 @@ module _ (output : LiveOutput) (setup : Setup) (replay : Replay) (rows : List �
       served = has.served;
       end = end;
       is_end = rw (has.given_is, has.books_are) is_end;
-      front = front_behind a c d _ end (grow_twice a b c trace_header _ first (rows_whole setup replay rows why b c _ isnt has.prints)) front;
+      front = front_behind a c d _ end (Appends-trans a b c trace_header _ first (rows_whole setup replay rows why b c _ isnt has.prints)) front;
     }))
     end_part (error.Live fault.Input) cut = absurd cut
     end_part (error.Live fault.Log) cut = absurd cut
@@ -134,7 +115,7 @@ module _ (output : LiveOutput) (setup : Setup) (replay : Replay) (rows : List �
       served = has.served;
       end = end;
       is_end = rw (has.given_is, has.books_are) is_end;
-      whole = grow_twice a c d _ end (grow_twice a b c trace_header _ first (rows_whole setup replay rows why b c _ isnt has.prints)) last;
+      whole = Appends-trans a c d _ end (Appends-trans a b c trace_header _ first (rows_whole setup replay rows why b c _ isnt has.prints)) last;
     }
 
   pub ends_whole : (why : Option LiveFault) (a d : Option (List ℕ)) (done : Unit {0}) → why ≡ None → IsServedWhole output setup replay rows why a d → EndsServing output setup replay rows a d (Ok done)
@@ -182,7 +163,7 @@ table_cut output ran a b c divider table (Err why) first cut is_end = rw cut.0 (
 -- or not at all: both are printed
 pub both_printed : (output : LiveOutput) (ran : Run) (a b c : Option (List ℕ)) (divider table : List ℕ) (answer : Result (Unit {0}) ServeError) → Appends a b divider
     → OnOk answer (Appends b c table) → IsEndOf output ran (divider ++ table) → OnOk answer ((text : List ℕ) × IsEndOf output ran text × Appends a c text)
-both_printed output ran a b c divider table (Ok done) first then is_end = (divider ++ table, is_end, grow_twice a b c divider table first then)
+both_printed output ran a b c divider table (Ok done) first then is_end = (divider ++ table, is_end, Appends-trans a b c divider table first then)
 both_printed output ran a b c divider table (Err why) first then is_end = tt
 
 -- ---- an input

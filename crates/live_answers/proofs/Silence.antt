@@ -10,7 +10,7 @@ use Rattle.live_answers.specs.Standing.{LineView}
 use Rattle.live_answers.specs.declared.replay.Replay.{Replay}
 use Rattle.run_values.specs.declared.post.Answer.{Answer}
 
-no_fewer : (said : LineView) (next : ℕ) → next ≤ next_after next said
+pub no_fewer : (said : LineView) (next : ℕ) → next ≤ next_after next said
 no_fewer None next = omega arith
 no_fewer (Some (Ok message)) next = omega arith
 no_fewer (Some (Err why)) next = omega arith

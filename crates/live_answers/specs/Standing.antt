@@ -46,7 +46,3 @@ item_moment (Some item) = item.0
 -- the moment of the last item, 0 before the first
 abbrev pub last_item_moment : List (ℕ × Body) → ℕ
 last_item_moment given = item_moment (slice_get given (length given - 1))
-
--- what a line says after what was given
-abbrev pub line_said_in : List (ℕ × Body) → List ℕ → LineView
-line_said_in given line = said_after (length given) (last_item_moment given) line

@@ -3,6 +3,8 @@ use Rattle.std.proofs.Common.{◌≡◌, ◌<◌, ◌++◌, ◌+◌, ◌==◌, �
 use Rattle.std.specs.Prelude.{filter, slice_index_or}
 use Rattle.std.proofs.lemmas.List.{length-map}
 use Rattle.std.proofs.lemmas.List.Elements.{All-head, All-tail}
+use Rattle.runs_core.proofs.HandOuts.{numbered-append}
+use Rattle.runs_core.proofs.HearingLemmas.{many_answers}
 use Rattle.account_core.specs.Answers.{IsLegal}
 use Rattle.account_core.specs.Entries.{EntryData}
 use Rattle.live_recovery.proofs.Alike.{GoAlike, goes_itself}
@@ -17,9 +19,9 @@ use Rattle.run_values.specs.declared.post.Answer.{Answer}
 use Rattle.run_values.specs.declared.post.Body.{Body}
 use Rattle.run_values.specs.declared.post.Body.TheVariants.{Ssf, Recharge}
 use Rattle.runs_core.specs.Closing.{lists_of, refuses_in, terms_shown}
-use Rattle.runs_core.specs.Hearing.{AnswersEach, IsAnsweredBy, answers_to}
+use Rattle.runs_core.specs.Hearing.{IsAnsweredBy, answers_to}
 use Rattle.runs_core.specs.Runs.{IsRun}
-use Rattle.runs_core.specs.Shares.{Item, item_at, item_of, numbered, share, worker_of}
+use Rattle.runs_core.specs.Shares.{Item, item_of, numbered, share, worker_of}
 use Rattle.runs_core.specs.Teams.{terms_with}
 use Rattle.shared_account.specs.Closed.{Closed}
 use Rattle.shared_account.specs.Own.{own}
@@ -50,20 +52,6 @@ answers_all [] [] many = refl
 answers_all [] (answer ∷ answers) many = absurd (cc)
 answers_all (item ∷ given) [] many = absurd (cc)
 answers_all (item ∷ given) (answer ∷ answers) many = rw (goes_there item.1) (ap (λ l. answer ∷ l) (answers_all given answers (omega (arith, many))))
-
-pub numbered_many : (first : ℕ) (given : List (ℕ × Body)) → length (numbered first given) ≡ length given
-numbered_many first [] = refl
-numbered_many first (item ∷ given) = ap suc (numbered_many (first + 1) given)
-
-pub as_many : (given : List (ℕ × Body)) (answers : List Answer) → AnswersEach 0 given answers → length answers ≡ length given
-as_many given answers each =
-    sym (length-map answers (λ (a : Answer). a.number)) ∙ ap length each ∙ length-map (numbered 0 given) (λ (i : Item). i.number) ∙ numbered_many 0 given
-
-pub numbered_more : (first : ℕ) (given more : List (ℕ × Body)) → numbered first (given ++ more) ≡ numbered first given ++ numbered (first + length given) more
-numbered_more first [] more = let same : first + 0 ≡ first = omega arith in ap (λ n. numbered n more) (sym same)
-numbered_more first (item ∷ given) more =
-    let same : (first + 1) + length given ≡ first + suc (length given) = omega arith in
-    ap (λ l. item_at first item ∷ l) (numbered_more (first + 1) given more ∙ ap (λ n. numbered (first + 1) given ++ numbered n more) same)
 
 -- ---- each history is the one worker's
 
@@ -126,8 +114,8 @@ pub both_alike : (setup : Setup) (given longer : List (ℕ × Body)) (more : Lis
 both_alike setup given longer more answers others books other one first second numbers =
     let a : IsAnsweredBy StoodIn setup 1 given answers books 0 = first.run.answered 0 (omega arith) in
     let b : IsAnsweredBy StoodIn setup 1 longer others other 0 = second.run.answered 0 (omega arith) in
-    let views = ap views_of (answers_all given answers (as_many given answers first.run.each_heard)) in
-    let views_too = ap views_of (answers_all longer others (as_many longer others second.run.each_heard)) in
+    let views = ap views_of (answers_all given answers (many_answers 0 given answers first.run.each_heard)) in
+    let views_too = ap views_of (answers_all longer others (many_answers 0 longer others second.run.each_heard)) in
     let lists = own_lists books first.run.owned in
     let lists_too = own_lists other second.run.owned in
     let G : List Item → Type 0 = λ items. GoAlike items (map item_of b.posts) more in
@@ -180,7 +168,7 @@ go_on items others more is = subst (λ l. GoAlike items l more) (sym is) (goes_i
 pub longer_alike : LongerRunsAnswerAlike
 longer_alike setup given more answers longer books other one run run_longer none none_longer =
     let alike = both_alike setup given (given ++ more) (numbered (0 + length given) more) answers longer books other one
-    (record { run = run; none = none }) (record { run = run_longer; none = none_longer }) (go_on (numbered 0 given) (numbered 0 (given ++ more)) _ (numbered_more 0 given more)) in
+    (record { run = run; none = none }) (record { run = run_longer; none = none_longer }) (go_on (numbered 0 given) (numbered 0 (given ++ more)) _ (numbered-append 0 given more)) in
     (alike.rest, alike.answers_are)
 
 pub runs_alike : RunsAreAlike

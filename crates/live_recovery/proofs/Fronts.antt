@@ -2,6 +2,7 @@
 use Rattle.std.proofs.Common.{◌≡◌, ◌+◌, ◌++◌, ◌∙◌, ℕ, zero, suc, Bool, true, false, Some, None, List, [], ◌∷◌, Ok, Err, length, length-append, map, take, drop, refl, sym, ap, subst, arith, append_assoc, append-nil}
 use Rattle.std.proofs.lemmas.List.{take-map}
 use Rattle.std.specs.Prelude.{◌==◌, if◌then◌else◌}
+use Rattle.live_answers.proofs.GroupLemmas.{logged_on}
 use Rattle.live_answers.specs.Checks.{first_wrong}
 use Rattle.live_answers.specs.Laws.{LogsAreHeardAgain, accepted, if_accepted, last_behind, next_behind}
 use Rattle.live_answers.specs.Lines.{kept, live_lines}
@@ -88,21 +89,7 @@ accepted_many next [] = omega arith
 accepted_many next (one ∷ heard) =
     omega (arith, accepted_many (next_after next one.said) heard, one_accepted one.said one next, length-append (if_accepted one.said one) (accepted heard))
 
-one_given : (said : LineView) (next : ℕ) → next + length (given_by said) ≡ next_after next said
-one_given None next = omega arith
-one_given (Some (Ok message)) next = omega arith
-one_given (Some (Err why)) next = omega arith
-
-pub given_many : (next : ℕ) (heard : List Heard) → next + length (given_of heard) ≡ next_behind next heard
-given_many next [] = omega arith
-given_many next (one ∷ heard) =
-    omega (arith, given_many (next_after next one.said) heard, one_given one.said next, length-append (given_by one.said) (given_of heard))
-
 -- ---- what is given of lines
-
-pub given_both : (heard later : List Heard) → given_of (heard ++ later) ≡ given_of heard ++ given_of later
-given_both [] later = refl
-given_both (one ∷ heard) later = ap (λ l. given_by one.said ++ l) (given_both heard later) ∙ sym (append_assoc (given_by one.said) (given_of heard) (given_of later))
 
 pub given_split : (count : ℕ) (heard : List Heard) → given_of heard ≡ given_of (take count heard) ++ given_of (drop count heard)
 given_split zero heard = refl
@@ -123,11 +110,6 @@ given_accepted (one ∷ heard) = one_again one.said one.line (given_of heard) (a
 
 -- ---- what is logged of lines
 
-pub logged_both : (heard later : List Heard) → logged_of (heard ++ later) ≡ logged_of heard ++ logged_of later
-logged_both [] later = refl
-logged_both (one ∷ heard) later =
-    ap (λ l. put_down one.line one.said ++ l) (logged_both heard later) ∙ sym (append_assoc (put_down one.line one.said) (logged_of heard) (logged_of later))
-
 one_logged : (said : LineView) (line log : List ℕ) (heard : List Heard) → logged_of heard ≡ log → logged_of (if_accepted said (record { line = line; said = said }) ++ heard) ≡ put_down line said ++ log
 one_logged None line log heard is = is
 one_logged (Some (Ok message)) line log heard is = ap (λ l. line ++ l) is
@@ -139,4 +121,4 @@ logged_accepted (one ∷ heard) = one_logged one.said one.line (logged_of heard)
 
 -- of the lines of a log, and those behind them, as much is logged as of all lines
 pub logged_again : (heard later : List Heard) → logged_of (accepted heard ++ later) ≡ logged_of (heard ++ later)
-logged_again heard later = logged_both (accepted heard) later ∙ ap (λ l. l ++ logged_of later) (logged_accepted heard) ∙ sym (logged_both heard later)
+logged_again heard later = logged_on (accepted heard) later ∙ ap (λ l. l ++ logged_of later) (logged_accepted heard) ∙ sym (logged_on heard later)

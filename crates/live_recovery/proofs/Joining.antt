@@ -3,6 +3,7 @@ use Rattle.std.proofs.Common.{◌≡◌, ◌≢◌, ◌≤◌, ◌++◌, ◌⊎�
 use Rattle.std.proofs.lemmas.List.Elements.{All-head, All-tail}
 use Rattle.std.specs.Prelude.{slice_get}
 use Rattle.std.specs.Io.KnownBytes.{Appends}
+use Rattle.live_answers.proofs.Silence.{none_less}
 use Rattle.live_answers.specs.Laws.{LogsAreHeardAgain, next_behind}
 use Rattle.live_answers.specs.Live.{Heard, heard_in, live_text, logged_of, next_after, replayed_text, text_after}
 use Rattle.live_answers.specs.Rows.{line_behind_log, rows_of_line}
@@ -12,7 +13,6 @@ use Rattle.live_answers.specs.declared.replay.Replay.{Replay}
 use Rattle.live_answers.specs.declared.stage.LiveFault.{LiveFault}
 use Rattle.live_answers.specs.declared.stage.LiveFault.TheVariants as fault
 use Rattle.live_recovery.proofs.Fronts.{accepted_many, front_alone}
-use Rattle.live_recovery.proofs.Printing.{none_less}
 use Rattle.live_recovery.proofs.Recovering.{recovered}
 use Rattle.live_recovery.proofs.Texts.{is_less, nothing}
 use Rattle.live_recovery.specs.Recovery.{IsFine, IsUncut, OutputsAreJoined, front_of, rest_heard_behind, rows_again, text_again, text_anew, with_further}

@@ -3,6 +3,7 @@ use Rattle.std.proofs.Common.{◌≡◌, ◌<◌, ◌≤◌, ◌+◌, ◌-◌, �
 use Rattle.std.proofs.Math.Seq.{take-add, take-append-add}
 use Rattle.std.proofs.lemmas.List.{append_cancel_left, length-take, take-append-le, take-take}
 use Rattle.std.proofs.lemmas.Bool.{cases_lt}
+use Rattle.live_answers.proofs.GroupLemmas.{logged_on}
 use Rattle.live_answers.specs.Live.{Heard, heard_in, logged_of}
 use Rattle.live_answers.specs.Rows.{put_down}
 use Rattle.live_answers.specs.Runs.{Logs}
@@ -13,7 +14,6 @@ use Rattle.live_answers.specs.declared.stage.LiveFault.TheVariants as fault
 use Rattle.live_answers.specs.Logs.{HasLines, HasLinesBehind}
 use Rattle.live_recovery.specs.Recovery.{IsLogOf, LiveRun}
 use Rattle.run_texts.specs.Sections.{lines_in_text}
-use Rattle.live_recovery.proofs.Fronts.{logged_both}
 use Rattle.live_recovery.proofs.Lines.{AreEnded, HasNone, IsLine, LineEnds, all_raw, are_ended, drop_ends, ends_so, logged_ends, none_so, same_cut, take_ends}
 
 -- ---- the log
@@ -146,7 +146,7 @@ log_is it taken head log lines was is has logs = by_fault it.fault refl (subst k
         let few : front.count ≤ MAX_GROUP = omega (arith, front.most, length-take MAX_GROUP left) in
         let here = logged_of (take taken heard) in
         let more : here ++ logged_of (take front.count group) ≡ logged_of (take (taken + front.count) heard) =
-        sym (logged_both (take taken heard) (take front.count group)) ∙ ap (λ h. logged_of (take taken heard ++ h)) (take-take front.count MAX_GROUP left few)
+        sym (logged_on (take taken heard) (take front.count group)) ∙ ap (λ h. logged_of (take taken heard ++ h)) (take-take front.count MAX_GROUP left few)
         ∙ ap logged_of (sym (take-add taken front.count heard)) in
         let whole_and_torn : has.behind ≡ logged_of (take (taken + front.count) heard) ++ front.torn =
         behind_is _ cut ∙ ap (λ l. here ++ l) front.is ∙ sym (append_assoc here (logged_of (take front.count group)) front.torn) ∙ ap (λ l. l ++ front.torn) more in (

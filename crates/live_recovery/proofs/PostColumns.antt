@@ -12,8 +12,8 @@ use Rattle.cap_values.specs.declared.message.SsfMsg.{SsfMsg}
 use Rattle.cap_values.specs.declared.message.SsfMsg.TheVariants as message
 use Rattle.cap_values.specs.declared.mode.Mode.{Mode}
 use Rattle.cap_values.specs.declared.mode.Mode.TheVariants as mode
-use Rattle.book_texts.specs.Fits.{FitsReport, IsInterval, IsMoment, IsMoney, IsTime, IsWide}
-use Rattle.live_recovery.specs.Posts.{FitsMessage, FitsPost, message_of_post}
+use Rattle.book_texts.specs.Fits.{IsInterval, IsMoment, IsWide}
+use Rattle.live_recovery.specs.Posts.{FitsPost, message_of_post}
 use Rattle.run_texts.specs.Messages.{event_message_in, interval_in, leg_in, message_in, mode_in, report_state_in}
 use Rattle.tariff_core.specs.MomentLaws.{MomentsAreRead}
 use Rattle.tariff_core.specs.Printing.{moment_or_empty, moment_text}
@@ -25,7 +25,7 @@ use Rattle.run_texts.specs.Tables.{call_of_post, sender_of}
 use Rattle.run_values.specs.declared.post.Body.{Body}
 use Rattle.run_values.specs.declared.post.Body.TheVariants as body
 use Rattle.table_core.specs.Decimals.{decimal_of}
-use Rattle.table_core.specs.Fields.{field_in, is_blank, number_in, number_or_empty, optional_in}
+use Rattle.table_core.specs.Fields.{field_in, number_or_empty}
 use Rattle.table_core.specs.Printed.{DecimalsAreRead}
 use Rattle.table_core.specs.Rows.{Fields}
 use Rattle.price_core.specs.declared.times.TimeInfo.{TimeInfo}
@@ -51,7 +51,7 @@ event_read fields event.Answer is = rw is refl
 event_read fields event.Disconnect is = rw is refl
 event_read fields event.Abandon is = rw is refl
 
-mode_read : (fields : Fields) (m : Mode) → field_in fields 7 ≡ mode_word m → mode_in fields ≡ Ok m
+pub mode_read : (fields : Fields) (m : Mode) → field_in fields 7 ≡ mode_word m → mode_in fields ≡ Ok m
 mode_read fields mode.Interrupted is = rw is refl
 mode_read fields mode.NotifyAndContinue is = rw is refl
 mode_read fields mode.Transparent is = rw is refl
@@ -75,15 +75,6 @@ not_blank most at [] is = absurd (cc)
 not_blank most at (c ∷ text) is = counted (length (c ∷ text)) (omega arith)
 
 module _ (reads : DecimalsAreRead) (moments : MomentsAreRead) where
-  number_read : (fields : Fields) (place most number : ℕ) → field_in fields place ≡ decimal number → most < 2 ^ 64 → number ≤ most
-      → number_in fields place most ≡ Ok number
-  number_read fields place most number is small within = rw (is, reads most number small within) refl
-
-  optional_read : (fields : Fields) (place most : ℕ) (number : Option ℕ) → field_in fields place ≡ number_or_empty number → most < 2 ^ 64
-      → IfSome number (λ it. it ≤ most) → optional_in fields place most ≡ Ok number
-  optional_read fields place most None is small within = rw is refl
-  optional_read fields place most (Some number) is small within = rw (is, not_empty number (omega (arith, small, within)), reads most number small within) refl
-
   until_read : (clock : Clock) (fields : Fields) (until : Option ℕ) → field_in fields 7 ≡ moment_or_empty clock until → IfSome until (λ it. it ≤ 1000000000000)
       → until_in fields 7 ≡ Ok until
   until_read clock fields None is within = rw is refl

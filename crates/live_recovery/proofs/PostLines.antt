@@ -7,8 +7,9 @@ use Rattle.std.specs.List.{join_with_byte, list_all}
 use Rattle.std.proofs.lemmas.Bool.{and_parts}
 use Rattle.std.proofs.lemmas.Bool.Decides.{nat_tests}
 use Rattle.std.proofs.lemmas.List.Elements.{All-cons, All-from_recursion, All-nil}
+use Rattle.table_core.proofs.PrintedLemmas.{digits_plain}
 use Rattle.csv.specs.Reading.{strip_bom}
-use Rattle.csv.specs.Writing.{comma, default_writer, needs_byte}
+use Rattle.csv.specs.Writing.{comma}
 use Rattle.cap_values.specs.NumberDigits.{digits_of_number}
 use Rattle.cap_values.specs.declared.event.Event.{Event}
 use Rattle.cap_values.specs.declared.event.Event.TheVariants as event
@@ -65,17 +66,8 @@ unmarked first next fields digit = rw (line_starts first next fields) (first_is_
 
 -- ---- plain fields
 
-digit_bare : (c : ℕ) → is_ascii_digit c ≡ true → needs_byte default_writer c ≡ false
-digit_bare c digit = grind (arith, nat_tests)
-
-digits_bare : (text : List ℕ) → list_all is_ascii_digit text ≡ true → IsPlain text
-digits_bare [] digits = refl
-digits_bare (c ∷ text) digits =
-    let (first, others) = and_parts (is_ascii_digit c) (list_all is_ascii_digit text) digits in
-    rw (digit_bare c first, digits_bare text others) refl
-
 party_plain : (party : Number) → IsPlain (digits_of_number party)
-party_plain party = digits_bare (digits_of_number party) (and_parts _ (list_all is_ascii_digit (digits_of_number party)) party.in_range).1
+party_plain party = digits_plain (digits_of_number party) (and_parts _ (list_all is_ascii_digit (digits_of_number party)) party.in_range).1
 
 event_plain : (e : Event) → IsPlain (event_word e)
 event_plain event.CollectedInfo = refl

@@ -3,6 +3,7 @@ use Rattle.std.proofs.Common.{◌≡◌, ◌<◌, ◌≤◌, ◌++◌, ◌∙◌
 use Rattle.std.proofs.lemmas.Option.{slice_get-map}
 use Rattle.std.specs.Fmt.{decimal}
 use Rattle.std.specs.Prelude.{codes, if◌then◌else◌, nat_lt, option_map, slice_get}
+use Rattle.live_answers.proofs.Silence.{none_less}
 use Rattle.cap_values.specs.Orders.{GoOn, Order, Pay, Release, Watch, operations_in, order_of, orders_of}
 use Rattle.cap_values.specs.declared.operation.ScfOp.{ScfOp}
 use Rattle.cap_values.specs.declared.operation.ScfOp.TheVariants as operation
@@ -66,16 +67,6 @@ head_of_message number message = head_text clock.Digits message.at number messag
 
 abbrev row_of : ℕ → MessageView → List ℕ
 row_of number message = trace_row (head_of_message number message) message.speech.from message.speech.said
-
-pub no_fewer : (said : LineView) (next : ℕ) → next ≤ next_after next said
-no_fewer None next = omega arith
-no_fewer (Some (Ok message)) next = omega arith
-no_fewer (Some (Err why)) next = omega arith
-
--- no fewer are accepted behind more lines
-pub none_less : (heard : List Heard) (next : ℕ) → next ≤ next_behind next heard
-none_less [] next = omega arith
-none_less (one ∷ heard) next = omega (arith, none_less heard (next_after next one.said), no_fewer one.said next)
 
 same_line : (answers others : List Answer) (quiet line number count : ℕ) (said : LineView) → next_after number said ≤ count → Agree answers others count
     → rows_of_line quiet line number (slice_get answers number) said ≡ rows_of_line quiet line number (slice_get others number) said

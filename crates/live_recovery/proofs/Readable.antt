@@ -311,10 +311,6 @@ take_read zero heard read = tt
 take_read (suc count) [] read = tt
 take_read (suc count) (one ∷ heard) read = (read.0, take_read count heard read.1)
 
-pub both_read : (heard later : List Heard) → AreReadable heard → AreReadable later → AreReadable (heard ++ later)
-both_read [] later read read_too = read_too
-both_read (one ∷ heard) later read read_too = (read.0, both_read heard later read.1 read_too)
-
 -- items that a trace prints in few digits
 abbrev pub ItemsRead : List (ℕ × Speech) → Type 0
 ItemsRead [] = ⊤

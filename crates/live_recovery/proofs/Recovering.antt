@@ -2,6 +2,8 @@
 use Rattle.std.proofs.Common.{◌≡◌, ◌≤◌, ◌++◌, ◌∙◌, ℕ, None, List, [], length, map, take, drop, refl, sym, ap, subst, arith, append_assoc, append-nil, take_all, take-take, drop_of_length-le}
 use Rattle.std.proofs.lemmas.List.{length-map}
 use Rattle.std.specs.Io.KnownBytes.{Appends}
+use Rattle.runs_core.proofs.HearingLemmas.{many_answers}
+use Rattle.live_answers.proofs.GroupLemmas.{given_many, given_on}
 use Rattle.live_answers.specs.Checks.{first_wrong}
 use Rattle.live_answers.specs.Laws.{LogsAreHeardAgain, accepted, next_behind}
 use Rattle.live_answers.specs.Lines.{live_lines}
@@ -9,8 +11,8 @@ use Rattle.live_answers.specs.Live.{Heard, given_of, heard_in, item_view, logged
 use Rattle.live_answers.specs.Runs.{Logs, PrintsText}
 use Rattle.live_answers.specs.declared.group.TheConstants.{MAX_GROUP}
 use Rattle.live_answers.specs.declared.replay.Replay.{Replay}
-use Rattle.live_recovery.proofs.Alone.{as_many, books_are, both_alike}
-use Rattle.live_recovery.proofs.Fronts.{accepted_many, front_alone, fronts_again, given_accepted, given_both, given_many, given_split, logged_again, none_wrong}
+use Rattle.live_recovery.proofs.Alone.{books_are, both_alike}
+use Rattle.live_recovery.proofs.Fronts.{accepted_many, front_alone, fronts_again, given_accepted, given_split, logged_again, none_wrong}
 use Rattle.live_recovery.proofs.Logs.{log_is, stopped_is}
 use Rattle.live_recovery.proofs.Readable.{ItemsRead, all_read, given_read, take_read}
 use Rattle.live_recovery.proofs.SameSpeech.{follow}
@@ -52,7 +54,7 @@ begun_prints setup it served answers rest are =
     let heard = front_of it served.answered.lines.count in
     let takes : map item_view it.given ≡ given_of heard = served.answered.lines.takes in
     let many : next_behind 0 heard ≤ length served.answered.answers =
-    omega (arith, given_many 0 heard, ap length takes, length-map it.given item_view, as_many it.given served.answered.answers served.answered.run.each_heard) in
+    omega (arith, given_many 0 heard, ap length takes, length-map it.given item_view, many_answers 0 it.given served.answered.answers served.answered.run.each_heard) in
     subst (λ l. PrintsText it.fault it.output_old it.output_new l) (begun_text it.replay served.answered.answers answers rest heard are many) served.answered.lines.prints
 
 -- ---- two runs over one input
@@ -101,7 +103,7 @@ module _ (again : LogsAreHeardAgain) (setup : Setup) (input : List ℕ) (count :
   messages = let many = ap length (front_alone again count input) in omega (arith, replay.messages, many, accepted_many 0 heard)
 
   given_again : given_of (heard_in it.input) ≡ given_of (with_further heard rest)
-  given_again = ap given_of hears ∙ given_both (accepted heard) behind ∙ ap (λ l. l ++ given_of behind) (given_accepted heard) ∙ sym (given_both heard behind)
+  given_again = ap given_of hears ∙ given_on (accepted heard) behind ∙ ap (λ l. l ++ given_of behind) (given_accepted heard) ∙ sym (given_on heard behind)
 
   given_so : given_of (with_further heard rest) ≡ given_of (front_of it taken) ++ given_of (drop taken (heard_in it.input))
   given_so = sym given_again ∙ given_split taken (heard_in it.input)
@@ -165,7 +167,7 @@ given_early : (it : LiveRun) (taken count : ℕ) (rest : List ℕ) → taken ≤
 given_early it taken count rest least =
     let heard = front_of it count in
     let later = given_of (rest_heard_behind heard rest) in
-    given_both heard (rest_heard_behind heard rest) ∙ ap (λ l. l ++ later) (given_split taken heard) ∙ append_assoc (given_of (take taken heard)) (given_of (drop taken heard)) later
+    given_on heard (rest_heard_behind heard rest) ∙ ap (λ l. l ++ later) (given_split taken heard) ∙ append_assoc (given_of (take taken heard)) (given_of (drop taken heard)) later
     ∙ ap (λ h. given_of h ++ (given_of (drop taken heard) ++ later)) (take-take taken count (heard_in it.input) least)
 
 pub recovered : LogsAreHeardAgain → CutOffRunsGoOn

@@ -1,16 +1,16 @@
 -- Posts that are printed alike, in numbers of few digits, say the same.
 use Rattle.std.proofs.Common.{◌≡◌, ◌+◌, ◌∙◌, ℕ, Bool, true, false, Option, Some, None, List, [], ◌∷◌, ◌++◌, Ok, length, map, refl, sym, ap, subst, arith}
 use Rattle.std.specs.Prelude.{codes, slice_index}
+use Rattle.live_recovery.proofs.PostColumns.{mode_read}
 use Rattle.cap_values.specs.declared.event.Event.{Event}
 use Rattle.cap_values.specs.declared.event.Event.TheVariants as event
 use Rattle.cap_values.specs.declared.message.SsfMsg.{SsfMsg}
 use Rattle.cap_values.specs.declared.message.SsfMsg.TheVariants.{InitialDp, EventReport, ChargingReport, Ended}
 use Rattle.cap_values.specs.declared.mode.Mode.{Mode}
-use Rattle.cap_values.specs.declared.mode.Mode.TheVariants as mode
 use Rattle.live_answers.specs.Live.{item_view}
 use Rattle.live_recovery.proofs.Alike.{GoAlike, SaysAlike, SpeakAlike}
 use Rattle.live_recovery.proofs.Decimals.{IsShort, same_number, same_option}
-use Rattle.run_texts.specs.Messages.{Speech, event_message_in, mode_in, speech_of}
+use Rattle.run_texts.specs.Messages.{Speech, event_message_in, speech_of}
 use Rattle.tariff_core.specs.Printing.{moment_or_empty}
 use Rattle.tariff_core.specs.declared.clock.Clock.TheVariants as clock
 use Rattle.run_texts.specs.Said.{Said, event_word as word_of, message_said, mode_word, report_said, state_word}
@@ -42,14 +42,9 @@ same_event : (e other : Event) → word_of e ≡ word_of other → e ≡ other
 same_event e other same =
     cc (sym (event_back (with_word (word_of e)) e refl) ∙ event_back (with_word (word_of e)) other same)
 
-mode_back : (fields : Fields) (m : Mode) → field_in fields 7 ≡ mode_word m → mode_in fields ≡ Ok m
-mode_back fields mode.Interrupted is = rw is refl
-mode_back fields mode.NotifyAndContinue is = rw is refl
-mode_back fields mode.Transparent is = rw is refl
-
 same_mode : (m other : Mode) → mode_word m ≡ mode_word other → m ≡ other
 same_mode m other same =
-    cc (sym (mode_back (with_word (mode_word m)) m refl) ∙ mode_back (with_word (mode_word m)) other same)
+    cc (sym (mode_read (with_word (mode_word m)) m refl) ∙ mode_read (with_word (mode_word m)) other same)
 
 same_state : (active other : Bool) → state_word active ≡ state_word other → active ≡ other
 same_state true true same = refl

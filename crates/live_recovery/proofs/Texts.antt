@@ -1,15 +1,17 @@
 -- What is printed of lines that were heard before, and by answers that begin as others do.
-use Rattle.std.proofs.Common.{◌≡◌, ◌<◌, ◌≤◌, ◌+◌, ◌++◌, ◌∙◌, ℕ, zero, suc, true, false, Option, Some, None, List, [], ◌∷◌, Ok, Err, length, refl, sym, ap, arith, append_assoc}
+use Rattle.std.proofs.Common.{◌≡◌, ◌<◌, ◌≤◌, ◌+◌, ◌++◌, ◌∙◌, ℕ, true, false, Option, Some, None, List, [], ◌∷◌, Ok, Err, length, refl, sym, ap, arith, append_assoc}
 use Rattle.std.proofs.lemmas.Bool.Decides.{nat_tests}
 use Rattle.std.proofs.lemmas.List.{length-map}
 use Rattle.std.proofs.lemmas.Option.{slice_get-map}
 use Rattle.std.specs.Prelude.{if◌then◌else◌, nat_lt, slice_get}
+use Rattle.live_answers.proofs.GroupLemmas.{got_first}
+use Rattle.live_answers.proofs.Silence.{none_less, no_fewer}
 use Rattle.live_answers.specs.Laws.{accepted, if_accepted, next_behind}
 use Rattle.live_answers.specs.Live.{Heard, next_after, text_after}
 use Rattle.live_answers.specs.Rows.{line_behind_log, message_rows, rows_of_line}
 use Rattle.live_answers.specs.Standing.{LineView}
 use Rattle.live_answers.specs.declared.replay.Replay.{Replay}
-use Rattle.live_recovery.proofs.Printing.{Agree, none_less, no_fewer, same_text}
+use Rattle.live_recovery.proofs.Printing.{Agree, same_text}
 use Rattle.live_recovery.specs.Laws.{views_of}
 use Rattle.live_recovery.specs.Recovery.{rows_again, text_again}
 use Rattle.run_values.specs.declared.post.Answer.{Answer}
@@ -81,14 +83,9 @@ printed_again replay answers heard later many quiet =
 
 -- ---- answers that begin others
 
-first_views : (views more : List AnswerView) (number : ℕ) → number < length views → slice_get (views ++ more) number ≡ slice_get views number
-first_views [] more number less = absurd (omega (arith, less))
-first_views (view ∷ views) more zero less = refl
-first_views (view ∷ views) more (suc number) less = first_views views more number (omega (arith, less))
-
 begin_agree : (early answers : List Answer) (more : List AnswerView) → views_of answers ≡ views_of early ++ more → Agree early answers (length early)
 begin_agree early answers more is number less =
-    sym (slice_get-map answer_view early number) ∙ sym (first_views (views_of early) more number (omega (arith, less, length-map early answer_view)))
+    sym (slice_get-map answer_view early number) ∙ sym (got_first (views_of early) more number (omega (arith, less, length-map early answer_view)))
     ∙ ap (λ views. slice_get views number) (sym is) ∙ slice_get-map answer_view answers number
 
 -- of lines whose messages have answers all answers print the same that begin with these

@@ -8,7 +8,10 @@ use Rattle.std.specs.Ordering.{nat_cmp}
 use Rattle.std.specs.declared.vec.Vec.{Vec}
 use Rattle.std.specs.declared.alloc.Global.{Global}
 use Rattle.std.proofs.lemmas.Bool.{eqb-true}
-use Rattle.std.proofs.lemmas.List.{length-map, length-reverse, map-append, reverse-append}
+use Rattle.std.proofs.lemmas.List.{length-map, length-reverse}
+use Rattle.account_core.proofs.Moves.{its_call, its_deed, known_here, known_apart}
+use Rattle.account_core.proofs.Entering.{credit_rests, past_pushed}
+use Rattle.account_core.proofs.Asking.{asked_call}
 use Rattle.account_core.specs.Answers.{answer}
 use Rattle.account_core.specs.Asked.{Asked, Credits, IsCredit, IsOfCall, Reserves, Returns, Settles, call_of}
 use Rattle.account_core.specs.CallStages.{stage_of}
@@ -25,10 +28,9 @@ use Rattle.account_core.proofs.Owing.{owes_denied, owes_end, owes_grant, owes_re
 use Rattle.rising_map.proofs.RisingLemmas.{kept_of}
 use Rattle.shared_account.specs.Kinds.{IsReplyTo}
 use Rattle.locked_account.specs.Room.{IsRoomy, ShowsStages, stage_in}
-use Rattle.locked_account.specs.Seats.{SeatView}
 use Rattle.locked_account.specs.declared.seat.Seat.TheInside.{Inside}
 use Rattle.shared_account.proofs.Answering.{answer_fits}
-use Rattle.shared_account.proofs.Knowing.{its_call, its_deed, known_apart, known_here, known_resting}
+use Rattle.shared_account.proofs.Knowing.{known_resting}
 
 -- ---- the places of one call
 
@@ -45,18 +47,6 @@ owes known (Settles call number info) (reply.Settled paid available) fits = owes
 owes known (Settles call number info) (reply.Forfeit paid available) fits = owes_report (is_open known) known.awaits
 owes known (Returns call) (reply.Returned paid available) fits = owes_end known.plan known.returned known.awaits
 owes known asked response fits = absurd fits
-
-pub of_call : (call : ℕ) (asked : Asked) → IsOfCall call asked → call_of asked ≡ call
-of_call call (Credits amount moment) is = absurd is
-of_call call (Reserves other plan wanted least at) is = is
-of_call call (Settles other number info) is = is
-of_call call (Returns other) is = is
-
-credit_rests : (asked : Asked) (response : Reply) → IsCredit asked → deed_of asked response ≡ Rests
-credit_rests (Credits amount moment) response is = refl
-credit_rests (Reserves call plan wanted least at) response is = absurd is
-credit_rests (Settles call number info) response is = absurd is
-credit_rests (Returns call) response is = absurd is
 
 -- ---- the map
 
@@ -149,9 +139,6 @@ roomy_new mine kept none empty =
 
 -- ---- the same of a seat's fields
 
-past_pushed : (items : List Entry) (entry : Entry) → reverse (map entry_data (items ++ entry ∷ [])) ≡ entry_data entry ∷ reverse (map entry_data items)
-past_pushed items entry = rw (map-append entry_data items (entry ∷ []), reverse-append) refl
-
 -- a seat's list with an entry at its end
 pub roomy_pushed : (old items : List Entry) (entry : Entry) (kept : List (ℕ × CallStage)) (places capacity : ℕ) → items ≡ old ++ entry ∷ []
     → IsRoomy (entry_data entry ∷ reverse (map entry_data old)) kept places capacity → IsRoomy (reverse (map entry_data items)) kept places capacity
@@ -161,11 +148,6 @@ roomy_pushed old items entry kept places capacity is roomy =
 
 pub length_past : (old : List Entry) → length (reverse (map entry_data old)) ≡ length old
 length_past old = length-reverse (map entry_data old) ∙ length-map old entry_data
-
--- its list in the words of its callers
-pub past_seen : (s : Inside) (place : SeatView) → record { account = s.account; number = s.number; mine = map entry_data s.mine.items } ≡ place
-    → reverse place.mine ≡ reverse (map entry_data s.mine.items)
-past_seen s place view_is = ap (λ p. reverse p.mine) (sym view_is)
 
 pub credit_roomy : EntriesOweToTheirCalls → (old : List Entry) (entry : Entry) (kept : List (ℕ × CallStage)) (places capacity capacity' : ℕ)
     → IsRoomy (reverse (map entry_data old)) kept places capacity → IsCredit (entry_data entry).asked → length old + (places + 1) ≤ capacity'
@@ -187,7 +169,7 @@ is_entry s roomy opening until past seat call asked response before after owed_b
     let R : Reply → Type 0 = IsReplyTo asked in
     let h : List EntryData = reverse (map entry_data s.mine.items) in
     let C : ℕ → Type 0 = λ c. stage_of (known c h) ≡ before in
-    let before_known : stage_of (known (call_of asked) h) ≡ before = subst C (sym (of_call call asked here)) (sym (before_is ∙ roomy.tells call)) in
+    let before_known : stage_of (known (call_of asked) h) ≡ before = subst C (sym (asked_call call asked here)) (sym (before_is ∙ roomy.tells call)) in
     record {
       fits = subst R (sym response_is) (answer_fits opening until past asked);
       after_is = after_is (known (call_of asked) h) before_known;

@@ -1,6 +1,7 @@
 -- The port answers, and the dialogue goes on.
 use Rattle.std.proofs.Common.{refl, ◌≡◌, ◌++◌, ℕ, false, Option, Some, Result, Ok, Err, List, [], ◌∷◌, ap, ◌∙◌, append-nil}
 use Rattle.std.specs.Prelude.{IfSome}
+use Rattle.account_core.proofs.Asking.{asked_call}
 use Rattle.account_core.specs.Asked.{Asked, IsOfCall}
 use Rattle.account_core.specs.Known.{CallFacts, deed, deed_of, known_after}
 use Rattle.account_core.specs.Ledger.{entry_by}
@@ -16,7 +17,7 @@ use Rattle.one_call.specs.Asks.{IsAskedOnce}
 use Rattle.one_call.specs.Covered.{FitsMeter, IsAtRest, IsReadyCall}
 use Rattle.one_call.specs.Counts.{with_answer}
 use Rattle.one_call.specs.declared.counts.Counts.{Counts}
-use Rattle.one_call.proofs.Asking.{FitsThen, answered_fits, deed_is, its_call, no_forfeit, of_call, refused_fits}
+use Rattle.one_call.proofs.Asking.{FitsThen, answered_fits, deed_is, no_forfeit, of_call, refused_fits}
 
 -- ---- what it says fits
 
@@ -32,7 +33,7 @@ ready_by : (call : ℕ) (meter : Meter) (queued : List Paid) (before after : Opt
 ready_by call meter queued before after phase asked (Ok reply) moves ready =
     let moved = rw ready.stands at moves in
     let of : IsOfCall call asked = of_call call meter queued ready.kept phase asked ready.fits in
-    let deed_here : deed call (entry_by 0 asked reply) ≡ deed_of asked reply = deed_is call asked reply (its_call call asked of) in
+    let deed_here : deed call (entry_by 0 asked reply) ≡ deed_of asked reply = deed_is call asked reply (asked_call call asked of) in
     record {
       kept = known_after ready.kept (deed_of asked reply);
       stands = moved.0 ∙ ap (λ d. Some (known_after ready.kept d)) deed_here;

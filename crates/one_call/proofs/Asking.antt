@@ -4,14 +4,14 @@ use Rattle.std.proofs.lemmas.Bool.{eq-eqb}
 use Rattle.std.specs.Prelude.{unwrap_or, if◌then◌else◌, IsSome}
 use Rattle.account_core.specs.Answers.{accepted_times}
 use Rattle.account_core.specs.Asked.{Asked, Credits, Reserves, Settles, Returns, IsOfCall, call_of}
-use Rattle.account_core.specs.Known.{CallFacts, EntryDeed, deed, deed_of, known_after, nothing_known, plan_in_force}
+use Rattle.account_core.specs.Known.{CallFacts, deed, deed_of, known_after}
 use Rattle.account_core.specs.Known as known
 use Rattle.account_core.specs.Ledger.{entry_by}
 use Rattle.account_core.specs.Standing.{IsGrant, FitsCall}
 use Rattle.account_core.specs.declared.entry.Reply.{Reply}
 use Rattle.account_core.specs.declared.entry.Reply.TheVariants.{Credited, CreditOver, Granted, Denied, Settled, Forfeit, Returned}
 use Rattle.cap_values.specs.Orders.{Paid, Pay}
-use Rattle.dialogue_core.specs.Phases.{Conditions, Phase, Says, Sequel, FirstAsk, Running, Settling, MoreAsk, Returning, Ending, Closed, Asks, Sends, Finished}
+use Rattle.dialogue_core.specs.Phases.{Conditions, Phase, Says, Sequel, FirstAsk, Running, Settling, MoreAsk, Returning, Ending, Closed, Sends, Finished}
 use Rattle.dialogue_core.specs.Phases as phase
 use Rattle.dialogue_core.specs.Rules.{Step, are_units, says_first_period, on_reply, sequel, on_refusal}
 use Rattle.dialogue_core.specs.declared.fault.DialogueFault.TheVariants.{Unexpected}
@@ -27,12 +27,6 @@ use Rattle.one_call.specs.declared.counts.Counts.{Counts}
 pub deed_is : (call : ℕ) (asked : Asked) (reply : Reply) → call_of asked ≡ call → deed call (entry_by 0 asked reply) ≡ deed_of asked reply
 unfolding deed
 deed_is call asked reply same = rw (eq-eqb (call_of asked) call same) refl
-
-pub its_call : (call : ℕ) (asked : Asked) → IsOfCall call asked → call_of asked ≡ call
-its_call call (Credits amount until) of = absurd of
-its_call call (Reserves other plan wanted least moment) of = of
-its_call call (Settles other number info) of = of
-its_call call (Returns other) of = of
 
 pub of_call : (call : ℕ) (meter : Meter) (queued : List Paid) (kept : CallFacts) (phase : Phase) (asked : Asked) → IsAsking call meter queued kept phase asked → IsOfCall call asked
 of_call call meter queued kept (FirstAsk t) (Reserves of plan wanted least moment) asks = asks.ours

@@ -4,6 +4,7 @@ use Rattle.std.proofs.Math.Nat.{le_trans}
 use Rattle.std.proofs.lemmas.Bool.Decides.{nat_tests}
 use Rattle.std.specs.Prelude.{◌&&◌, ◌||◌, ◌==◌, not, is_some, unwrap_or, nat_le, if◌then◌else◌, IsSome}
 use Rattle.std.proofs.lemmas.Bool.{and_from, le-leb}
+use Rattle.price_core.proofs.LawfulLemmas.{implies}
 use Rattle.account_core.specs.Answers.{accepted_times}
 use Rattle.account_core.specs.Known.{CallFacts, known_after}
 use Rattle.account_core.specs.Known as known
@@ -113,10 +114,6 @@ stays_with : (old new : Bool) (a b : ℕ) → (old ≡ true → (new ≡ true) �
 stays_with true new a b stays = rw ((stays refl).0, equal a b (stays refl).1) refl
 stays_with false new a b stays = refl
 
-may_switch : (new rated : Bool) → (new ≡ true → rated ≡ true) → (not new || rated) ≡ true
-may_switch true rated may = may refl
-may_switch false rated may = refl
-
 is_switched : (answer now : ℕ) (came : Option ℕ) (rated : Bool) → ((s : ℕ) → came ≡ Some s → rated ≡ true) → (times_at answer came now).switched ≡ true → rated ≡ true
 is_switched answer now None rated may switched = absurd (cc)
 is_switched answer now (Some s) rated may switched = may s refl
@@ -125,7 +122,7 @@ lawful_at : (plan : Rates) (old new : Elapsed) (granted : ℕ) → Follows old n
     → is_lawful plan old new granted ≡ true
 lawful_at plan old new granted follows rated total =
     all_five _ _ _ _ _ (le-leb old.before new.before follows.before) (le-leb old.after new.after follows.after)
-    (stays_with old.switched new.switched new.before old.before follows.stays) (may_switch new.switched (is_some plan.after) rated)
+    (stays_with old.switched new.switched new.before old.before follows.stays) (implies new.switched (is_some plan.after) rated)
     (le-leb (new.before + new.after) granted total)
 
 accepts : (kept : CallFacts) (info : TimeInfo) (plan : Rates) (new : Elapsed) → kept.forfeited ≡ false → kept.plan ≡ Some plan → times_read kept.times info ≡ Some new

@@ -3,10 +3,11 @@ use Rattle.std.proofs.Common.{◌≡◌, ◌∙◌, ◌++◌, ◌+◌, ℕ, zero
 use Rattle.std.specs.Prelude.{filter, if◌then◌else◌, slice_index_or}
 use Rattle.std.proofs.lemmas.List.{length-map}
 use Rattle.std.proofs.lemmas.List.Elements.{All-head, All-tail}
+use Rattle.runs_core.proofs.HearingLemmas.{many_answers}
 use Rattle.account_core.specs.Answers.{IsLegal}
 use Rattle.account_core.specs.Entries.{EntryData}
 use Rattle.live_recovery.proofs.Alike.{GoAlike, goes_itself}
-use Rattle.live_recovery.proofs.Alone.{answers_all, are_legal, as_many, histories_of, none_is_fault, opening_at, own_lists, shares_all, until_at}
+use Rattle.live_recovery.proofs.Alone.{answers_all, are_legal, histories_of, none_is_fault, opening_at, own_lists, shares_all, until_at}
 use Rattle.live_recovery.proofs.Chains.{NoFault, chains_alike}
 use Rattle.live_recovery.proofs.Handling.{AreLegal}
 use Rattle.live_recovery.specs.Laws.{NoneIsRefused, views_of}
@@ -217,8 +218,8 @@ pub plain_chains : (setup : Setup) (choice : Choice) (given its : List (ℕ × B
 plain_chains setup choice given its answers own_answers books own_books by run own_run none own_none =
     let a : IsAnsweredBy StoodIn setup 1 given answers books 0 = run.answered 0 (omega arith) in
     let b : IsAnsweredBy StoodIn setup 1 its own_answers own_books 0 = own_run.answered 0 (omega arith) in
-    let views = ap views_of (answers_all given answers (as_many given answers run.each_heard)) in
-    let own_views = ap views_of (answers_all its own_answers (as_many its own_answers own_run.each_heard)) in
+    let views = ap views_of (answers_all given answers (many_answers 0 given answers run.each_heard)) in
+    let own_views = ap views_of (answers_all its own_answers (many_answers 0 its own_answers own_run.each_heard)) in
     let lists = own_lists books run.owned in
     let its_lists = own_lists own_books own_run.owned in
     let o = opening_at setup.accounts in

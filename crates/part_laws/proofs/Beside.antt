@@ -1,5 +1,5 @@
 -- The play of some rows beside the play of all: what holds between two rounds, and what a round of all is for some.
-use Rattle.std.proofs.Common.{◌≡◌, ◌≤◌, ◌<◌, ◌+◌, ◌++◌, ◌⊎◌, ℕ, Bool, true, false, Some, None, List, [], ◌∷◌, All}
+use Rattle.std.proofs.Common.{◌≡◌, ◌≤◌, ◌<◌, ◌+◌, ◌++◌, ◌⊎◌, ℕ, Bool, true, false, Some, None, List, [], All}
 use Rattle.std.specs.List.{filter}
 use Rattle.part_laws.proofs.InOrder.{ComesInOrder, of_delivery}
 use Rattle.part_laws.proofs.OneSsf.{AreSsfsAlike}

@@ -1,5 +1,5 @@
 -- What is due by now lies in front of what isn't, among all and among some.
-use Rattle.std.proofs.Common.{◌≡◌, ◌++◌, ◌+◌, ◌<◌, ◌≤◌, ◌||◌, ◌&&◌, ℕ, Bool, true, false, true≢false, Some, None, List, [], ◌∷◌, All, cond, refl, sym, ap, ◌∙◌, arith, subst}
+use Rattle.std.proofs.Common.{◌≡◌, ◌++◌, ◌+◌, ◌<◌, ◌≤◌, ◌||◌, ℕ, Bool, true, false, true≢false, Some, None, List, [], ◌∷◌, All, cond, refl, sym, ap, ◌∙◌, arith, subst}
 use Rattle.std.proofs.lemmas.Bool.Decides.{nat_tests}
 use Rattle.std.proofs.lemmas.Cmp.{nat_cmp_total}
 use Rattle.std.proofs.lemmas.List.Elements.{All-cons, All-filter, All-head, All-nil, All-tail, filter-append}
@@ -12,6 +12,7 @@ use Rattle.std.specs.List.Sorted.{IsStrictlySortedBy}
 use Rattle.std.specs.Option.{ForSome}
 use Rattle.std.specs.Ordering.{nat_cmp}
 use Rattle.std.specs.Prelude.{nat_le}
+use Rattle.std.proofs.lemmas.Bool.{and_parts}
 use Rattle.part_laws.proofs.Beside.{IsNetworkOf}
 use Rattle.part_laws.proofs.ChosenSteps.{chosen_ssfs, own_ssf, same_choice, shown_alike}
 use Rattle.part_laws.proofs.InOrder.{all_from, ComesInOrder, of_delivery, rest_in_order, starts_of, StartsFrom}
@@ -75,14 +76,10 @@ module _ {X : Type 0} (at : X → ℕ) where
 abbrev pub of_row : ScriptRow → ℕ
 of_row row = row.at
 
-both_true : (one two : Bool) → (one && two) ≡ true → (one ≡ true) × (two ≡ true)
-both_true true two is = (refl, is)
-both_true false two is = absurd (true≢false (sym is))
-
 pub in_order_rows : (from : ℕ) (rows : List ScriptRow) → rows_are_in_order from rows ≡ true → ComesInOrder of_row from rows
 in_order_rows from [] is = tt
 in_order_rows from (row ∷ rows) is =
-    let parts = both_true (nat_le from row.at) (rows_are_in_order row.at rows) is in
+    let parts = and_parts (nat_le from row.at) (rows_are_in_order row.at rows) is in
     let first : from ≤ row.at = grind (arith, nat_tests, parts.0) in (first, in_order_rows row.at rows parts.1)
 
 pub rows_in_order : (from : ℕ) (rows : List ScriptRow) → ComesInOrder of_row from rows → rows_are_in_order from rows ≡ true

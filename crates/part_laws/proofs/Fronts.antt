@@ -1,9 +1,11 @@
 -- Two runs that are given the same at first.
 use Rattle.std.proofs.Common.{◌≡◌, ◌∙◌, ◌++◌, ◌+◌, ℕ, Option, List, [], ◌∷◌, length, map, take, refl, sym, ap, subst, arith}
 use Rattle.std.proofs.lemmas.List.{length-map}
+use Rattle.runs_core.proofs.HandOuts.{numbered-append}
+use Rattle.runs_core.proofs.HearingLemmas.{many_answers, numbered-length}
 use Rattle.account_core.specs.Entries.{EntryData}
 use Rattle.live_recovery.proofs.Alike.{ItemsAlike, SpeakAlike, speaks_itself}
-use Rattle.live_recovery.proofs.Alone.{answers_all, are_legal, as_many, none_is_fault, numbered_many, numbered_more, opening_at, own_lists, shares_all, until_at}
+use Rattle.live_recovery.proofs.Alone.{answers_all, are_legal, none_is_fault, opening_at, own_lists, shares_all, until_at}
 use Rattle.live_recovery.proofs.Chains.{NoFault, chain_begins, once_alike}
 use Rattle.live_recovery.proofs.Handling.{AreLegal, HoldAlike, done_goes_on}
 use Rattle.live_recovery.specs.Laws.{views_of}
@@ -60,8 +62,8 @@ fronts_answered setup given more rest answers others books other proper run run_
     let its = given ++ rest in
     let a : IsAnsweredBy StoodIn setup 1 all answers books 0 = run.answered 0 (omega arith) in
     let b : IsAnsweredBy StoodIn setup 1 its others other 0 = run_too.answered 0 (omega arith) in
-    let views = ap views_of (answers_all all answers (as_many all answers run.each_heard)) in
-    let views_too = ap views_of (answers_all its others (as_many its others run_too.each_heard)) in
+    let views = ap views_of (answers_all all answers (many_answers 0 all answers run.each_heard)) in
+    let views_too = ap views_of (answers_all its others (many_answers 0 its others run_too.each_heard)) in
     let lists = own_lists books run.owned in
     let lists_too = own_lists other run_too.owned in
     let o = opening_at setup.accounts in
@@ -72,8 +74,8 @@ fronts_answered setup given more rest answers others books other proper run run_
     let N : List AnswerView → Type 0 = NoFault in
     let front = numbered 0 given in
     let same = fronts_alike o u (refuses_in StoodIn books 0) (refuses_in StoodIn other 0) setup (seat_numbers 0 setup) proper front (numbered (0 + length given) more) (numbered (0 + length given) rest)
-    a.posts b.posts _ _ (at_first setup) _ (at_first setup) _ (a.share ∙ shares_all all ∙ numbered_more 0 given more) (b.share ∙ shares_all its ∙ numbered_more 0 given rest)
+    a.posts b.posts _ _ (at_first setup) _ (at_first setup) _ (a.share ∙ shares_all all ∙ numbered-append 0 given more) (b.share ∙ shares_all its ∙ numbered-append 0 given rest)
     (length-map setup.accounts _) (λ call. tt) (record { lists = refl; talks = λ call. refl })
     (subst N (sym views) (none_is_fault answers none)) (subst N (sym views_too) (none_is_fault others none_too)) legal legal_too a.answered.chain b.answered.chain in
-    let count = numbered_many 0 given in
+    let count = numbered-length 0 given in
     ap (λ (n : ℕ). take n (views_of answers)) (sym count) ∙ ap (take (length front)) (sym views) ∙ same ∙ ap (take (length front)) views_too ∙ ap (λ (n : ℕ). take n (views_of others)) count

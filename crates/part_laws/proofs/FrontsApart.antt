@@ -3,7 +3,8 @@ use Rattle.std.proofs.Common.{◌≡◌, ◌∙◌, ◌++◌, ◌≤◌, ℕ, Bo
 use Rattle.std.specs.Prelude.{if◌then◌else◌}
 use Rattle.std.proofs.lemmas.List.{length-map, map-append}
 use Rattle.std.proofs.lemmas.List.Elements.{filter-append}
-use Rattle.live_recovery.proofs.Alone.{as_many, opening_at, until_at}
+use Rattle.runs_core.proofs.HearingLemmas.{many_answers}
+use Rattle.live_recovery.proofs.Alone.{opening_at, until_at}
 use Rattle.part_laws.proofs.Apart.{plain_chains, plain_many}
 use Rattle.part_laws.proofs.Fronts.{fronts_alike}
 use Rattle.part_laws.proofs.Plain.{AllShown, plain}
@@ -46,5 +47,5 @@ fronts_apart setup choice given more own_more answers own_answers books own_book
     p.posts p.own_posts theirs ours start p.last start p.own_last items_are own_items_are (plain_many setup) (λ call. tt) (record { lists = refl; talks = λ call. refl })
     p.none p.own_none p.legal p.own_legal p.chain p.own_chain in
     let count : length front ≡ length (chosen choice given) = length-map (chosen choice given) (item_at 0) in
-    let within : length given ≤ length answers = omega (arith, as_many all answers run.each_heard, length-append given more) in
+    let within : length given ≤ length answers = omega (arith, many_answers 0 all answers run.each_heard, length-append given more) in
     ap (λ (n : ℕ). take n ours) (sym count) ∙ sym same ∙ ap (λ (n : ℕ). take n theirs) count ∙ front_answers choice given more answers within

@@ -2,10 +2,10 @@
 use Rattle.std.proofs.Common.{◌≡◌, ◌<◌, ◌≤◌, ◌∙◌, ◌++◌, ◌+◌, ℕ, zero, suc, Bool, true, false, Option, List, [], ◌∷◌, length, map, refl, sym, ap, subst, arith, append-nil, append_assoc}
 use Rattle.std.specs.Prelude.{◌==◌, if◌then◌else◌, nat_le, slice_index_or}
 use Rattle.std.specs.List.{filter, flat_map}
-use Rattle.std.specs.List.Sorted.{IsNonDecreasingBy}
 use Rattle.std.proofs.lemmas.Bool.Decides.{nat_tests}
 use Rattle.std.proofs.lemmas.List.{map-append}
 use Rattle.std.proofs.lemmas.List.Elements.{All-cons, All-head, All-nil, All-tail}
+use Rattle.run_laws.proofs.Joining.{is_a_part}
 use Rattle.cap_values.specs.declared.message.SsfMsg.TheVariants.{InitialDp, EventReport, ChargingReport, Ended}
 use Rattle.part_laws.proofs.Apart.{accounts_apart}
 use Rattle.part_laws.proofs.InOrder.{ComesInOrder, rise}
@@ -82,14 +82,6 @@ part_rises (first ∷ firsts) one other below = by_both (nat_le first one) refl 
     by_both false b false c rest = rw (b, c) rest
     by_both true b false c rest = absurd (grind (arith, nat_tests, b, c, below))
 
-pub part_within : (firsts : List ℕ) (account : ℕ) → part_of_account firsts account ≤ length firsts
-part_within [] account = omega arith
-part_within (first ∷ firsts) account = by_first (nat_le first account) refl (part_within firsts account)
-  where
-    by_first : (b : Bool) → nat_le first account ≡ b → part_of_account firsts account ≤ length firsts → part_of_account (first ∷ firsts) account ≤ suc (length firsts)
-    by_first true b rest = rw b (omega (arith, rest))
-    by_first false b rest = rw b (omega (arith, rest))
-
 module _ (firsts : List ℕ) where
   -- the part of a book
   abbrev part_in : Closed → ℕ
@@ -114,7 +106,7 @@ module _ (firsts : List ℕ) where
   nothing_behind : (books : List Closed) → behind part_in (suc (length firsts)) books ≡ []
   nothing_behind [] = refl
   nothing_behind (book ∷ books) =
-      let here : nat_le (suc (length firsts)) (part_in book) ≡ false = grind (arith, nat_tests, part_within firsts book.account) in rw here (nothing_behind books)
+      let here : nat_le (suc (length firsts)) (part_in book) ≡ false = grind (arith, nat_tests, is_a_part firsts book.account) in rw here (nothing_behind books)
 
   everything : (books : List Closed) → behind part_in 0 books ≡ books
   everything [] = refl

@@ -6,12 +6,12 @@ use Rattle.std.specs.Ordering.{nat_cmp}
 use Rattle.std.specs.Prelude.{◌%◌, if◌then◌else◌}
 use Rattle.std.proofs.lemmas.List.{get_or-map, length-map}
 use Rattle.std.proofs.lemmas.Map.Keys.{non_decreasing_from_sorted}
+use Rattle.run_laws.proofs.Joining.{is_a_part}
 use Rattle.run_outputs.specs.Tables.{call_header, call_text, record_row}
 use Rattle.run_outputs.specs.declared.call_record.CallRecord.{CallRecord}
 use Rattle.tariff_core.specs.declared.clock.Clock.{Clock}
 use Rattle.part_laws.proofs.InOrder.{ComesInOrder, rise}
 use Rattle.part_laws.proofs.Merged.{at_number}
-use Rattle.part_laws.proofs.Joined.{part_within}
 use Rattle.run_outputs.specs.Parts.{part_by}
 use native.Mathlib.Nat.{mod-lt}
 
@@ -61,5 +61,5 @@ module _ (clock : Clock) where
 -- ---- the part of a call is one of them
 
 pub home_within : (firsts : List ℕ) (account : Option ℕ) (call : ℕ) → part_by firsts account call < 1 + length firsts
-home_within firsts (Some account) call = omega (arith, part_within firsts account)
+home_within firsts (Some account) call = omega (arith, is_a_part firsts account)
 home_within firsts None call = let small : call % (1 + length firsts) < 1 + length firsts = mod-lt call (omega arith) in small

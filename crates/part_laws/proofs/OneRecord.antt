@@ -1,15 +1,12 @@
 -- A run has one record of each call, by what is printed of it.
-use Rattle.std.proofs.Common.{◌≡◌, ◌==◌, ◌∙◌, ℕ, Bool, Option, Some, None, List, [], ◌∷◌, map, refl, sym, ap, subst, arith, All}
-use Rattle.std.specs.BTreeMap.{is_at}
+use Rattle.std.proofs.Common.{◌≡◌, ◌∙◌, ℕ, Option, Some, None, List, [], ◌∷◌, map, refl, sym, ap, subst, All}
 use Rattle.std.specs.BTreeSet.{BTreeSet}
-use Rattle.std.specs.List.{list_any}
 use Rattle.std.specs.Option.{option_map}
-use Rattle.std.specs.Ordering.{nat_cmp}
-use Rattle.std.specs.Prelude.{◌||◌, is_some}
-use Rattle.std.proofs.lemmas.Bool.Decides.{nat_tests}
+use Rattle.std.specs.Prelude.{is_some}
 use Rattle.std.proofs.lemmas.Cmp.{nat_cmp_total}
 use Rattle.std.proofs.lemmas.List.Elements.{All-contains, All-head, All-tail}
 use Rattle.std.proofs.lemmas.Map.Lookups.{btree_set_from_contains, exact_unsigned}
+use Rattle.run_outputs.proofs.RecordLemmas.{same_calls}
 use Rattle.run_outputs.specs.Calls.{call_reports_of, start_of}
 use Rattle.run_outputs.specs.Records.{AreRecords, IsPrefixOf, IsRecord, Run, outcome_of, prefix_of}
 use Rattle.run_outputs.specs.Standings.{past_of, standing_of}
@@ -74,20 +71,12 @@ module _ (single : OnePrefixCounts) (run : Run) (clock : Clock) where
   abbrev call_numbers : List CallRecord → List ℕ
   call_numbers calls = map (λ (call : CallRecord). call.call) calls
 
-  at_same : (number other : ℕ) → is_at (nat_cmp number) other ≡ (number == other)
-  at_same number other = grind (arith, nat_tests)
-
-  among_same : (number : ℕ) (numbers : List ℕ) → list_any (is_at (nat_cmp number)) numbers ≡ list_any (λ other. number == other) numbers
-  among_same number [] = refl
-  among_same number (other ∷ numbers) =
-      ap (λ (b : Bool). b || list_any (is_at (nat_cmp number)) numbers) (at_same number other) ∙ ap (λ (b : Bool). (number == other) || b) (among_same number numbers)
-
   numbers_one : (calls others : List CallRecord) → AreRecords run calls → AreRecords run others → call_numbers calls ≡ call_numbers others
   numbers_one calls others are too =
       let first : BTreeSet ℕ = record { keys = call_numbers calls } in
       let second : BTreeSet ℕ = record { keys = call_numbers others } in
       btree_set_from_contains nat_cmp_total first second are.ascending too.ascending
-      (λ number. among_same number (call_numbers calls) ∙ sym (are.started number) ∙ too.started number ∙ sym (among_same number (call_numbers others))) exact_unsigned
+      (λ number. same_calls number (call_numbers calls) ∙ sym (are.started number) ∙ too.started number ∙ sym (same_calls number (call_numbers others))) exact_unsigned
 
   shown_same : (calls others : List CallRecord) → call_numbers calls ≡ call_numbers others → All (IsRecord run) calls → All (IsRecord run) others → map (row_of clock) calls ≡ map (row_of clock) others
   shown_same [] [] same are too = refl

@@ -2,9 +2,10 @@
 use Rattle.std.proofs.Common.{◌≡◌, ◌∙◌, ◌++◌, ℕ, Bool, true, false, true≢false, Option, Some, None, List, [], ◌∷◌, length, map, take, refl, sym, ap, subst, append-nil, append_assoc}
 use Rattle.std.specs.Prelude.{MatchOption}
 use Rattle.std.proofs.lemmas.List.{append_cancel_left, length-map, map-append}
+use Rattle.runs_core.proofs.HearingLemmas.{many_answers}
 use Rattle.cap_values.specs.Orders.{Order}
 use Rattle.cap_values.specs.declared.number.Number.{Number}
-use Rattle.live_recovery.proofs.Alone.{as_many, runs_alike}
+use Rattle.live_recovery.proofs.Alone.{runs_alike}
 use Rattle.live_recovery.specs.Laws.{NoneIsRefused, views_of}
 use Rattle.part_laws.proofs.Fronts.{fronts_answered}
 use Rattle.part_laws.proofs.OnePlay.{PlayAlike, fresh_alike, turn_alike}
@@ -144,7 +145,7 @@ module _ (one_way : TimersRunOneWay) (setup : Setup) (proper : IsProper setup.ta
       let G : List (ℕ × Body) → Type 0 = λ g. Grown g its in
       let fronts = fronts_same given its old.network.given given its (before_this ++ answers) here.rest (again ++ replies) there.rest
       here.grown (subst G (sym alike.network.given) there.grown) refl refl
-      (as_many old.network.given (before_this ++ answers) here.hears.each) (as_many it.network.given (again ++ replies) there.hears.each ∙ sym (ap length alike.network.given))
+      (many_answers 0 old.network.given (before_this ++ answers) here.hears.each) (many_answers 0 it.network.given (again ++ replies) there.hears.each ∙ sym (ap length alike.network.given))
       here.split there.split run run_too in
       let said = append_cancel_left (views_of again) (views_of answers) (views_of replies)
       (ap (λ l. l ++ views_of answers) (sym views) ∙ sym (map-append answer_view before_this answers) ∙ fronts ∙ map-append answer_view again replies) in

@@ -186,7 +186,7 @@ row_fault_alike one_way at (row.Recharge account amount until) before after agai
 
 -- ---- what is due
 
-dues_same : (view : View) (trace other : List Happening) → Stands view trace → Stands view other → (timer : _) → due view.config trace timer ≡ due view.config other timer
+pub dues_same : (view : View) (trace other : List Happening) → Stands view trace → Stands view other → (timer : _) → due view.config trace timer ≡ due view.config other timer
 dues_same view trace other stands too timer = due-stage view.config view.last view.stage trace timer stands ∙ sym (due-stage view.config view.last view.stage other timer too)
 
 next_due_too : (config : SsfConfig) (trace other : List Happening) (moment : Option ℕ) → ((timer : _) → due config trace timer ≡ due config other timer) → IsNextDue config trace moment → IsNextDue config other moment

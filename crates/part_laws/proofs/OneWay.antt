@@ -1,5 +1,6 @@
 -- The timers of a gsmSSF run in one way.
 use Rattle.std.proofs.Common.{◌≡◌, ◌≤◌, ◌<◌, ◌++◌, ◌⊎◌, inl, inr, ℕ, Some, List, [], ◌∷◌, refl, sym, ap, subst, ◌∙◌, append_assoc, append-nil, arith}
+use Rattle.part_laws.proofs.RoundMoments.{not_later}
 use Rattle.part_laws.specs.OneWay.{TimersRunOneWay}
 use Rattle.ssf_core.specs.Calls.{AreExpiries, IsExpiry}
 use Rattle.ssf_core.specs.Happenings.{Expired, Happening, Took, What}
@@ -18,10 +19,6 @@ module _ (config : SsfConfig) where
 
   abbrev happens : ℕ → What → List Item → Happening
   happens at what sent = record { at = at; what = what; sent = sent }
-
-  not_later : (one other : ℕ) (timer its : _) → ComesBefore one (Expired timer) other its → one ≤ other
-  not_later one other timer its (inl earlier) = omega (arith, earlier)
-  not_later one other timer its (inr now) = omega (arith, now.0)
 
   not_higher : (one other : ℕ) (timer its : _) → one ≡ other → ComesBefore one (Expired timer) other its → rank timer ≤ rank its
   not_higher one other timer its same (inl earlier) = absurd (omega (arith, earlier, same))

@@ -4,8 +4,8 @@ use Rattle.std.specs.Prelude.{if◌then◌else◌}
 use Rattle.std.specs.List.{slice_get}
 use Rattle.std.proofs.lemmas.List.{append_cancel_left, map-append}
 use Rattle.std.proofs.lemmas.List.Elements.{All-append, All-cons, All-head, All-nil, All-tail, filter-append}
+use Rattle.runs_core.proofs.HandOuts.{numbered-append}
 use Rattle.cap_values.specs.declared.operation.ScfOp.{ScfOp}
-use Rattle.live_recovery.proofs.Alone.{numbered_more}
 use Rattle.part_laws.proofs.Beside.{IsBetween, IsPartPlay, PassesOver, chosen_deliveries}
 use Rattle.part_laws.proofs.InOrder.{of_delivery, order_more}
 use Rattle.part_laws.proofs.Orders.{same_operations}
@@ -58,7 +58,7 @@ each_more given added heard answers each all =
     let m : Item → ℕ = λ item. item.number in
     let later = numbered (0 + length given) added in
     let split : map n heard ++ map n answers ≡ map m (numbered 0 given) ++ map m later =
-    sym (map-append n heard answers) ∙ all ∙ ap (map m) (numbered_more 0 given added) ∙ map-append m (numbered 0 given) later in
+    sym (map-append n heard answers) ∙ all ∙ ap (map m) (numbered-append 0 given added) ∙ map-append m (numbered 0 given) later in
     let same = append_cancel_left (map m (numbered 0 given)) (map n answers) (map m later) (ap (λ l. l ++ map n answers) (sym each) ∙ split) in
     let count : 0 + length given ≡ length given = omega arith in
     subst (λ (k : ℕ). AnswersEach k added answers) count same

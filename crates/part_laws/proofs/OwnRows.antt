@@ -3,7 +3,7 @@ use Rattle.std.proofs.Common.{◌≡◌, ◌∙◌, ◌+◌, ◌++◌, ◌≤◌
 use Rattle.std.specs.Prelude.{if◌then◌else◌}
 use Rattle.std.proofs.lemmas.List.{append_cancel_left, length-map, map-append}
 use Rattle.std.proofs.lemmas.List.Elements.{All-nil, filter-append}
-use Rattle.live_recovery.proofs.Alone.{as_many}
+use Rattle.runs_core.proofs.HearingLemmas.{many_answers}
 use Rattle.live_recovery.specs.Laws.{NoneIsRefused}
 use Rattle.part_laws.proofs.Beside.{EndsAreFollowed, GoesAlong, IsAdded, IsBetween, IsPartPlay, PassesOver, RoundsAreFollowed}
 use Rattle.part_laws.proofs.FrontsApart.{fronts_apart}
@@ -145,11 +145,11 @@ module _ (followed : RoundsAreFollowed) (ends : EndsAreFollowed) (setup : Setup)
       let front = fronts_apart setup choice given here.grown.0 own_more all own_all books own_books proper (subst (AreByAccount setup choice) here.grown.1 by) (subst R here.grown.1 run)
       (subst S (there.grown.1 ∙ ap (λ g. g ++ own_more) is) own_run) none own_none in
       let ours = map u own_heard in
-      let many : length ours ≡ length (chosen choice given) = length-map own_heard u ∙ as_many it.network.given own_heard there.each ∙ ap length is in
+      let many : length ours ≡ length (chosen choice given) = length-map own_heard u ∙ many_answers 0 it.network.given own_heard there.each ∙ ap length is in
       let first : take (length (chosen choice given)) (map u own_all) ≡ ours =
       ap (λ (n : ℕ). take n (map u own_all)) (sym many) ∙ ap (λ (l : List Answer). take (length ours) (map u l)) there.split
       ∙ ap (take (length ours)) (map-append u own_heard there.rest) ∙ take_front ours (map u there.rest) in
-      sym first ∙ front ∙ ap (λ (l : List Answer). map u (answers_for choice given l)) here.split ∙ ap (map u) (answers_front choice given heard here.rest (as_many given heard here.each))
+      sym first ∙ front ∙ ap (λ (l : List Answer). map u (answers_for choice given l)) here.split ∙ ap (map u) (answers_front choice given heard here.rest (many_answers 0 given heard here.each))
 
   -- what a play hears next answers what it has added
   adds : (old between : List (ℕ × Body)) (added : List (ℕ × Body)) (heard answers whole : List Answer) (final other : List (ℕ × Body)) → between ≡ old ++ added
@@ -187,7 +187,7 @@ module _ (followed : RoundsAreFollowed) (ends : EndsAreFollowed) (setup : Setup)
       let after = said between its (heard ++ next) (own_heard ++ also) along.beside.network.given later later_too in
       let same : map u own_heard ++ map u also ≡ map u own_heard ++ map u theirs =
       sym (map-append u own_heard also) ∙ after ∙ ap (λ (g : List (ℕ × Body)). map u (answers_for choice g (heard ++ next))) is_added.grown
-      ∙ ap (map u) (answers_more choice given added heard next (as_many given heard here.each)) ∙ map-append u (answers_for choice given heard) theirs ∙ ap (λ l. l ++ map u theirs) (sym before) in
+      ∙ ap (map u) (answers_more choice given added heard next (many_answers 0 given heard here.each)) ∙ map-append u (answers_for choice given heard) theirs ∙ ap (λ l. l ++ map u theirs) (sym before) in
       record {
         between = between_on between now given added next is_added.moments more is_between;
         beside = goes_on choice between its given it.network.given added next also more own_more (append_cancel_left (map u own_heard) (map u also) (map u theirs) same) along.beside;

@@ -1,5 +1,5 @@
 -- What is read of an input has its order.
-use Rattle.std.proofs.Common.{◌≡◌, ◌<◌, ◌≤◌, ◌+◌, ◌++◌, ◌∙◌, ℕ, Bool, true, false, Option, Some, None, Result, Ok, Err, List, [], ◌∷◌, length, map, reverse, refl, sym, ap, subst, arith}
+use Rattle.std.proofs.Common.{◌≡◌, ◌<◌, ◌≤◌, ◌+◌, ◌++◌, ◌∙◌, ℕ, Bool, true, false, Option, Result, Ok, Err, List, [], ◌∷◌, length, map, reverse, refl, sym, ap, subst, arith}
 use Rattle.std.specs.BTreeMap.{insert_entry}
 use Rattle.std.specs.Cmp.Lexicographic.{slice_cmp}
 use Rattle.std.specs.List.{AllByRecursion}
@@ -11,6 +11,7 @@ use Rattle.std.specs.declared.cmp.Ordering.TheVariants.{Less, Equal, Greater}
 use Rattle.std.specs.Prelude.{codes, if◌then◌else◌, nat_le, nat_lt, ok_or}
 use Rattle.std.proofs.lemmas.Bool.Decides.{nat_tests}
 use Rattle.std.proofs.lemmas.List.{reverse-append}
+use Rattle.table_core.proofs.TableLemmas.{table_keeps}
 use Rattle.part_laws.proofs.InOrder.{ComesInOrder}
 use Rattle.run_texts.specs.Happenings.{Happens, Meets, Recharges, RowData, Starts}
 use Rattle.run_texts.specs.Inputs.{RunInput, as_input_fault, input_of, tariff_in}
@@ -26,37 +27,12 @@ use Rattle.run_values.specs.declared.directory.OpeningCredit.{OpeningCredit}
 use Rattle.table_core.specs.Fields.{has_word, is_blank}
 use Rattle.table_core.specs.Judging.{and_then}
 use Rattle.table_core.specs.Rows.{Fields, rows_of}
-use Rattle.table_core.specs.Tables.{TableForm, below, own_fault, rows_from, table_of, then_rows, unless_own, which_header}
+use Rattle.table_core.specs.Tables.{below, table_of}
 use Rattle.table_core.specs.declared.fault.RowKind.{RowKind}
 use Rattle.table_core.specs.declared.fault.RowKind.TheVariants as kind
 use Rattle.tariff_core.specs.Bands.{Band}
 use Rattle.tariff_core.specs.Laws.{IsReadTariff}
 use Rattle.tariff_core.specs.TariffTable.{tariff_of}
-
--- ---- what each row of a table keeps, the table keeps
-
-module _ {S K F : Type 0} (form : TableForm S K F) (P : S → Type 0) (keeps : (header : ℕ) (read : S) (fields : Fields) (next : S) → P read → form.judge header read fields ≡ Ok next → P next) where
-  rows_keep : (header width number : ℕ) (read : S) (rows : List Fields) (last : S) → P read → rows_from form header width number read rows ≡ Ok last → P last
-  unfolding rows_from
-  rows_keep header width number read [] last holds is = let same : read ≡ last = cc is in subst P same holds
-  rows_keep header width number read (fields ∷ rows) last holds is =
-      by_own (own_fault form.most_rows width number fields) (form.judge header read fields) refl is (λ next held later. rows_keep header width (number + 1) next rows last held later)
-    where
-      by_own : (own : _) (judged : Result S K) → form.judge header read fields ≡ judged
-          → then_rows form number (unless_own form own judged) (λ next. rows_from form header width (number + 1) next rows) ≡ Ok last
-          → ((next : S) → P next → rows_from form header width (number + 1) next rows ≡ Ok last → P last) → P last
-      by_own (Some why) judged at is rest = absurd (cc is)
-      by_own None (Err why) at is rest = absurd (cc is)
-      by_own None (Ok next) at is rest = rest next (keeps header read fields next holds at) is
-
-  pub table_keeps : P form.start → (rows : List Fields) (last : S) → table_of form rows ≡ Ok last → P last
-  unfolding table_of
-  table_keeps holds [] last is = absurd (cc is)
-  table_keeps holds (first ∷ rows) last is = by_header (which_header form.headers first) is
-    where
-      by_header : (header : Option ℕ) → below form first rows header ≡ Ok last → P last
-      by_header None is = absurd (cc is)
-      by_header (Some header) is = rows_keep header (length first) 2 form.start rows last holds is
 
 -- ---- steps that may fail
 
@@ -93,9 +69,9 @@ module _ (accounts : List (ℕ × OpeningCredit)) where
           let same = judged_kept earlier row row.what judged is in
           let after : last_row_moment earlier ≤ row.at = grind (arith, nat_tests, at) in subst (λ (e : RowData). last_row_moment earlier ≤ e.at) same after
 
-  script_falls : (header : ℕ) (earlier : List RowData) (fields : Fields) (next : List RowData) → Fall earlier → (script_form accounts).judge header earlier fields ≡ Ok next → Fall next
+  script_falls : (header : ℕ) (earlier next : List RowData) (fields : Fields) → (script_form accounts).judge header earlier fields ≡ Ok next → Fall earlier → Fall next
   unfolding script_row_at
-  script_falls header earlier fields next falls is = by_read (read_in fields) is
+  script_falls header earlier next fields is falls = by_read (read_in fields) is
     where
       by_judged : (judged : Result RowData RowKind) → ((row : RowData) → judged ≡ Ok row → last_row_moment earlier ≤ row.at)
           → and_then judged (λ row. Ok (row ∷ earlier)) ≡ Ok next → Fall next
@@ -138,7 +114,7 @@ script_ordered accounts rows script is = by_table (table_of (script_form account
     by_table (Err why) at is = absurd (cc is)
     by_table (Ok newest) at is =
         let same : reverse newest ≡ script = cc is in
-        subst (ComesInOrder of_event 0) same (turned newest (table_keeps (script_form accounts) Fall (script_falls accounts) tt rows newest at)).0
+        subst (ComesInOrder of_event 0) same (turned newest (table_keeps (script_form accounts) Fall (script_falls accounts) rows newest tt at)).0
 
 pub rows_ordered : (start : ℕ) (rows : List ScriptRow) → ComesInOrder of_event start (map row_data rows) → rows_are_in_order start rows ≡ true
 rows_ordered start [] order = refl
@@ -221,9 +197,9 @@ subscriber_row_sorted earlier fields next sorted is =
     and_kept (account_in fields 2) (of_account digits) next (λ account known.
     if_kept (is_blank fields 3) (name_subscriber earlier digits account) (Err kind.Empty) next (subscriber_sorted earlier digits account next sorted) (refused kind.Empty next) known) named) is
 
-setup_sorted : (header : ℕ) (earlier : TableSetup) (fields : Fields) (next : TableSetup) → AreSorted earlier → setup_form.judge header earlier fields ≡ Ok next → AreSorted next
+setup_sorted : (header : ℕ) (earlier next : TableSetup) (fields : Fields) → setup_form.judge header earlier fields ≡ Ok next → AreSorted earlier → AreSorted next
 unfolding setup_row_at
-setup_sorted header earlier fields next sorted is =
+setup_sorted header earlier next fields is sorted =
     let other : Result TableSetup RowKind = if has_word fields 0 (codes "subscriber") then subscriber_row earlier fields else Err kind.What in
     if_kept (has_word fields 0 (codes "account")) (account_row earlier fields) other next (account_row_sorted earlier fields next sorted)
     (if_kept (has_word fields 0 (codes "subscriber")) (subscriber_row earlier fields) (Err kind.What) next (subscriber_row_sorted earlier fields next sorted) (refused kind.What next)) is
@@ -234,7 +210,7 @@ no_accounts_sorted = tt
 
 pub accounts_sorted : (rows : List Fields) (setup : TableSetup) → table_setup_of rows ≡ Ok setup → IsStrictlySortedBy nat_cmp (keys_of setup.accounts)
 unfolding AreSorted
-accounts_sorted rows setup is = table_keeps setup_form AreSorted setup_sorted no_accounts_sorted rows setup is
+accounts_sorted rows setup is = table_keeps setup_form AreSorted setup_sorted rows setup no_accounts_sorted is
 
 -- ---- an input
 

@@ -3,6 +3,7 @@ use Rattle.std.proofs.Common.{◌≡◌, ◌==◌, ◌++◌, ◌<◌, ◌≤◌,
 use Rattle.std.proofs.lemmas.Bool.{cases_lt, eqb-true}
 use Rattle.std.proofs.lemmas.List.{append_cancel_left}
 use Rattle.std.proofs.lemmas.List.Elements.{All-append, All-cons, All-head, All-nil, All-tail}
+use Rattle.part_laws.proofs.OneSsf.{dues_same}
 use Rattle.cap_values.specs.declared.number.Number.{Number}
 use Rattle.part_laws.proofs.Beside.{ExpiresFrom}
 use Rattle.run_texts.specs.declared.script.Happening.{Happening as RowHappening}
@@ -16,7 +17,6 @@ use Rattle.script_player.specs.Inputs.{IsGiven, IsNextTimer}
 use Rattle.script_player.specs.Networks.{Shown}
 use Rattle.script_player.specs.Posts.{post_of, posts_of}
 use Rattle.script_player.specs.Steps.{Delivers, GetsSsf, FeedsSsf, GivesTo, HappensAt, SendsItems, StartsCall, Waits}
-use Rattle.ssf_core.proofs.ExpiryLemmas.{due-stage}
 use Rattle.ssf_core.specs.Calls.{Advances, AreExpiries, IsExpiry, IsNextDue, RunsUntil, Stands, TakesAt, View, with_input}
 use Rattle.ssf_core.specs.Happenings.{Expired, Happening, Took, What, sent_at, sent_in}
 use Rattle.ssf_core.specs.Inputs.{meets, operates}
@@ -32,7 +32,7 @@ use Rattle.ssf_core.specs.declared.item.Out.{Out}
 
 -- ---- the timer that expires first
 
-not_later : (one other : ℕ) (timer its : _) → ComesBefore one (Expired timer) other its → one ≤ other
+pub not_later : (one other : ℕ) (timer its : _) → ComesBefore one (Expired timer) other its → one ≤ other
 not_later one other timer its (inl earlier) = omega (arith, earlier)
 not_later one other timer its (inr now) = omega (arith, now.0)
 
@@ -40,9 +40,6 @@ first_of : (config : SsfConfig) (trace : List Happening) (at : ℕ) (what : What
     → HasEffect config trace at what sent → IsNextDue config trace (Some at)
 first_of config trace at (Took input) sent expiry missed has = absurd expiry
 first_of config trace at (Expired timer) sent expiry missed has = ((timer, has.0), λ its d d_is. not_later at d timer its (missed its d d_is))
-
-dues_same : (view : View) (trace other : List Happening) → Stands view trace → Stands view other → (timer : _) → due view.config trace timer ≡ due view.config other timer
-dues_same view trace other stands too timer = due-stage view.config view.last view.stage trace timer stands ∙ sym (due-stage view.config view.last view.stage other timer too)
 
 next_timer : (view : View) (trace : List Happening) (at : ℕ) → Stands view trace → IsNextDue view.config trace (Some at) → view.last ≤ at → IsNextTimer view (Some at)
 next_timer view trace at stands first ahead = record {

@@ -15,7 +15,7 @@ implied : (a b : Bool) → (not a || b) ≡ true → a ≡ true → b ≡ true
 implied true b h x = h
 implied false b h x = cc
 
-implies : (a b : Bool) → (a ≡ true → b ≡ true) → (not a || b) ≡ true
+pub implies : (a b : Bool) → (a ≡ true → b ≡ true) → (not a || b) ≡ true
 implies true b h = h refl
 implies false b h = refl
 

@@ -10,6 +10,7 @@ use Rattle.std.proofs.lemmas.Bool.Decides.{nat_tests}
 use Rattle.std.proofs.lemmas.Fmt.{length-decimal-le}
 use Rattle.std.proofs.lemmas.List.Elements.{All-from_recursion, All-head, All-tail}
 use Rattle.std.proofs.lemmas.List.Folds.{list_all-append, list_any-append}
+use Rattle.table_core.proofs.PrintedLemmas.{digits_plain}
 use Rattle.run_outputs.specs.Records.{IsPrefixOf, prefix_of}
 use Rattle.run_outputs.specs.Tables.{outcome_word}
 use Rattle.run_outputs.specs.declared.call_record.CallRecord.{CallRecord}
@@ -96,14 +97,6 @@ moment_short most text at is = by (decimal_of most text) refl is
 
 -- ---- digits
 
-digit_bare : (c : ℕ) → is_ascii_digit c ≡ true → needs_byte default_writer c ≡ false
-digit_bare c digit = grind (arith, nat_tests)
-
-digits_bare : (text : List ℕ) → list_all is_ascii_digit text ≡ true → IsPlain text
-digits_bare [] digits = refl
-digits_bare (c ∷ text) digits =
-    let (first, others) = and_parts (is_ascii_digit c) (list_all is_ascii_digit text) digits in rw (digit_bare c first, digits_bare text others) refl
-
 digit_small : (c : ℕ) → is_ascii_digit c ≡ true → c ≤ 57
 digit_small c digit = grind (arith, nat_tests)
 
@@ -118,7 +111,7 @@ party_digits party =
     (digits, leb-true (length (digits_of_number party)) 15 (and_parts (nat_le 1 (length (digits_of_number party))) (nat_le (length (digits_of_number party)) 15) lengths).1)
 
 party_fits : (party : Number) → Fits (digits_of_number party)
-party_fits party = let (digits, short) = party_digits party in (digits_bare (digits_of_number party) digits, omega (arith, short))
+party_fits party = let (digits, short) = party_digits party in (digits_plain (digits_of_number party) digits, omega (arith, short))
 
 word_fits : (word : Outcome) → Fits (outcome_word word)
 word_fits outcome.Unknown = (refl, omega arith)

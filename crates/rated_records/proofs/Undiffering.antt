@@ -1,9 +1,7 @@
 -- A record of a run is rated to what it has paid.
-use Rattle.std.proofs.Common.{◌≡◌, ◌≤◌, ◌+◌, ◌∙◌, ℕ, Bool, true, false, Option, Some, None, List, length, take, refl, sym, ap, subst, arith, inl, inr}
+use Rattle.std.proofs.Common.{◌≡◌, ◌≤◌, ◌+◌, ◌∙◌, ℕ, Bool, true, false, Option, Some, None, List, refl, sym, ap, subst, arith, inl, inr}
 use Rattle.std.specs.Prelude.{◌⊎◌, nat_lt}
 use Rattle.std.proofs.lemmas.Bool.Decides.{nat_tests}
-use Rattle.std.proofs.lemmas.List.{take_at}
-use Rattle.std.proofs.lemmas.List.Elements.{All-contains}
 use Rattle.run_outputs.specs.Records.{IsPrefixOf, Run, prefix_of}
 use Rattle.run_outputs.specs.declared.call_record.CallRecord.{CallRecord}
 use Rattle.cap_values.specs.NumberDigits.{digits_of_number}

@@ -1,5 +1,5 @@
 -- The first bytes of a row.
-use Rattle.std.proofs.Common.{◌≡◌, ◌==◌, ℕ, ◌+◌, ◌-◌, ◌<◌, ◌≤◌, ◌∙◌, Bool, true, false, List, [], ◌∷◌, ◌++◌, inl, inr, length, take, refl, sym, ap, arith, length-append}
+use Rattle.std.proofs.Common.{◌≡◌, ◌==◌, ℕ, ◌+◌, ◌-◌, ◌<◌, ◌≤◌, ◌∙◌, Bool, true, false, List, [], ◌∷◌, ◌++◌, inl, inr, length, take, refl, ap, arith, length-append}
 use Rattle.std.specs.Prelude.{if◌then◌else◌, ◌⊎◌, nat_lt}
 use Rattle.std.proofs.lemmas.Bool.Decides.{nat_tests}
 use Rattle.std.proofs.Math.Seq.{take-append_seam}
@@ -107,18 +107,9 @@ either_by : (b : Bool) (field : List ℕ) (fields : Fields) (room : ℕ) → nat
 either_by true field fields room is more = one_more field (front (room - (length field + 1)) fields) fields (room - (length field + 1)) room (omega (arith, is_less (length field) room is)) more
 either_by false field fields room is more = too_long field fields room (isnt_less (length field) room is)
 
-same_by : (bound most : ℕ) (some fields : Fields) → bound ≤ most → WholeOrOver some fields most → nat_lt bound (row_size some) ≡ nat_lt bound (row_size fields)
-same_by bound most some fields within (inl same) = ap (λ l. nat_lt bound (row_size l)) same
-same_by bound most some fields within (inr over) =
-    less_is bound (row_size some) (omega (arith, within, over.0)) ∙ sym (less_is bound (row_size fields) (omega (arith, within, over.1)))
-
 -- either all of a row is shown, or it has more bytes than there is room for, and so has what is shown
 pub whole_or_over : (fields : Fields) (room : ℕ) → WholeOrOver (front room fields) fields room
 unfolding front
 whole_or_over [] room = inl refl
 whole_or_over (field ∷ fields) room =
     either_by (nat_lt (length field) room) field fields room refl (whole_or_over fields (room - (length field + 1)))
-
--- whether it has more bytes than so many is seen by what is shown
-pub same_size : (bound most : ℕ) (fields : Fields) → bound ≤ most → nat_lt bound (row_size (front most fields)) ≡ nat_lt bound (row_size fields)
-same_size bound most fields within = same_by bound most (front most fields) fields within (whole_or_over fields most)

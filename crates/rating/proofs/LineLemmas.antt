@@ -169,11 +169,6 @@ pub minus : (now : List ℕ) (number : ℕ) → number < 18446744073709551616 �
 minus now number small =
     append_assoc now (codes "-") (cell (decimal number)) ∙ ap (λ l. now ++ l) (ap (λ l. codes "-" ++ l) (sym (decimal_cell number small)) ∙ minus_cell number small)
 
--- what was appended makes this, where that went well
-pub appended_to : {X E : Type 0} (answer : Result X E) (new old text all : List ℕ) → new ≡ (if is_ok answer then old ++ text else old) → old ++ text ≡ all → OnOk answer (new ≡ all)
-appended_to (Ok done) new old text all is same = is ∙ same
-appended_to (Err why) new old text all is same = tt
-
 -- the same, of a text that was appended by another
 pub then_to : {X E : Type 0} (answer : Result X E) (new one all : List ℕ) → OnOk answer (new ≡ one) → one ≡ all → OnOk answer (new ≡ all)
 then_to (Ok done) new one all is same = is ∙ same

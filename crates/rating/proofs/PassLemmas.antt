@@ -1,9 +1,10 @@
 -- A table is passed on byte by byte.
-use Rattle.std.proofs.Common.{length-take, subst, ◌≡◌, ◌==◌, ℕ, zero, suc, ◌+◌, ◌-◌, ◌<◌, ◌≤◌, ◌∙◌, Bool, true, false, List, [], ◌∷◌, ◌++◌, length, take, drop, Option, Some, None, refl, sym, ap, inl, inr, arith}
+use Rattle.std.proofs.Common.{length-take, subst, ◌≡◌, ◌==◌, ℕ, zero, suc, ◌+◌, ◌-◌, ◌<◌, ◌≤◌, ◌∙◌, true, false, List, [], ◌∷◌, ◌++◌, length, take, drop, Option, Some, None, refl, sym, ap, inl, inr, arith}
 use Rattle.std.specs.Prelude.{◌||◌, ◌⊎◌, min, option_map, slice_index, unwrap_or}
 use Rattle.std.specs.Io.KnownBytes.{Consumes, IsAtEnd, Keeps}
 use Rattle.std.proofs.lemmas.Bool.Decides.{nat_tests}
 use Rattle.std.proofs.lemmas.List.{get_or-take}
+use Rattle.std.proofs.lemmas.Bool.{false_from_ne_true}
 use Rattle.csv.specs.Machine.{step}
 use Rattle.csv.specs.Reading.{default_config}
 use Rattle.csv.specs.declared.parser.Action.{Action}
@@ -179,17 +180,13 @@ rows_pass most s room (suc end) (c ∷ piece) rest calm whole some fits within p
     (λ room calm whole some. rows_pass most (step default_config s c).0 room end piece rest calm whole (omega (arith, some)) (omega (arith, fits)) (omega (arith, within))
     (λ k less. plain (suc k) (omega (arith, less))) is)
 
-not_true : (b : Bool) → (b ≡ true → ⊥) → b ≡ false
-not_true true never = absurd (never refl)
-not_true false never = refl
-
 is_value : (c value : ℕ) → (c == value) ≡ true → c ≡ value
 is_value c value is = grind (arith, nat_tests)
 
 -- no quote comes before a cursor
 before_quote : (piece : List ℕ) (first : Option ℕ) (k : ℕ) → IsFirstByte (is_byte 34) piece first → k < length piece → k < unwrap_or first (length piece) → (slice_index piece k == 34) ≡ false
-before_quote piece None k none within before = not_true (slice_index piece k == 34) (none k (omega arith) within)
-before_quote piece (Some quote) k first within before = not_true (slice_index piece k == 34) (first.0.before k (omega arith) before)
+before_quote piece None k none within before = false_from_ne_true (slice_index piece k == 34) (none k (omega arith) within)
+before_quote piece (Some quote) k first within before = false_from_ne_true (slice_index piece k == 34) (first.0.before k (omega arith) before)
 
 by_cursor : (cursor : Cursor) (count end : ℕ) (piece rest : List ℕ) → CanPass cursor count → end < count → end < length piece → ((k : ℕ) → k < end → (slice_index piece k == 34) ≡ false) → slice_index piece end ≡ 10
     → passed_text cursor (piece ++ rest) ≡ take (suc end) piece ++ cut_from MAX_SHOWN st.StartRecord (Some MAX_SHOWN) (drop (suc end) piece ++ rest)

@@ -1,5 +1,5 @@
 -- Rows are rated one after the other.
-use Rattle.std.proofs.Common.{◌≡◌, ℕ, ◌+◌, ◌<◌, ◌≤◌, Bool, true, false, suc, List, [], ◌∷◌, ◌++◌, length, map, take, Option, Some, None, Result, Ok, Err, refl, sym, ap, subst, ◌∙◌, inl, inr, append_assoc, append-nil, arith}
+use Rattle.std.proofs.Common.{◌≡◌, ℕ, ◌+◌, ◌<◌, ◌≤◌, Bool, true, false, List, [], ◌∷◌, ◌++◌, length, map, take, Option, Some, None, Result, Ok, Err, refl, sym, ap, subst, ◌∙◌, inl, inr, append_assoc, append-nil, arith}
 use Rattle.std.specs.Prelude.{fold, ◌&&◌, IfErr, OnOk, if◌then◌else◌, ◌⊎◌, IsErrAnd, MatchResult, nat_lt}
 use Rattle.std.specs.Io.KnownBytes.{Appends, Keeps}
 use Rattle.std.specs.List.{flat_map}
@@ -8,6 +8,8 @@ use Rattle.std.proofs.lemmas.List.{map-append}
 use Rattle.std.proofs.lemmas.List.Concat.{flat_map-append}
 use Rattle.std.proofs.lemmas.List.Elements.{All-nil, All-push}
 use Rattle.std.proofs.lemmas.List.Sums.{fold_push}
+use Rattle.std.proofs.KnownBytes.{Appends-trans, Appends-nil, Keeps-refl}
+use Rattle.table_core.proofs.FrontLemmas.{front_behind}
 use Rattle.csv.specs.Records.{fields_of}
 use Rattle.table_core.specs.Rows.{Fields, HasRowsLeft, TakesNext, rows_of}
 use Rattle.table_core.specs.declared.table.Rows.{Rows}
@@ -16,7 +18,6 @@ use Rattle.table_core.specs.Fronts.{AppendsFront}
 use Rattle.rating.specs.Lines.{columns_text, header_line, rated_line, shown}
 use Rattle.rating.specs.Rated.{IsPriced, IsRated, Rating, Faulty, is_right}
 use Rattle.rating.specs.Calls.{said_in, row_size, with_commas}
-use Rattle.table_core.proofs.FrontLemmas.{still_held}
 use Rattle.rating.proofs.FrontRows.{WholeOrOver, less_is, not_less, whole_or_over}
 use Rattle.rating.proofs.LineLemmas.{row_written}
 use Rattle.rating.proofs.StartCuts.{table_cut}
@@ -51,30 +52,6 @@ pub record IsUnderWay {R : Type 0} (remaining : R → Option (List ℕ)) (differ
   pub wrote : Appends old now sent
   pub text_is : sent ++ text ≡ rated_text differing input.header rated
   pub score_is : score ≡ counts_of rated
-
--- nothing was written yet
-pub nothing_yet : (known : Option (List ℕ)) → Appends known known []
-nothing_yet None = tt
-nothing_yet (Some xs) = sym (append-nil xs)
-
--- a text and then another was written
-pub both_written : (old now new : Option (List ℕ)) (sent text : List ℕ) → Appends old now sent → Appends now new text → Appends old new (sent ++ text)
-both_written None now new sent text one two = tt
-both_written (Some xs) None new sent text one two = absurd one
-both_written (Some xs) (Some ys) None sent text one two = absurd two
-both_written (Some xs) (Some ys) (Some zs) sent text one two = two ∙ ap (λ l. l ++ text) one ∙ append_assoc xs sent text
-
-front_of : (sent text : List ℕ) (count : ℕ) → sent ++ take count text ≡ take (length sent + count) (sent ++ text)
-front_of [] text count = let none : 0 + count ≡ count = omega arith in ap (λ n. take n text) (sym none)
-front_of (c ∷ sent) text count =
-    let more : suc (length sent) + count ≡ suc (length sent + count) = omega arith in
-    ap (λ l. c ∷ l) (front_of sent text count) ∙ ap (λ n. take n (c ∷ (sent ++ text))) (sym more)
-
--- a text and then a front of another
-pub front_written : (old now new : Option (List ℕ)) (sent text : List ℕ) → Appends old now sent → AppendsFront now new text → AppendsFront old new (sent ++ text)
-front_written old now new sent text one two =
-    let (count, some) = two in
-    (length sent + count, subst (λ l. Appends old new l) (front_of sent text count) (both_written old now new sent (take count text) one some))
 
 front_all : (sent text : List ℕ) → sent ≡ take (length sent) (sent ++ text)
 front_all [] text = refl
@@ -117,7 +94,7 @@ module _ {R : Type 0} (remaining : R → Option (List ℕ)) (differing : Bool) (
     rated = [];
     are_rated = record { rows_are = refl; each = All-nil (IsRatedRow input) };
     sent = [];
-    wrote = nothing_yet known;
+    wrote = Appends-nil known;
     text_is = is ∙ sym (append-nil (header_line input.header));
     score_is = refl;
   }
@@ -147,7 +124,7 @@ module _ {R : Type 0} (remaining : R → Option (List ℕ)) (differing : Bool) (
     rows_are = way.rows_are;
     rated = way.rated;
     are_rated = way.are_rated;
-    front = subst (λ l. AppendsFront old new l) way.text_is (front_written old now new way.sent text way.wrote front);
+    front = subst (λ l. AppendsFront old new l) way.text_is (front_behind old now new way.sent text way.wrote front);
   }
 
   -- all of the text was written, where none is left
@@ -165,7 +142,7 @@ module _ {R : Type 0} (remaining : R → Option (List ℕ)) (differing : Bool) (
           printed_is = way.text_is;
           score_is = way.score_is;
         };
-        whole = both_written old now new way.sent text way.wrote wrote;
+        whole = Appends-trans old now new way.sent text way.wrote wrote;
       }
 
   -- one row more
@@ -209,7 +186,7 @@ module _ {R : Type 0} (remaining : R → Option (List ℕ)) (differing : Bool) (
     rated = way.rated;
     are_rated = way.are_rated;
     sent = way.sent ++ sends.sent;
-    wrote = both_written old now new way.sent sends.sent way.wrote sends.wrote;
+    wrote = Appends-trans old now new way.sent sends.sent way.wrote sends.wrote;
     text_is = append_assoc way.sent sends.sent rest ∙ ap (λ l. way.sent ++ l) (sym sends.is) ∙ way.text_is;
     score_is = way.score_is;
   }
@@ -226,13 +203,6 @@ added (Ok done) bands width columns differing fields old new old_score new_score
   score = counts;
 }
 added (Err why) bands width columns differing fields old new old_score new_score rating rated printed is counts = tt
-
--- sent as far as it is
-pub sends_all : (old new : Option (List ℕ)) (text : List ℕ) → Appends old new text → SendsFront old new text []
-sends_all old new text wrote = record { sent = text; wrote = wrote; is = sym (append-nil text) }
-
-pub sends_none : (known : Option (List ℕ)) (text : List ℕ) → SendsFront known known text text
-sends_none known text = record { sent = []; wrote = nothing_yet known; is = refl }
 
 -- ---- how rating ends at a fault
 
@@ -261,13 +231,13 @@ stopped_ends differing meaning old new (Err named) why met may part = rw met (st
 -- rating stops where a part of the input was refused, and nothing is written
 refused_stops : {Y : Type 0} (differing : Bool) (meaning : Result RateInput RateFault) (part : Result Y InputFault) (known : Option (List ℕ)) (why : InputFault)
     → RefusesInput why part → (part ≡ Err why → meaning ≡ Err (fault.Input why)) → StopsBy differing meaning known known (fault.Input why)
-refused_stops differing meaning part known input_fault.Device refused so = inl (still_held known)
-refused_stops differing meaning part known input_fault.OutOfMemory refused so = inl (still_held known)
-refused_stops differing meaning part known input_fault.Parts refused so = (so refused, still_held known)
-refused_stops differing meaning part known input_fault.TooLong refused so = (so refused, still_held known)
-refused_stops differing meaning part known (input_fault.Tariff row) refused so = (so refused, still_held known)
-refused_stops differing meaning part known (input_fault.Setup row) refused so = (so refused, still_held known)
-refused_stops differing meaning part known (input_fault.Script row) refused so = (so refused, still_held known)
+refused_stops differing meaning part known input_fault.Device refused so = inl (Keeps-refl known)
+refused_stops differing meaning part known input_fault.OutOfMemory refused so = inl (Keeps-refl known)
+refused_stops differing meaning part known input_fault.Parts refused so = (so refused, Keeps-refl known)
+refused_stops differing meaning part known input_fault.TooLong refused so = (so refused, Keeps-refl known)
+refused_stops differing meaning part known (input_fault.Tariff row) refused so = (so refused, Keeps-refl known)
+refused_stops differing meaning part known (input_fault.Setup row) refused so = (so refused, Keeps-refl known)
+refused_stops differing meaning part known (input_fault.Script row) refused so = (so refused, Keeps-refl known)
 
 -- a part of the input was refused, and nothing was written
 pub refused_ends : {Y : Type 0} (differing : Bool) (meaning : Result RateInput RateFault) (part : Result Y InputFault) (known : Option (List ℕ)) (answer : Result Score RateFault) (why : InputFault)
@@ -277,15 +247,15 @@ refused_ends differing meaning part known (Err named) why met refused so = rw me
 
 -- where nothing was written, any fault is silent
 pub still_silent : (known : Option (List ℕ)) (why : RateFault) → IsRatingSilent known known why
-still_silent known fault.Header = still_held known
+still_silent known fault.Header = Keeps-refl known
 still_silent known fault.Output = tt
 still_silent known (fault.Input input_fault.Device) = tt
 still_silent known (fault.Input input_fault.OutOfMemory) = tt
-still_silent known (fault.Input input_fault.Parts) = still_held known
-still_silent known (fault.Input input_fault.TooLong) = still_held known
-still_silent known (fault.Input (input_fault.Tariff row)) = still_held known
-still_silent known (fault.Input (input_fault.Setup row)) = still_held known
-still_silent known (fault.Input (input_fault.Script row)) = still_held known
+still_silent known (fault.Input input_fault.Parts) = Keeps-refl known
+still_silent known (fault.Input input_fault.TooLong) = Keeps-refl known
+still_silent known (fault.Input (input_fault.Tariff row)) = Keeps-refl known
+still_silent known (fault.Input (input_fault.Setup row)) = Keeps-refl known
+still_silent known (fault.Input (input_fault.Script row)) = Keeps-refl known
 
 pub ends_silent : (known : Option (List ℕ)) (answer : Result Score RateFault) → IfErr answer (IsRatingSilent known known)
 ends_silent known (Ok score) = tt

@@ -66,7 +66,7 @@ at_most_one first a =
     ]
 
 -- it is one of the parts
-is_a_part : (firsts : List ℕ) (a : ℕ) → part_of_account firsts a ≤ length firsts
+pub is_a_part : (firsts : List ℕ) (a : ℕ) → part_of_account firsts a ≤ length firsts
 is_a_part [] a = omega arith
 is_a_part (first ∷ firsts) a =
     let one = count_of (λ f. nat_le f a) first firsts in

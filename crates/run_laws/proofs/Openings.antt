@@ -22,7 +22,7 @@ use Rattle.shared_account.specs.Terms.{Terms}
 
 -- ---- the ranges of an opening
 
-until_in_range : (until : Option ℕ) → expires_in_time until ≡ true → IfSome until IsMoment
+pub until_in_range : (until : Option ℕ) → expires_in_time until ≡ true → IfSome until IsMoment
 until_in_range None is = tt
 until_in_range (Some until) is = let within = leb-true until 1000000000000 is in omega (arith, within)
 

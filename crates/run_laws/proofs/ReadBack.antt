@@ -27,7 +27,7 @@ not_empty number small = let some : 0 < length (decimal number) = decimal_nonemp
 module _ (reads : DecimalsAreRead) where
   -- ---- columns
 
-  number_read : (most number : ℕ) → most < 2 ^ 64 → number ≤ most → number_in_field most (decimal number) ≡ Ok number
+  pub number_read : (most number : ℕ) → most < 2 ^ 64 → number ≤ most → number_in_field most (decimal number) ≡ Ok number
   number_read most number small within = rw (reads most number small within) refl
 
   wide : (number : ℕ) → IsWide number → any_number_of (decimal number) ≡ Ok number
@@ -36,15 +36,15 @@ module _ (reads : DecimalsAreRead) where
   time : (number : ℕ) → IsTime number → units_of (decimal number) ≡ Ok number
   time number fits = number_read 864000 number (omega arith) fits
 
-  money : (number : ℕ) → IsMoney number → money_of (decimal number) ≡ Ok number
-  money number fits = number_read 1000000000000000 number (omega arith) fits
+  pub money_read : (number : ℕ) → IsMoney number → money_of (decimal number) ≡ Ok number
+  money_read number fits = number_read 1000000000000000 number (omega arith) fits
 
-  moment : (number : ℕ) → IsMoment number → moment_column (decimal number) ≡ Ok number
-  moment number fits = number_read 2000000000000 number (omega arith) fits
+  moment_read : (number : ℕ) → IsMoment number → moment_column (decimal number) ≡ Ok number
+  moment_read number fits = number_read 2000000000000 number (omega arith) fits
 
-  optional_moment : (number : Option ℕ) → IfSome number IsMoment → optional_moment_of (number_or_empty number) ≡ Ok number
-  optional_moment None fits = refl
-  optional_moment (Some number) fits = rw (not_empty number (omega (arith, fits)), moment number fits) refl
+  pub optional_moment_read : (number : Option ℕ) → IfSome number IsMoment → optional_moment_of (number_or_empty number) ≡ Ok number
+  optional_moment_read None fits = refl
+  optional_moment_read (Some number) fits = rw (not_empty number (omega (arith, fits)), moment_read number fits) refl
 
   rate : (number : ℕ) → IsRate number → rate_of (decimal number) ≡ Ok number
   rate number fits = number_read 1000000000 number (omega arith) fits
@@ -108,13 +108,13 @@ module _ (reads : DecimalsAreRead) where
   operations_read version.One asked fits prints = absurd prints
   operations_read version.Two asked fits prints = absurd prints
   operations_read version.Three (Credits amount until) fits prints =
-      record { word = op_word.Credit; known = refl; read = rw (money amount fits.0, optional_moment until fits.1) refl; blank = refl }
+      record { word = op_word.Credit; known = refl; read = rw (money_read amount fits.0, optional_moment_read until fits.1) refl; blank = refl }
   operations_read version.Four (Credits amount until) fits prints =
-      record { word = op_word.Credit; known = refl; read = rw (money amount fits.0, optional_moment until fits.1) refl; blank = refl }
+      record { word = op_word.Credit; known = refl; read = rw (money_read amount fits.0, optional_moment_read until fits.1) refl; blank = refl }
   operations_read version.Three (Reserves call plan wanted least at) fits prints =
-      reserve_read version.Three call plan wanted least at fits (time plan.free fits.1.free) (moment at fits.4) (rw prints.0 refl) (rw prints.1 refl)
+      reserve_read version.Three call plan wanted least at fits (time plan.free fits.1.free) (moment_read at fits.4) (rw prints.0 refl) (rw prints.1 refl)
   operations_read version.Four (Reserves call plan wanted least at) fits prints =
-      reserve_read version.Four call plan wanted least at fits (time plan.free fits.1.free) (moment at fits.4) (time plan.first fits.1.least) (step plan.step fits.1.step)
+      reserve_read version.Four call plan wanted least at fits (time plan.free fits.1.free) (moment_read at fits.4) (time plan.first fits.1.least) (step plan.step fits.1.step)
   operations_read version.Three (Settles call number report) fits prints = settle_read version.Three call number report fits.0 fits.1 fits.2
   operations_read version.Four (Settles call number report) fits prints = settle_read version.Four call number report fits.0 fits.1 fits.2
   operations_read version.Three (Returns call) fits prints = record { word = op_word.Return; known = refl; read = rw (wide call fits) refl; blank = refl }
@@ -123,16 +123,16 @@ module _ (reads : DecimalsAreRead) where
   -- ---- replies
 
   pub replies_read : RepliesAreRead
-  replies_read (reply.Credited available) fits = record { word = reply_word.Credited; known = refl; read = rw (money available fits) refl; blank = refl }
-  replies_read (reply.CreditOver available) fits = record { word = reply_word.CreditOver; known = refl; read = rw (money available fits) refl; blank = refl }
+  replies_read (reply.Credited available) fits = record { word = reply_word.Credited; known = refl; read = rw (money_read available fits) refl; blank = refl }
+  replies_read (reply.CreditOver available) fits = record { word = reply_word.CreditOver; known = refl; read = rw (money_read available fits) refl; blank = refl }
   replies_read (reply.Granted units true available) fits =
-      record { word = reply_word.GrantedLast; known = refl; read = rw (money available fits.1, time units fits.0) refl; blank = refl }
+      record { word = reply_word.GrantedLast; known = refl; read = rw (money_read available fits.1, time units fits.0) refl; blank = refl }
   replies_read (reply.Granted units false available) fits =
-      record { word = reply_word.GrantedMore; known = refl; read = rw (money available fits.1, time units fits.0) refl; blank = refl }
-  replies_read (reply.Denied available) fits = record { word = reply_word.Denied; known = refl; read = rw (money available fits) refl; blank = refl }
+      record { word = reply_word.GrantedMore; known = refl; read = rw (money_read available fits.1, time units fits.0) refl; blank = refl }
+  replies_read (reply.Denied available) fits = record { word = reply_word.Denied; known = refl; read = rw (money_read available fits) refl; blank = refl }
   replies_read (reply.Settled paid available) fits =
-      record { word = reply_word.Settled; known = refl; read = rw (money available fits.1, money paid fits.0) refl; blank = refl }
+      record { word = reply_word.Settled; known = refl; read = rw (money_read available fits.1, money_read paid fits.0) refl; blank = refl }
   replies_read (reply.Forfeit paid available) fits =
-      record { word = reply_word.Forfeit; known = refl; read = rw (money available fits.1, money paid fits.0) refl; blank = refl }
+      record { word = reply_word.Forfeit; known = refl; read = rw (money_read available fits.1, money_read paid fits.0) refl; blank = refl }
   replies_read (reply.Returned paid available) fits =
-      record { word = reply_word.Returned; known = refl; read = rw (money available fits.1, money paid fits.0) refl; blank = refl }
+      record { word = reply_word.Returned; known = refl; read = rw (money_read available fits.1, money_read paid fits.0) refl; blank = refl }

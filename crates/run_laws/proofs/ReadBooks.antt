@@ -1,5 +1,5 @@
 -- The rows that are printed of books are read back.
-use Rattle.std.proofs.Common.{◌≡◌, ℕ, ◌+◌, ◌<◌, ◌≤◌, ◌^◌, Bool, true, false, List, [], ◌∷◌, ◌++◌, length, map, Option, Some, None, Result, Ok, refl, ap, ◌∙◌, append_assoc, append-nil, add-zero, arith}
+use Rattle.std.proofs.Common.{◌≡◌, ℕ, ◌+◌, ◌≤◌, Bool, true, false, List, [], ◌∷◌, ◌++◌, length, map, Option, Some, None, Result, Ok, refl, ap, ◌∙◌, append_assoc, append-nil, add-zero, arith}
 use Rattle.std.specs.BTreeMap.{insert_entry, is_at}
 use Rattle.std.specs.Fmt.{decimal}
 use Rattle.std.specs.List.{All, AllByRecursion, cons_option, filter_map, flat_map, list_all, list_any}
@@ -7,18 +7,19 @@ use Rattle.std.specs.List.Sorted.{IsStrictlySortedBy}
 use Rattle.std.specs.Map.{lookup, set_value}
 use Rattle.std.specs.Ordering.{nat_cmp}
 use Rattle.std.specs.Str.{bytes_eq}
-use Rattle.std.specs.Prelude.{◌||◌, codes, if◌then◌else◌, is_none, IfSome}
+use Rattle.std.specs.Prelude.{◌||◌, codes, if◌then◌else◌, is_none}
 use Rattle.std.specs.declared.cmp.Ordering.TheVariants as order
 use Rattle.std.proofs.lemmas.Bool.Decides.{nat_tests}
-use Rattle.std.proofs.lemmas.Fmt.{decimal_nonempty}
 use Rattle.std.proofs.lemmas.List.Elements.{All-head, All-tail}
+use Rattle.std.proofs.lemmas.Bool.{or_parts}
+use Rattle.run_laws.proofs.ReadBack.{number_read, money_read, optional_moment_read}
 use Rattle.account_core.specs.Answers.{IsLegal}
 use Rattle.account_core.specs.Asked.{Asked, Credits, Reserves, Returns, Settles}
 use Rattle.account_core.specs.Checked.{entries_counted}
 use Rattle.account_core.specs.Entries.{EntryData}
-use Rattle.book_texts.specs.Column.{moment_column, money_of, optional_moment_of, seat_of}
+use Rattle.book_texts.specs.Column.{seat_of}
 use Rattle.book_texts.specs.Columns.{Answer, Operation, reply_fields, no_answer, opening_columns, operation_at, operation_of}
-use Rattle.book_texts.specs.Fits.{FitsEntry, IsMoment, IsMoney}
+use Rattle.book_texts.specs.Fits.{FitsEntry}
 use Rattle.run_laws.specs.ReadBack.{OperationsAreRead, PrintsWhole, RepliesAreRead}
 use Rattle.book_texts.specs.Versions.{version_at}
 use Rattle.book_texts.specs.declared.version.Version.{Version}
@@ -39,7 +40,6 @@ use Rattle.run_laws.specs.PrintedBooks.{BooksAreRead, PrintedBooksHaveTheirLines
 use Rattle.run_laws.specs.Printable.{ArePrintable, FitsBook, row_count, account_of_book}
 use Rattle.book_texts.specs.RunTexts.{account_line, call_line, line_in}
 use Rattle.run_laws.proofs.PrintedRows.{book_fields, entry_fields, opening_fields, row_fields, table_fields, table_plain, text_lines, unmarked}
-use Rattle.table_core.specs.Fields.{is_empty_field, number_in_field, number_or_empty}
 
 -- ---- the last account of a list that rises
 
@@ -88,9 +88,6 @@ none_before [] = tt
 none_before (book ∷ books) = (tt, none_before books)
 
 -- ---- rows
-
-not_empty : (number : ℕ) → number < 2 ^ 64 → is_empty_field (decimal number) ≡ false
-not_empty number small = let some : 0 < length (decimal number) = decimal_nonempty number small in grind (arith, nat_tests)
 
 not_opening : (version : Version) (asked : Asked) → bytes_eq (operation_of version asked).op (codes "opening") ≡ false
 not_opening version (Credits amount until) = refl
@@ -169,10 +166,6 @@ whole (Reserves call plan wanted least at) none = no_steps plan.first plan.step 
 whole (Settles call number info) none = tt
 whole (Returns call) none = tt
 
-or_parts : (a b : Bool) → (a || b) ≡ false → (a ≡ false) × (b ≡ false)
-or_parts true b none = absurd cc
-or_parts false b none = (refl, none)
-
 -- each operation of a history is printed whole
 abbrev PrintsAll : Version → List EntryData → Type 0
 PrintsAll version history = AllByRecursion (λ entry. PrintsWhole version entry.asked) history
@@ -213,24 +206,11 @@ chosen steps books = by (steps || list_any (λ book. history_has_steps book.hist
     by false is = record { printed = tt; prints = books_whole books (or_parts steps _ is).1 }
 
 module _ (reads : DecimalsAreRead) (operations : OperationsAreRead) (replies : RepliesAreRead) where
-  number_read : (most number : ℕ) → most < 2 ^ 64 → number ≤ most → number_in_field most (decimal number) ≡ Ok number
-  number_read most number small within = rw (reads most number small within) refl
-
   account_read : (account : ℕ) → account ≤ 4294967295 → book_account_in (decimal account) ≡ Ok account
-  account_read account small = number_read 4294967295 account (omega arith) small
+  account_read account small = number_read reads 4294967295 account (omega arith) small
 
   seat_read : (seat : ℕ) → seat ≤ 15 → seat_of (decimal seat) ≡ Ok seat
-  seat_read seat small = number_read 15 seat (omega arith) small
-
-  money_read : (money : ℕ) → IsMoney money → money_of (decimal money) ≡ Ok money
-  money_read money small = number_read 1000000000000000 money (omega arith) small
-
-  moment_read : (moment : ℕ) → IsMoment moment → moment_column (decimal moment) ≡ Ok moment
-  moment_read moment small = number_read 2000000000000 moment (omega arith) small
-
-  optional_moment_read : (moment : Option ℕ) → IfSome moment IsMoment → optional_moment_of (number_or_empty moment) ≡ Ok moment
-  optional_moment_read None fits = refl
-  optional_moment_read (Some moment) fits = rw (not_empty moment (omega (arith, fits)), moment_read moment fits) refl
+  seat_read seat small = number_read reads 15 seat (omega arith) small
 
   opening_said : (version : Version) → IsPrinted version → (book : Closed) → FitsBook book
       → row_said_in (columns_in version (opening_fields version book)) ≡ Ok (Opens book.account book.opening book.until)
@@ -238,9 +218,9 @@ module _ (reads : DecimalsAreRead) (operations : OperationsAreRead) (replies : R
   opening_said version.One printed book fits = absurd printed
   opening_said version.Two printed book fits = absurd printed
   opening_said version.Three printed book fits =
-      rw (account_read book.account fits.account, money_read book.opening fits.opening, optional_moment_read book.until fits.until) refl
+      rw (account_read book.account fits.account, money_read reads book.opening fits.opening, optional_moment_read reads book.until fits.until) refl
   opening_said version.Four printed book fits =
-      rw (account_read book.account fits.account, money_read book.opening fits.opening, optional_moment_read book.until fits.until) refl
+      rw (account_read book.account fits.account, money_read reads book.opening fits.opening, optional_moment_read reads book.until fits.until) refl
 
   entry_said : (version : Version) → IsPrinted version → (account : ℕ) (entry : EntryData) → account ≤ 4294967295 → FitsEntry entry → PrintsWhole version entry.asked
       → row_said_in (columns_in version (entry_fields version account entry)) ≡ Ok (Enters account entry)

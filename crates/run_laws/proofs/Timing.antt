@@ -1,10 +1,11 @@
 -- What a play gives is timely: its gsmSSFs send reports in range, and its rows name last moments in time.
-use Rattle.std.proofs.Common.{◌≡◌, ℕ, true, Option, Some, None, List, [], ◌∷◌, map, refl, arith, All}
-use Rattle.std.specs.Prelude.{◌&&◌, nat_le, slice_index_or, IfSome}
+use Rattle.std.proofs.Common.{◌≡◌, ℕ, true, Some, None, List, [], ◌∷◌, map, refl, All}
+use Rattle.std.specs.Prelude.{◌&&◌, nat_le, slice_index_or}
 use Rattle.std.proofs.lemmas.Bool.{and_parts, eq-eqb, leb-true}
 use Rattle.std.proofs.lemmas.List.Elements.{All-append, All-cons, All-head, All-nil, All-same, All-tail}
+use Rattle.run_laws.proofs.Openings.{until_in_range}
 use Rattle.cap_values.specs.declared.message.SsfMsg.TheVariants as message
-use Rattle.book_texts.specs.Fits.{FitsReport, IsMoment}
+use Rattle.book_texts.specs.Fits.{FitsReport}
 use Rattle.held_calls.proofs.Listed.{all_passing, all_unmapped}
 use Rattle.run_laws.specs.Timely.{AreTimely, IsTimely}
 use Rattle.run_command.specs.Plays.{IsPlayOf}
@@ -13,7 +14,6 @@ use Rattle.run_texts.specs.Views.{happens_of, row_data}
 use Rattle.run_texts.specs.declared.script.Happening.{Happening}
 use Rattle.run_texts.specs.declared.script.Happening.TheVariants as happening
 use Rattle.run_texts.specs.declared.script.ScriptRow.{ScriptRow}
-use Rattle.run_values.specs.Openings.{expires_in_time}
 use Rattle.run_values.specs.declared.post.Answer.{Answer}
 use Rattle.run_values.specs.declared.post.Body.{Body}
 use Rattle.run_values.specs.declared.post.Body.TheVariants as body
@@ -69,16 +69,12 @@ played_timely reports config call given played =
 
 -- ---- what the rows say of recharges
 
-until_timely : (until : Option ℕ) → expires_in_time until ≡ true → IfSome until IsMoment
-until_timely None is = tt
-until_timely (Some until) is = let within = leb-true until 1000000000000 is in omega (arith, within)
-
 recharge_timely : (at : ℕ) (what : Happening) → is_in_time (happens_of what) ≡ true → All IsTimelyItem (recharge_of at what)
 unfolding IsTimelyItem
 recharge_timely at (happening.Start call calling called) is = All-nil IsTimelyItem
 recharge_timely at (happening.Meets call event) is = All-nil IsTimelyItem
 recharge_timely at (happening.Recharge account amount until) is =
-    All-cons IsTimelyItem (at, body.Recharge account amount until) [] (until_timely until is) (All-nil IsTimelyItem)
+    All-cons IsTimelyItem (at, body.Recharge account amount until) [] (until_in_range until is) (All-nil IsTimelyItem)
 
 recharges_timely : (rows : List ScriptRow) → All (λ row. is_in_time (happens_of row.what) ≡ true) rows → All IsTimelyItem (recharge_items_of rows)
 recharges_timely [] is = All-nil IsTimelyItem

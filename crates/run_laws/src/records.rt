@@ -1,10 +1,9 @@
 //! Laws of the records of a run's calls, each the contract of a function that does nothing.
 
-ghost use Rattle.account_core.specs.TariffLaws.{TariffLaws};
 ghost use Rattle.run_laws.specs.Records.{CallsPayTheirRoute, RecordsAreInRange, RecordsSumUp, UnroutedCallsPayNothing};
 
+use account_core::tariff_laws;
 use held_calls::reserves_are_in_the_books;
-use price_core::{afforded_is_greatest, ceiling_is_greatest, lawful_times_follow};
 use shared_account::Shared;
 
 /// A call to a number without a route has paid nothing.
@@ -44,13 +43,4 @@ pub fn records_are_in_range<S: Shared>()
     ensures { RecordsAreInRange S.stood }
 {
     tariff_laws();
-}
-
-/// The laws of the tariff that the accounts rest on.
-fn tariff_laws()
-    ensures { TariffLaws }
-{
-    ceiling_is_greatest();
-    afforded_is_greatest();
-    lawful_times_follow();
 }

@@ -4,13 +4,13 @@ use Rattle.std.proofs.lemmas.Bool.Decides.{nat_tests}
 use Rattle.std.proofs.lemmas.List.{get_or_default}
 use Rattle.std.specs.Option.{option_map, option_or}
 use Rattle.std.specs.Prelude.{if◌then◌else◌, is_some}
+use Rattle.book_texts.proofs.TextLemmas.{next_item}
 use Rattle.account_core.specs.Entries.{EntryData}
 use Rattle.account_core.specs.Known.{CallFacts, known, paid_if_granted, paid_under}
 use Rattle.account_core.specs.Sums.{sum_in, sum_of, sum_under}
 use Rattle.price_core.specs.Rates.{Rates}
 use Rattle.account_core.specs.declared.call_sum.CallSum.{CallSum}
 use Rattle.shared_account.specs.Closed.{Closed}
-use Rattle.run_outputs.proofs.CallLemmas.{next_item}
 use Rattle.run_outputs.specs.KeptRecords.{AreCallsOf, KnowCalls}
 use Rattle.run_outputs.specs.Standings.{book_of}
 use Rattle.run_outputs.specs.declared.accounts.AccountCalls.{AccountCalls}

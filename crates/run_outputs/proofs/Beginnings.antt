@@ -11,6 +11,7 @@ use Rattle.std.specs.Map.{keys_of}
 use Rattle.std.specs.Ordering.{nat_cmp}
 use Rattle.std.specs.Prelude.{nat_le}
 use Rattle.std.specs.declared.cmp.Ordering.TheVariants.{Less}
+use Rattle.std.proofs.lemmas.Bool.{cases_lt}
 use Rattle.run_values.specs.Setups.{has_account}
 use Rattle.run_values.specs.declared.directory.OpeningCredit.{OpeningCredit}
 
@@ -117,12 +118,9 @@ one_begun accounts place firsts number new ordered within is grown are =
 pub one_longer : (firsts : List ℕ) (number : ℕ) (new : List ℕ) → new ≡ firsts ++ number ∷ [] → length new ≡ 1 + length firsts
 one_longer firsts number new is = let all = length-append firsts (number ∷ []) in let same = ap length is in omega (arith, all, same)
 
-split : (m n : ℕ) → (m < n) ⊎ (n ≤ m)
-split m n = grind arith
-
 -- where no part begins, there are accounts enough behind this one
 pub still_enough : (count begun left : ℕ) (begins : Bool) → (1 ≤ count - 1 - begun → left ≤ count - 1 - begun → begins ≡ true) → begins ≡ false → count ≤ 1 + begun + left → count ≤ 1 + begun + (left - 1)
-still_enough count begun left begins needed not_so enough = by_left (split (count - 1 - begun) 1) (split (count - 1 - begun) left)
+still_enough count begun left begins needed not_so enough = by_left (cases_lt (count - 1 - begun) 1) (cases_lt (count - 1 - begun) left)
   where
     by_left : ((count - 1 - begun) < 1) ⊎ (1 ≤ count - 1 - begun) → ((count - 1 - begun) < left) ⊎ (left ≤ count - 1 - begun) → count ≤ 1 + begun + (left - 1)
     by_left (inl none) rest = omega (arith, none)

@@ -1,10 +1,11 @@
 -- One post more: what it says of a call.
 use Rattle.std.proofs.Common.{◌≡◌, ◌==◌, ◌||◌, ◌+◌, ◌<◌, length, get_or, take, ℕ, Bool, true, false, Option, Some, None, List, [], ◌∷◌, ◌++◌, refl, sym, ap, ◌∙◌, arith}
 use Rattle.std.proofs.lemmas.Bool.Decides.{nat_tests}
-use Rattle.std.proofs.lemmas.List.{flat_map_more, take_more}
+use Rattle.std.proofs.lemmas.List.{flat_map_more}
 use Rattle.std.specs.List.{flat_map}
 use Rattle.std.specs.Prelude.{if◌then◌else◌, is_some}
 use Rattle.std.specs.Option.{option_or}
+use Rattle.book_texts.proofs.TextLemmas.{next_item}
 use Rattle.cap_values.specs.declared.event.Event.{Event}
 use Rattle.cap_values.specs.declared.event.Event.TheVariants as event
 use Rattle.cap_values.specs.declared.leg.Leg.{Leg}
@@ -13,11 +14,11 @@ use Rattle.cap_values.specs.declared.message.SsfMsg.TheVariants as message
 use Rattle.cap_values.specs.declared.message.SsfMsg.{SsfMsg}
 use Rattle.run_values.specs.declared.post.Body.{Body}
 use Rattle.run_values.specs.declared.post.Body.TheVariants as body
-use Rattle.run_outputs.specs.Calls.{end_by, first_said, report_by, call_reports_of, start_by, start_of, message_of_call}
+use Rattle.run_outputs.specs.Calls.{end_by, first_said, report_by, call_reports_of, message_of_call}
 use Rattle.run_outputs.specs.declared.reports.CallReports.{CallReports}
 
 -- the first of three is that of the first two, or the third
-either : {X : Type 0} (one two three : Option X) → option_or one (option_or two three) ≡ option_or (option_or one two) three
+pub either : {X : Type 0} (one two three : Option X) → option_or one (option_or two three) ≡ option_or (option_or one two) three
 either None two three = refl
 either (Some x) two three = refl
 
@@ -109,12 +110,6 @@ reports_kept call other given at msg after was true same are had =
     are ∙ ap (λ c. call_reports_of c (given ++ (at, body.Ssf call msg) ∷ [])) (same_call call other same)
 reports_kept call other given at msg after was false differs are had = had ∙ sym (other_more call other given at msg differs)
 
--- a post that starts no call
-pub no_start : (call : ℕ) (given : List (ℕ × Body)) (post : ℕ × Body) → message_of_call call (start_by post.0) post.1 ≡ None
-    → start_of call given ≡ start_of call (given ++ post ∷ [])
-no_start call given post none =
-    sym (said_more call start_by given post ∙ ap (λ s. option_or (start_of call given) s) none ∙ or_none (start_of call given))
-
 -- the reports of a call after a message more of it
 pub message_kept : (call : ℕ) (given : List (ℕ × Body)) (at : ℕ) (msg : SsfMsg) (reports : CallReports) → reports ≡ call_reports_of call given
     → reports_with reports (λ tell. tell at msg) ≡ call_reports_of call (given ++ (at, body.Ssf call msg) ∷ [])
@@ -125,11 +120,6 @@ message_kept call given at msg reports are =
 pub event_kept : (call : ℕ) (given : List (ℕ × Body)) (at : ℕ) (event : Event) (leg : Option Leg) (mode : Mode) (reports : CallReports) → reports ≡ call_reports_of call given
     → reports_with reports (λ tell. tell at (message.EventReport event leg mode)) ≡ call_reports_of call (given ++ (at, body.Ssf call (message.EventReport event leg mode)) ∷ [])
 event_kept call given at event leg mode reports are = message_kept call given at (message.EventReport event leg mode) reports are
-
--- the next item of a list
-pub next_item : {X : Type 0} (items : List X) (i : ℕ) (item : X) → i < length items → item ≡ get_or items i item
-    → take (i + 1) items ≡ take i items ++ item ∷ []
-next_item items i item within is = take_more items i item within ∙ ap (λ x. take i items ++ x ∷ []) (sym is)
 
 -- what the items of a list add one after the other, with that of one item more
 pub added_next : {X A : Type 0} (f : X → List A) (front done more : List A) (items : List X) (i : ℕ) (item : X) → i < length items → item ≡ get_or items i item

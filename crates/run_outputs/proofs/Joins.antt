@@ -1,5 +1,5 @@
 -- What is kept of parts is joined, one after another.
-use Rattle.std.proofs.Common.{◌≡◌, ◌+◌, ◌∙◌, ℕ, List, [], ◌∷◌, ◌++◌, length, map, refl, sym, ap, subst, arith, append_assoc, All}
+use Rattle.std.proofs.Common.{◌≡◌, ◌+◌, ◌∙◌, ℕ, List, [], ◌∷◌, ◌++◌, map, refl, sym, ap, subst, arith, append_assoc, All}
 use Rattle.std.proofs.lemmas.Grind.{flat_map-append}
 use Rattle.std.proofs.lemmas.List.{append-nil, map-append}
 use Rattle.std.proofs.lemmas.List.Sums.{sum_by-append}
@@ -96,11 +96,6 @@ none_kept output whole is (said ∷ rest) kept = absurd kept
 pub none_joined : (parts rest : List Part) (whole : Part) → rest ≡ parts → ((output : RunOutput) → KeepsPart output (joined_parts []) whole) → AreJoined parts rest whole
 none_joined parts rest whole all none = record { done = []; split = all; keeps = λ output said kept. none_kept output whole (none output) said kept }
 
--- nothing is left to join
-pub none_left : (rest : List Part) → length rest ≡ 0 → rest ≡ []
-none_left [] none = refl
-none_left (part ∷ rest) none = absurd (omega (arith, none))
-
 -- all are joined
 pub all_joined : (parts rest : List Part) (whole : Part) → rest ≡ [] → AreJoined parts rest whole → (output : RunOutput) (said : List PartSaid) → AreKept output said parts → KeepsPart output (joined_parts said) whole
 all_joined parts rest whole none are output said kept =
@@ -113,15 +108,6 @@ keeps_nothing output.Lines lines books are none = are
 keeps_nothing output.Book lines books are none = none
 keeps_nothing (output.Calls clock) lines books are none = tt
 keeps_nothing (output.Trace clock) lines books are none = are
-
--- what is kept of the books of two parts
-pub keeps_both : (output : RunOutput) (books later : List Closed) (lines more new : LinesSaid) (kept kept_more kept_new : List Closed)
-    → ((one other : List Closed) → AreLinesOf one lines → AreLinesOf other more → AreLinesOf (one ++ other) new) → kept_new ≡ kept ++ kept_more
-    → KeepsBooks output books lines kept → KeepsBooks output later more kept_more → KeepsBooks output (books ++ later) new kept_new
-keeps_both output.Lines books later lines more new kept kept_more kept_new adds grown are also = adds books later are also
-keeps_both output.Book books later lines more new kept kept_more kept_new adds grown are also = rw (grown, are, also) refl
-keeps_both (output.Calls clock) books later lines more new kept kept_more kept_new adds grown are also = tt
-keeps_both (output.Trace clock) books later lines more new kept kept_more kept_new adds grown are also = adds books later are also
 
 -- the books that are kept are typed, so they are
 typed_kept : (kept : RunOutput) (said : PartSaid) (part : Part) → kept ≡ output.Book → KeepsPart kept said part → All IsTyped part.books.items → All IsTyped said.books

@@ -7,6 +7,7 @@ use Rattle.std.specs.Option.{option_or}
 use Rattle.std.specs.Ordering.{nat_cmp}
 use Rattle.std.specs.Prelude.{if◌then◌else◌}
 use Rattle.std.specs.Str.{bytes_eq}
+use Rattle.run_outputs.proofs.CallLemmas.{or_none, either}
 use Rattle.cap_values.specs.NumberDigits.{digits_of_number}
 use Rattle.cap_values.specs.declared.number.Number.{Number}
 use Rattle.rising_map.proofs.RisingLemmas.{looked_up}
@@ -15,14 +16,6 @@ use Rattle.run_texts.specs.Happenings.{RowData}
 use Rattle.run_texts.specs.Views.{row_data, with_digits}
 use Rattle.run_texts.specs.declared.script.ScriptRow.{ScriptRow}
 use Rattle.run_values.specs.Setups as setups
-
-or_none : {X : Type 0} (one : Option X) → option_or one None ≡ one
-or_none None = refl
-or_none (Some x) = refl
-
-either : {X : Type 0} (one two three : Option X) → option_or one (option_or two three) ≡ option_or (option_or one two) three
-either None two three = refl
-either (Some x) two three = refl
 
 payer_more : (subscribers : List (List ℕ × ℕ)) (script : List RowData) (row : RowData) (call : ℕ)
     → payer_of subscribers (script ++ row ∷ []) call ≡ option_or (payer_of subscribers script call) (payer_by subscribers call row.what)

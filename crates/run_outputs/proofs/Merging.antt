@@ -1,23 +1,17 @@
 -- What is sorted by a number.
-use Rattle.std.proofs.Common.{◌≡◌, ◌==◌, ◌&&◌, ◌∙◌, ℕ, not, List, [], ◌∷◌, length, refl, sym, arith}
-use Rattle.std.proofs.lemmas.Bool.Decides.{nat_tests}
+use Rattle.std.proofs.Common.{◌≡◌, ◌==◌, ◌∙◌, ℕ, List, [], ◌∷◌, length, refl, sym}
 use Rattle.std.proofs.lemmas.List.Elements.{filter_agree}
 use Rattle.std.specs.List.{filter}
 use Rattle.std.specs.List.Sorted.{IsStableByKey, ties}
 use Rattle.std.specs.Ordering.{is_lt, nat_cmp}
-
-is_tie : (number other : ℕ) → other == number ≡ not (is_lt (nat_cmp number other)) && not (is_lt (nat_cmp other number))
-is_tie number other = grind (arith, nat_tests)
+use Rattle.std.proofs.lemmas.List.{nil_from_length}
+use Rattle.book_texts.proofs.CallLemmas.{is_tie}
 
 module _ {X : Type 0} (number : X → ℕ) (with_number : X → ℕ → X) (has_number : (x : X) (n : ℕ) → number (with_number x n) ≡ n) where
-  none : (xs : List X) → length xs ≡ 0 → xs ≡ []
-  none [] is = refl
-  none (x ∷ xs) is = absurd (omega (arith, is))
-
   -- a stable sort leaves those of each number as they were
   pub stays_in_order : (listed sorted : List X) → length sorted ≡ length listed → IsStableByKey number nat_cmp listed sorted
       → (n : ℕ) → filter (λ x. number x == n) sorted ≡ filter (λ x. number x == n) listed
-  stays_in_order [] sorted as_many stable n = rw (none sorted as_many) refl
+  stays_in_order [] sorted as_many stable n = rw (nil_from_length sorted as_many) refl
   stays_in_order (first ∷ listed) sorted as_many stable n =
       let one : X = with_number first n in
       let its : number one ≡ n = has_number first n in

@@ -1,28 +1,25 @@
 -- The rows of each part are in order, and in range, where those of the whole script are.
 use Rattle.std.proofs.Common.{◌≡◌, ◌<◌, ◌+◌, ◌∙◌, ◌==◌, ℕ, Bool, true, false, cond, Option, List, [], ◌∷◌, length, map, refl, sym, subst, arith, All}
 use Rattle.std.proofs.Math.ListN.{get_or-map}
-use Rattle.std.proofs.lemmas.Bool.{and_parts}
+use Rattle.std.proofs.lemmas.Bool.{and_parts, and_from}
 use Rattle.std.proofs.lemmas.Bool.Decides.{nat_tests}
 use Rattle.std.proofs.lemmas.List.{get_or_default, length-map}
 use Rattle.std.proofs.lemmas.List.Elements.{All-filter}
 use Rattle.std.specs.List.{filter}
-use Rattle.std.specs.Prelude.{◌&&◌, nat_le}
+use Rattle.std.specs.Prelude.{nat_le}
 use Rattle.run_outputs.specs.Parts.{AreParts, part_of, part_rows}
 use Rattle.run_texts.specs.Views.{rows_are_in_order, happens_of}
 use Rattle.run_texts.specs.declared.script.ScriptRow.{ScriptRow}
-
-both : (one other : Bool) → one ≡ true → other ≡ true → one && other ≡ true
-both one other is also = rw (is, also) refl
 
 sooner : (start later : ℕ) (rows : List ScriptRow) → nat_le start later ≡ true → rows_are_in_order later rows ≡ true → rows_are_in_order start rows ≡ true
 sooner start later [] before are = refl
 sooner start later (row ∷ rows) before are =
     let (first, rest) = and_parts (nat_le later row.at) (rows_are_in_order row.at rows) are in
-    both (nat_le start row.at) (rows_are_in_order row.at rows) (grind (arith, nat_tests)) rest
+    and_from (nat_le start row.at) (rows_are_in_order row.at rows) (grind (arith, nat_tests)) rest
 
 one : (start : ℕ) (row : ScriptRow) (kept : List ScriptRow) (passes : Bool) → nat_le start row.at ≡ true → rows_are_in_order row.at kept ≡ true
     → rows_are_in_order start (cond passes (row ∷ kept) kept) ≡ true
-one start row kept true first rest = both (nat_le start row.at) (rows_are_in_order row.at kept) first rest
+one start row kept true first rest = and_from (nat_le start row.at) (rows_are_in_order row.at kept) first rest
 one start row kept false first rest = sooner start row.at kept first rest
 
 filtered : (p : ScriptRow → Bool) (start : ℕ) (rows : List ScriptRow) → rows_are_in_order start rows ≡ true → rows_are_in_order start (filter p rows) ≡ true

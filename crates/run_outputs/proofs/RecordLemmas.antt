@@ -43,7 +43,7 @@ no_records run = All-nil (IsRecord run)
 same_test : (call other : ℕ) → is_at (nat_cmp call) other ≡ call == other
 same_test call other = grind (arith, nat_tests)
 
-same_calls : (call : ℕ) (calls : List ℕ) → list_any (is_at (nat_cmp call)) calls ≡ list_any (λ other. call == other) calls
+pub same_calls : (call : ℕ) (calls : List ℕ) → list_any (is_at (nat_cmp call)) calls ≡ list_any (λ other. call == other) calls
 same_calls call [] = refl
 same_calls call (other ∷ calls) = λ i. same_test call other i || same_calls call calls i
 

@@ -1,5 +1,5 @@
 -- A section is read line by line as far as its divider, and a line byte by byte.
-use Rattle.std.proofs.Common.{◌≡◌, ◌≢◌, ◌==◌, ◌+◌, ◌<◌, ◌≤◌, ℕ, Bool, true, false, List, [], ◌∷◌, ◌++◌, All, length, drop, take, Option, Some, None, Result, Ok, Err, refl, sym, ap, subst, ◌∙◌, arith, append_assoc, append-nil, length-append}
+use Rattle.std.proofs.Common.{◌≡◌, ◌≢◌, ◌==◌, ◌+◌, ◌<◌, ◌≤◌, ℕ, Bool, true, false, List, [], ◌∷◌, ◌++◌, All, length, drop, Option, Some, None, Result, Ok, Err, refl, sym, ap, subst, ◌∙◌, arith, append_assoc, append-nil, length-append}
 use Rattle.std.specs.Prelude.{if◌then◌else◌, nat_lt, option_map, ⊤, IfErr, IfSome, IsErrAnd, OnSome}
 use Rattle.std.specs.Io.BufRead.{drop_through, take_through}
 use Rattle.std.specs.Io.KnownBytes.{Consumes, IsAtEnd, Keeps}
@@ -14,27 +14,9 @@ use Rattle.run_texts.specs.declared.input_fault.InputFault.TheVariants as fault
 
 -- ---- readers
 
-pub keeps_end : (a b c : Option (List ℕ)) (bs : List ℕ) → Keeps a b → Consumes b c (take 0 bs) → IsAtEnd c → IsAtEnd a
-keeps_end None b c bs keeps took end = tt
-keeps_end (Some xs) None c bs keeps took end = absurd keeps
-keeps_end (Some xs) (Some ys) None bs keeps took end = absurd took
-keeps_end (Some xs) (Some ys) (Some zs) bs keeps took end = sym keeps ∙ took ∙ end
-
-pub keeps_takes : (a b c : Option (List ℕ)) (bs : List ℕ) → Keeps a b → Consumes b c bs → Consumes a c bs
-keeps_takes None b c bs keeps took = tt
-keeps_takes (Some xs) None c bs keeps took = absurd keeps
-keeps_takes (Some xs) (Some ys) None bs keeps took = absurd took
-keeps_takes (Some xs) (Some ys) (Some zs) bs keeps took = sym keeps ∙ took
-
-pub keeps_keeps : (a b c : Option (List ℕ)) → Keeps a b → Keeps b c → Keeps a c
-keeps_keeps None b c one two = tt
-keeps_keeps (Some xs) None c one two = absurd one
-keeps_keeps (Some xs) (Some ys) None one two = absurd two
-keeps_keeps (Some xs) (Some ys) (Some zs) one two = two ∙ one
-
 -- ---- the first line
 
-first_line : (ends : Bool) (c : ℕ) (text : List ℕ)
+pub first_line : (ends : Bool) (c : ℕ) (text : List ℕ)
     → (if ends then (c ∷ []) ∷ lines_in_text text else with_first_byte c (lines_in_text text))
     ≡ (if ends then c ∷ [] else c ∷ take_through 10 text) ∷ lines_in_text (if ends then text else drop_through 10 text)
 unfolding lines_in_text

@@ -1,12 +1,12 @@
 -- What a reader of a script keeps beside the rows.
 use Rattle.std.proofs.Common.{◌≡◌, ◌==◌, ◌≤◌, ℕ, Bool, true, false, List, [], ◌∷◌, ◌++◌, refl, reverse, sym, arith}
-use Rattle.std.specs.Prelude.{◌||◌, ◌&&◌, cond, map, nat_le}
+use Rattle.std.specs.Prelude.{◌||◌, cond, map, nat_le}
 use Rattle.std.specs.BTreeSet.{BTreeSet, IsEmpty, contains}
 use Rattle.std.specs.Ordering.{is_eq, nat_cmp}
 use Rattle.std.proofs.lemmas.Bool.Decides.{nat_tests}
 use Rattle.std.proofs.lemmas.List.Elements.{All-push}
 use Rattle.std.proofs.lemmas.List.{map-append, reverse-append, reverse-reverse}
-use Rattle.std.proofs.lemmas.Bool.{and_parts}
+use Rattle.std.proofs.lemmas.Bool.{and_parts, and_from}
 use Rattle.price_core.specs.declared.times.TheConstants.{MAX_MOMENT}
 use Rattle.run_texts.specs.Happenings.{RowData, Happens, Meets, Recharges, Starts, is_in_time}
 use Rattle.run_texts.specs.Scripts.{is_started, starts}
@@ -14,9 +14,6 @@ use Rattle.run_texts.specs.ScriptsRead.{AreRowsOf, last_moment_of}
 use Rattle.run_texts.specs.Starts.{HasCalls, NotesStart}
 use Rattle.run_texts.specs.Views.{happens_of, rows_are_in_order, row_data}
 use Rattle.run_texts.specs.declared.script.ScriptRow.{ScriptRow}
-
-abbrev Fields : Type 0
-Fields = List (List ℕ)
 
 -- ---- the sets
 
@@ -59,16 +56,12 @@ pub end_more : (start : ℕ) (rows : List ScriptRow) (row : ScriptRow) → last_
 end_more start [] row = refl
 end_more start (first ∷ rows) row = end_more first.at rows row
 
-in_turn : (a b : Bool) → a ≡ true → b ≡ true → (a && b) ≡ true
-in_turn true b one two = two
-in_turn false b one two = cc
-
 pub order_more : (start : ℕ) (rows : List ScriptRow) (row : ScriptRow) → rows_are_in_order start rows ≡ true → last_moment_of start rows ≤ row.at
     → rows_are_in_order start (rows ++ row ∷ []) ≡ true
-order_more start [] row ordered after = in_turn (nat_le start row.at) true (grind (arith, nat_tests, after)) refl
+order_more start [] row ordered after = and_from (nat_le start row.at) true (grind (arith, nat_tests, after)) refl
 order_more start (first ∷ rows) row ordered after =
     let sections = and_parts (nat_le start first.at) (rows_are_in_order first.at rows) ordered in
-    in_turn (nat_le start first.at) (rows_are_in_order first.at (rows ++ row ∷ [])) sections.0 (order_more first.at rows row sections.1 after)
+    and_from (nat_le start first.at) (rows_are_in_order first.at (rows ++ row ∷ [])) sections.0 (order_more first.at rows row sections.1 after)
 
 -- ---- the rows
 

@@ -2,6 +2,7 @@
 use Rattle.std.proofs.Common.{◌≡◌, ◌<◌, ◌+◌, ◌∙◌, ℕ, zero, suc, List, [], ◌∷◌, length, map, refl, ap, sym, subst, arith}
 use Rattle.std.specs.Prelude.{replicate, slice_index_or}
 use Rattle.std.proofs.lemmas.List.{get_or_append_left, get_or_push, length-append, length-replicate, map-append}
+use Rattle.runs_core.proofs.LayingOut.{laid_out_length}
 use Rattle.runs_core.specs.LaidOut.{laid_out}
 
 -- piles onto which several lists are laid out, one after the other
@@ -22,11 +23,6 @@ AreEven many (one ∷ lists) = (length one ≡ many) × AreEven many lists
 abbrev AreColumns : {X : Type 0} → X → List (List X) → ℕ → List (List X) → Type 0
 AreColumns d piles height [] = Unit {0}
 AreColumns d piles height (items ∷ later) = (column d height piles ≡ items) × AreColumns d piles (height + 1) later
-
-pub laid_out_many : {X : Type 0} (piles : List (List X)) (items : List X) → length (laid_out piles items) ≡ length piles
-laid_out_many [] items = refl
-laid_out_many (pile ∷ piles) [] = refl
-laid_out_many (pile ∷ piles) (item ∷ items) = ap suc (laid_out_many piles items)
 
 column_last : {X : Type 0} (d : X) (height : ℕ) (piles : List (List X)) (items : List X) → AreEven height piles → length items ≡ length piles → column d height (laid_out piles items) ≡ items
 column_last d height [] [] even many = refl
@@ -51,7 +47,7 @@ column_stays : {X : Type 0} (d : X) (height lower : ℕ) (piles later : List (Li
     → column d lower (laid piles later) ≡ column d lower piles
 column_stays d height lower piles [] below even long = refl
 column_stays d height lower piles (items ∷ later) below even long =
-    let same : length (laid_out piles items) ≡ length piles = laid_out_many piles items in
+    let same : length (laid_out piles items) ≡ length piles = laid_out_length piles items in
     column_stays d (height + 1) lower (laid_out piles items) later (omega (arith, below)) (even_more height piles items even long.0)
     (let P : ℕ → Type 0 = λ n. AreEven n later in subst P (sym same) long.1)
     ∙ column_before d height lower piles items below even
@@ -60,7 +56,7 @@ column_stays d height lower piles (items ∷ later) below even long =
 columns_of : {X : Type 0} (d : X) (height : ℕ) (piles later : List (List X)) → AreEven height piles → AreEven (length piles) later → AreColumns d (laid piles later) height later
 columns_of d height piles [] even long = tt
 columns_of d height piles (items ∷ later) even long =
-    let same : length (laid_out piles items) ≡ length piles = laid_out_many piles items in
+    let same : length (laid_out piles items) ≡ length piles = laid_out_length piles items in
     let more = even_more height piles items even long.0 in
     let still = let P : ℕ → Type 0 = λ n. AreEven n later in subst P (sym same) long.1 in
     (column_stays d (height + 1) height (laid_out piles items) later (omega arith) more still ∙ column_last d height piles items even long.0, columns_of d (height + 1) (laid_out piles items) later more still)
@@ -93,7 +89,7 @@ laid_high height piles [] even long = let here : height ≡ height + 0 = omega a
 laid_high height piles (items ∷ later) even long =
     let here : height + 1 + length later ≡ height + suc (length later) = omega arith in
     let P : ℕ → Type 0 = λ n. AreEven n (laid (laid_out piles items) later) in
-    subst P here (laid_high (height + 1) (laid_out piles items) later (even_more height piles items even long.0) (as_long piles (laid_out piles items) later (laid_out_many piles items) long.1))
+    subst P here (laid_high (height + 1) (laid_out piles items) later (even_more height piles items even long.0) (as_long piles (laid_out piles items) later (laid_out_length piles items) long.1))
 
 -- each pile has one item of each list
 pub laid_even : {X : Type 0} (many : ℕ) (later : List (List X)) → AreEven many later → AreEven (length later) (laid (replicate many []) later)
@@ -104,7 +100,7 @@ laid_even {X = X} many later long =
 
 laid_length : {X : Type 0} (piles later : List (List X)) → length (laid piles later) ≡ length piles
 laid_length piles [] = refl
-laid_length piles (items ∷ later) = laid_length (laid_out piles items) later ∙ laid_out_many piles items
+laid_length piles (items ∷ later) = laid_length (laid_out piles items) later ∙ laid_out_length piles items
 
 pub laid_many : {X : Type 0} (many : ℕ) (later : List (List X)) → length (laid (replicate many []) later) ≡ many
 laid_many many later = laid_length (replicate many []) later ∙ length-replicate many []

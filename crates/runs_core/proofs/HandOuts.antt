@@ -129,11 +129,6 @@ handled_more workers given added handled shares before are = record {
       ∙ sym (share-append workers given added worker);
 }
 
--- what was given before is what is first, and then what was added
-pub added_after : (given before added : List (ℕ × Body)) → given ≡ before ++ added → drop (length before) given ≡ added
-added_after given before added grown = ap (drop (length before)) grown ∙ drop-append_seam before added
-
--- and so what is read of it from there on
 -- what was given before is no more than what is given now
 pub longer_by : (given before added now first : List (ℕ × Body)) → given ≡ before ++ added → now ≡ given → first ≡ before → length first ≤ length now
 longer_by given before added now first grown now_is first_is = rw (now_is, first_is, grown) (omega (arith, length-append before added))
@@ -144,6 +139,7 @@ whole_by now first longer =
     let rest = length-drop (length first) now in
     omega (arith, longer, rest, length-take-le (length now - length first) (drop (length first) now) (omega (arith, rest)))
 
+-- and what is read of it from there on is what was added
 pub added_slice : (given before added now first : List (ℕ × Body)) → given ≡ before ++ added → now ≡ given → first ≡ before → take (length now - length first) (drop (length first) now) ≡ added
 added_slice given before added now first grown now_is first_is =
-    rw (now_is, first_is) (take_all (length given - length before) (drop (length before) given) (omega (arith, length-drop (length before) given)) ∙ added_after given before added grown)
+    rw (now_is, first_is) (take_all (length given - length before) (drop (length before) given) (omega (arith, length-drop (length before) given)) ∙ ap (drop (length before)) grown ∙ drop-append_seam before added)

@@ -15,11 +15,11 @@ use Rattle.runs_core.specs.Shares.{Item, numbered, worker_of}
 
 -- ---- answers after answers
 
-numbered-length : (first : ℕ) (given : List (ℕ × Body)) → length (numbered first given) ≡ length given
+pub numbered-length : (first : ℕ) (given : List (ℕ × Body)) → length (numbered first given) ≡ length given
 numbered-length first [] = refl
 numbered-length first (item ∷ given) = ap suc (numbered-length (first + 1) given)
 
-many_answers : (first : ℕ) (given : List (ℕ × Body)) (answers : List Answer) → AnswersEach first given answers → length answers ≡ length given
+pub many_answers : (first : ℕ) (given : List (ℕ × Body)) (answers : List Answer) → AnswersEach first given answers → length answers ≡ length given
 many_answers first given answers each =
     sym (length-map answers (λ (a : Answer). a.number)) ∙ ap length each ∙ length-map (numbered first given) (λ (i : Item). i.number) ∙ numbered-length first given
 

@@ -1,11 +1,13 @@
 -- The rows of seats that workers leave are those of all seats of their accounts.
-use Rattle.std.proofs.Common.{◌≡◌, ◌<◌, ◌+◌, ℕ, zero, suc, true, List, [], ◌∷◌, ◌++◌, length, map, refl, ap, sym, subst, ◌∙◌, arith}
+use Rattle.std.proofs.Common.{◌≡◌, ◌<◌, ◌+◌, ℕ, zero, suc, true, List, [], ◌∷◌, length, map, refl, ap, sym, subst, ◌∙◌, arith}
 use Rattle.std.specs.Prelude.{◌==◌, All, replicate, slice_index_or}
 use Rattle.std.proofs.lemmas.Bool.Decides.{nat_tests}
 use Rattle.std.proofs.lemmas.List.{length-append, length-map, length-replicate}
 use Rattle.std.proofs.lemmas.List.Elements.{All-cons, All-head, All-map, All-nil, All-push, All-tail}
-use Rattle.std.proofs.lemmas.Bool.{and_parts}
-use Rattle.runs_core.proofs.Columns.{AreEven, laid_out_many, laid, map_laid_out}
+use Rattle.runs_core.proofs.CaseLemmas.{as_many}
+use Rattle.shared_account.proofs.Numbering.{numbered_push}
+use Rattle.runs_core.proofs.LayingOut.{laid_out_length}
+use Rattle.runs_core.proofs.Columns.{AreEven, laid, map_laid_out}
 use Rattle.runs_core.specs.Closing.{AreAllThere, AreNumberedFrom, AreSeatsOf}
 use Rattle.runs_core.specs.LaidOut.{laid_out}
 use Rattle.runs_core.specs.Teams.{terms_of, terms_with}
@@ -21,19 +23,13 @@ AreRising number (row ∷ rows) = (length row ≡ number) × (are_numbered 0 row
 is_itself : (n m : ℕ) → n ≡ m → (n == m) ≡ true
 is_itself n m same = grind (arith, nat_tests, same)
 
-numbered_more : (first number : ℕ) (row : List ℕ) → are_numbered first row ≡ true → first + length row ≡ number → are_numbered first (row ++ number ∷ []) ≡ true
-numbered_more first number [] rising many = rw (is_itself number first (omega (arith, many))) refl
-numbered_more first number (other ∷ row) rising many =
-    let parts = and_parts (other == first) (are_numbered (first + 1) row) rising in
-    rw (parts.0) (numbered_more (first + 1) number row parts.1 (omega (arith, many)))
-
 pub rising_more : (number : ℕ) (rows : List (List ℕ)) (team : List ℕ) → AreRising number rows → All (λ n. n ≡ number) team → length team ≡ length rows → AreRising (number + 1) (laid_out rows team)
 rising_more number [] team rising numbered many = tt
 rising_more number (row ∷ rows) [] rising numbered many = absurd (omega (arith, many))
 rising_more number (row ∷ rows) (seat ∷ team) rising numbered many =
     let its : seat ≡ number = All-head (λ n. n ≡ number) seat team numbered in (
       length-append row (seat ∷ []) ∙ ap (λ n. n + 1) rising.0,
-      rw (its) (numbered_more 0 number row rising.1 (omega (arith, rising.0))),
+      rw (its) (numbered_push 0 row number rising.1 (omega (arith, rising.0))),
       rising_more number rows team rising.2 (All-tail (λ n. n ≡ number) seat team numbered) (omega (arith, many)),
     )
 
@@ -69,7 +65,7 @@ rising_laid read number rows [] rising numbered even =
     let here : number ≡ number + 0 = omega arith in subst (λ n. AreRising n (map (map read.number) rows)) here rising
 rising_laid read number rows (team ∷ teams) rising numbered even =
     let here : number + 1 + length teams ≡ number + suc (length teams) = omega arith in
-    let still = let P : ℕ → Type 0 = λ n. AreEven n teams in subst P (sym (laid_out_many rows team)) even.1 in
+    let still = let P : ℕ → Type 0 = λ n. AreEven n teams in subst P (sym (laid_out_length rows team)) even.1 in
     subst (λ n. AreRising n (map (map read.number) (laid (laid_out rows team) teams))) here
     (rising_laid read (number + 1) (laid_out rows team) teams (more_rising read.number number rows team rising numbered.0 even.0) numbered.1 still)
 
@@ -106,14 +102,10 @@ pub rows_of : {K S T : Type 0} (key_of : T → K) (key : S → K) (accounts : Li
     → AreSeatsOf key_of (map key accounts) (laid (replicate (length accounts) []) teams)
 rows_of key_of key accounts teams all = of_laid key_of (map key accounts) (replicate (length accounts) []) teams (of_none key_of key accounts) all
 
--- a team has a seat of each account
-pub team_many : {K S T : Type 0} (key_of : T → K) (key : S → K) (accounts : List S) (team : List T) → map key_of team ≡ map key accounts → length team ≡ length accounts
-team_many key_of key accounts team same = sym (length-map team key_of) ∙ ap length same ∙ length-map accounts key
-
 pub teams_even : {K S T : Type 0} (key_of : T → K) (key : S → K) (accounts : List S) (teams : List (List T)) → All (λ team. map key_of team ≡ map key accounts) teams → AreEven (length accounts) teams
 teams_even key_of key accounts [] all = tt
 teams_even key_of key accounts (team ∷ teams) all =
-    (team_many key_of key accounts team (All-head (λ t. map key_of t ≡ map key accounts) team teams all), teams_even key_of key accounts teams (All-tail (λ t. map key_of t ≡ map key accounts) team teams all))
+    (as_many key_of key team accounts (All-head (λ t. map key_of t ≡ map key accounts) team teams all), teams_even key_of key accounts teams (All-tail (λ t. map key_of t ≡ map key accounts) team teams all))
 
 pub numbered_from : {K T : Type 0} (read : Reads K T) (first : ℕ) (teams : List (List T)) → ((worker : ℕ) → worker < length teams → All (λ seat. read.number seat ≡ first + worker) (slice_index_or teams worker []))
     → AreNumberedFrom read first teams

@@ -3,7 +3,7 @@ use Rattle.std.proofs.Common.{◌≡◌, ◌≢◌, ℕ, zero, suc, true, false,
 use mathlib.Core.Option.{some, some-injective, some-ne-none}
 use lib.ListN.{get_elem?}
 use Rattle.atomic_table.proofs.Lists.{at_set, at_snoc}
-use Rattle.crossbeam_channel.specs.Fifo.{Forks, Learns, Merges, Pops, Pushes}
+use Rattle.crossbeam_channel.specs.Fifo.{Forks, Merges, Pops, Pushes}
 use Rattle.runs_core.proofs.Closes.{none_before, still_ends}
 use Rattle.runs_core.specs.Logs.{Delivered, FitsLog, ends_at_close, has_close, log}
 use Rattle.runs_core.specs.declared.mailboxes.Log.{Log}
@@ -137,11 +137,3 @@ rejoins {T} pass v other u sending taking items views rule here apart there =
       each = renewed (FitsLog rule.sender pass rule.sent rule.taken) views' other (log false false [] [])
           ((λ s. absurd (true≢false (sym s))), λ t. absurd (true≢false (sym t))) (λ j x away at. kept j x at away);
     }
-
--- with both ends in one place
-pub tells : {T : Type 0} (pass : ℕ) (v : Log T) → v.sends ≡ true → v.takes ≡ true → Learns Delivered pass v (λ waiting. (v.sent ≡ v.taken ++ waiting) × (ends_at_close v.sent ≡ true))
-tells pass v sending taking items views rule here =
-    let mine = rule.each pass v here in (
-      (mine.0 sending).1 ∙ rule.in_order ∙ ap (λ mails. mails ++ items) (sym (mine.1 taking).1),
-      subst (λ mails. ends_at_close mails ≡ true) (sym (mine.0 sending).1) rule.closes,
-    )

@@ -1,5 +1,5 @@
 -- The talk of a dialogue with its account, ask by ask.
-use Rattle.std.proofs.Common.{◌≡◌, ◌≢◌, ◌⊎◌, ◌++◌, ◌∙◌, inl, inr, ℕ, false, Option, None, Ok, Err, List, [], ◌∷◌, refl, sym, ap, subst, append_assoc, append-nil}
+use Rattle.std.proofs.Common.{◌≡◌, ◌++◌, ◌∙◌, ℕ, false, Option, None, Ok, Err, List, [], ◌∷◌, refl, sym, ap, subst, append_assoc, append-nil}
 use Rattle.account_core.specs.Asked.{Asked}
 use Rattle.account_core.specs.Entries.{EntryData}
 use Rattle.shared_account.specs.Refusals.{IsRefusedAt, Knowing, Refusal}
@@ -57,11 +57,6 @@ pub right_known : (Was Later : Knowing) → ((mine : List EntryData) (refusal : 
 right_known Was Later still = right_still (IsRefusedAt Was) (IsRefusedAt Later) (refused_still Was Later still)
 
 -- ---- ask by ask
-
--- a fault that isn't a closed gate is the account's
-pub not_gate : {P : Type 0} (why : AccountFault) → (why ≡ fault.GateClosed) ⊎ P → why ≢ fault.GateClosed → P
-not_gate why (inl shut) other = absurd (other shut)
-not_gate why (inr is) other = is
 
 pub fault_after : (gots : List Got) (got : Got) → or_fault (last_fault gots) got ≡ last_fault (got ∷ gots)
 fault_after gots (Ok reply) = refl

@@ -1,10 +1,11 @@
 -- The seats of accounts that are opened go to the teams of the workers.
-use Rattle.std.proofs.Common.{◌≡◌, ◌<◌, ◌≤◌, ℕ, ◌+◌, Bool, true, false, List, [], ◌∷◌, ◌++◌, length, map, refl, ap, subst, sym, ◌∙◌, arith, zero, suc, take}
-use Rattle.std.specs.Prelude.{◌==◌, ◌&&◌, All, HoldsAt, replicate}
+use Rattle.std.proofs.Common.{◌≡◌, ◌<◌, ◌≤◌, ℕ, ◌+◌, true, List, [], ◌∷◌, ◌++◌, length, map, refl, ap, subst, sym, ◌∙◌, arith, zero, suc, take}
+use Rattle.std.specs.Prelude.{◌==◌, All, HoldsAt, replicate}
 use Rattle.std.proofs.Math.ListN.{get_or}
 use Rattle.std.proofs.lemmas.Bool.Decides.{nat_tests}
 use Rattle.std.proofs.lemmas.List.{length-map, length-replicate, map-append, take_all, take_more}
 use Rattle.std.proofs.lemmas.List.Elements.{All-head, All-nil, All-push, All-tail}
+use Rattle.std.proofs.lemmas.Bool.{and_parts}
 use Rattle.shared_account.specs.Seats.{Reads, are_numbered}
 use Rattle.shared_account.specs.Terms.{Terms}
 use Rattle.run_values.specs.Openings.{no_credit}
@@ -12,10 +13,6 @@ use Rattle.run_values.specs.declared.directory.OpeningCredit.{OpeningCredit}
 use Rattle.runs_core.specs.LaidOut.{laid_out}
 use Rattle.runs_core.specs.Teams.{AreFresh, IsFresh, IsNew, terms_of, terms_with}
 use Rattle.runs_core.proofs.LayingOut.{laid_out_length}
-
-pub first_by : (here rest : Bool) → here && rest ≡ true → (here ≡ true) × (rest ≡ true)
-first_by true rest are = (refl, are)
-first_by false rest are = absurd (cc)
 
 same_number : (s t : ℕ) → (s == t) ≡ true → s ≡ t
 same_number s t is = grind (arith, nat_tests, is)
@@ -50,7 +47,7 @@ laid_out_fresh : {K T : Type 0} (read : Reads K T) (keys : List K) (key : K) (nu
 laid_out_fresh read keys key number [] seats fresh enough numbered of_account empty = tt
 laid_out_fresh read keys key number (team ∷ teams) [] fresh enough numbered of_account empty = absurd (omega (arith, enough))
 laid_out_fresh read keys key number (team ∷ teams) (seat ∷ seats) fresh enough numbered of_account empty =
-    let parts = first_by (read.number seat == number) (are_numbered (number + 1) (map read.number seats)) numbered in (
+    let parts = and_parts (read.number seat == number) (are_numbered (number + 1) (map read.number seats)) numbered in (
       more_fresh read keys key number team seat fresh.0 (All-head (λ seat. read.key seat ≡ key) seat seats of_account) (same_number _ _ parts.0) (All-head (λ seat. read.mine seat ≡ []) seat seats empty),
       laid_out_fresh read keys key (number + 1) teams seats fresh.1 (omega (arith, enough)) parts.1 (All-tail (λ seat. read.key seat ≡ key) seat seats of_account) (All-tail (λ seat. read.mine seat ≡ []) seat seats empty),
     )
@@ -75,7 +72,7 @@ terms_more limit workers all place number opening within numbered opened =
 -- a new account has a seat for each worker
 pub seat_each : {K T : Type 0} (read : Reads K T) (key : K) (workers : ℕ) (seats : List T) → IsNew read key workers seats → length seats ≡ workers
 seat_each read key workers seats new =
-    let parts = first_by (length (map read.number seats) == workers) (are_numbered 0 (map read.number seats)) new.numbers in
+    let parts = and_parts (length (map read.number seats) == workers) (are_numbered 0 (map read.number seats)) new.numbers in
     sym (length-map seats read.number) ∙ same_number _ _ parts.0
 
 -- all accounts are opened
@@ -93,7 +90,7 @@ pub one_opened : {K T S V : Type 0} (read : Reads K T) (terms : S → Terms) (ke
     → (map terms (accounts ++ account ∷ []) ≡ terms_of limit workers (take (place + 1) all)) × (length laid_out_teams ≡ workers)
     × AreFresh read (map key (accounts ++ account ∷ [])) 0 (map inside laid_out_teams)
 one_opened read terms key inside limit workers all place number opening accounts teams laid_out_teams account seats within numbered opened before is new deals =
-    let parts = first_by (length (map read.number seats) == workers) (are_numbered 0 (map read.number seats)) new.numbers in
+    let parts = and_parts (length (map read.number seats) == workers) (are_numbered 0 (map read.number seats)) new.numbers in
     let enough : length seats ≡ length (map inside teams) =
     sym (length-map seats read.number) ∙ same_number _ _ parts.0 ∙ sym before.1 ∙ sym (length-map teams inside) in (
       map-append terms accounts (account ∷ []) ∙ ap (λ ts. ts ++ terms account ∷ []) before.0

@@ -1,5 +1,5 @@
 -- The answers of a round, taken one after the other.
-use Rattle.std.proofs.Common.{◌≡◌, ◌+◌, ◌<◌, ◌≤◌, ℕ, zero, suc, Option, Some, None, List, [], ◌∷◌, ◌++◌, length, drop, slice_index_or, refl, arith, sym, ◌∙◌, append_assoc, add-one, drop-cons}
+use Rattle.std.proofs.Common.{◌≡◌, ◌+◌, ◌<◌, ℕ, zero, suc, Option, Some, List, [], ◌∷◌, ◌++◌, length, drop, slice_index_or, refl, arith, sym, ◌∙◌, append_assoc, add-one, drop-cons}
 use Rattle.std.specs.List.{slice_get}
 use Rattle.run_values.specs.declared.post.Answer.{Answer}
 use Rattle.run_values.specs.declared.post.Body.{Body}
@@ -11,11 +11,6 @@ pub slice_get-at : {X : Type 0} (xs : List X) (k : ℕ) (x : X) → k < length x
 slice_get-at [] k x within is = absurd (omega arith)
 slice_get-at (y ∷ xs) zero x within is = rw (← is) refl
 slice_get-at (y ∷ xs) (suc k) x within is = slice_get-at xs k x (omega arith) is
-
-pub slice_get-past : {X : Type 0} (xs : List X) (k : ℕ) → length xs ≤ k → slice_get xs k ≡ None
-slice_get-past [] k past = refl
-slice_get-past (y ∷ xs) zero past = absurd (omega arith)
-slice_get-past (y ∷ xs) (suc k) past = slice_get-past xs k (omega arith)
 
 -- one more answer is taken
 pub deliveries_of-step : (delay k : ℕ) (given : List (ℕ × Body)) (answers : List Answer) (answer : Answer) (found : Option (ℕ × Body)) (all before after : List Delivery)

@@ -179,11 +179,3 @@ gave_started config before after now call calling called given view sent order a
           All-append (λ (item : ℕ × Body). item.0 ≤ 2000000000000) given (posts_of call sent) are.in_range
           (posts_in_range call sent (sent_by_now now call calling called sent order begun.initial));
     }
-
--- its first message is given
-pub starts_now : (config : SsfConfig) (before : BTreeMap ℕ View) (now call : ℕ) (calling called : Number) (given after : List (ℕ × Body)) (view : View) (sent : List Out)
-    → HaveGiven config before given → is_some (get nat_cmp before call) ≡ false → IsTriggered config now call calling called view sent → after ≡ given ++ posts_of call sent
-    → Starts given after call (initial now call calling called)
-starts_now config before now call calling called given after view sent are without begun is =
-    let none : items_of call given ≡ [] = none_yet config given call (get nat_cmp before call) (are.gave call) without in
-    is ∙ rw (none, begun.initial) refl

@@ -63,11 +63,6 @@ gives_fed before after calls now_calls now call input fed was is feeds posts con
     } in
     subst P (sym feeds.refused) (with_fault (Some feeds.moves.old) now call input before after (ap (λ (ssfs : List (ℕ × View)). ssf_of ssfs call) was ∙ feeds.moves.was) own)
 
--- a call without a gsmSSF is given nothing
-pub gives_none : (before : Shown) (calls : BTreeMap ℕ View) (now call : ℕ) (input : Input) → before.ssfs ≡ calls.entries → get nat_cmp calls call ≡ None
-    → GivesWithFault now call input before before None
-gives_none before calls now call input was absent = with_fault None now call input before before (ap (λ (ssfs : List (ℕ × View)). ssf_of ssfs call) was ∙ absent) refl
-
 -- where time has passed for a call, no timer of it is left due
 pub waited : (config : SsfConfig) (before after : BTreeMap ℕ View) (now call at : ℕ) (given : List (ℕ × Body)) (input : Input) (fed : Sent) → HaveGiven config before given
     → Feeds before after now call input fed → input ≡ what.Wait → HasTimer after.entries call at → now < at

@@ -8,6 +8,7 @@ use Rattle.std.specs.List.{filter, list_any}
 use Rattle.std.specs.Ordering.{nat_cmp}
 use Rattle.std.specs.Prelude.{cond}
 use Rattle.std.specs.declared.ops.Bound.TheVariants.{Excluded, Unbounded}
+use Rattle.std.proofs.lemmas.Bool.{or_right}
 use Rattle.ssf_core.specs.Calls.{View}
 use Rattle.script_player.specs.Dues.{AreDueBy, AreDues, IsDueBy, is_among, pair_cmp}
 
@@ -49,10 +50,6 @@ listed_more before after done due updates listed call =
 -- a moment that is found for a call
 abbrev IsFound : ℕ → ℕ → List (ℕ × ℕ) → Type 0
 IsFound call now keys = (at : ℕ) × ((at ≤ now) × (list_any (is_at (pair_cmp (at, call))) keys ≡ true))
-
-or_right : (one two : Bool) → two ≡ true → (one || two) ≡ true
-or_right true two is = refl
-or_right false two is = is
 
 found_later : (call now : ℕ) (key : ℕ × ℕ) (keys : List (ℕ × ℕ)) → IsFound call now keys → IsFound call now (key ∷ keys)
 found_later call now key keys found = (found.0, (found.1.0, or_right (is_at (pair_cmp (found.0, call)) key) (list_any (is_at (pair_cmp (found.0, call))) keys) found.1.1))

@@ -3,6 +3,7 @@ use Rattle.std.proofs.Common.{◌≡◌, ◌+◌, ◌<◌, ◌≤◌, ℕ, zero,
 use Rattle.std.proofs.lemmas.List.Elements.{All-append, All-cons, All-nil}
 use Rattle.std.specs.Option.{ForSome}
 use Rattle.std.specs.Prelude.{All}
+use Rattle.std.proofs.lemmas.List.{drop_all}
 use Rattle.run_texts.specs.declared.script.Happening.{Happening}
 use Rattle.run_texts.specs.declared.script.Happening.TheVariants as happening
 use Rattle.run_texts.specs.declared.script.ScriptRow.{ScriptRow}
@@ -98,17 +99,11 @@ later_next rows taken now row within is order =
     let P : List ScriptRow → Type 0 = λ l. ForSome (next_row l) (λ at. now < at) in
     subst P (sym step) (λ at some. let same : row.at ≡ at = cc some in omega (arith, order, same))
 
-past_all : (rows : List ScriptRow) (taken : ℕ) → length rows ≤ taken → drop taken rows ≡ []
-past_all [] zero within = refl
-past_all [] (suc taken) within = refl
-past_all (row ∷ rows) zero within = absurd (omega (arith, within))
-past_all (row ∷ rows) (suc taken) within = past_all rows taken (omega (arith, within))
-
 -- and no row is next where all are taken
 pub none_next : (rows : List ScriptRow) (taken now : ℕ) → length rows ≤ taken → ForSome (next_row (drop taken rows)) (λ at. now < at)
 none_next rows taken now within =
     let P : List ScriptRow → Type 0 = λ l. ForSome (next_row l) (λ at. now < at) in
-    subst P (sym (past_all rows taken within)) (λ at none. absurd (cc none))
+    subst P (sym (drop_all taken rows within)) (λ at none. absurd (cc none))
 
 pub later_moment : (rows : List ScriptRow) (place now : ℕ) (row : ScriptRow) → row ≡ slice_index_or rows place row → now < (slice_index_or rows place row).at → now < row.at
 later_moment rows place now row is order = subst (λ (r : ScriptRow). now < r.at) (sym is) order

@@ -1,9 +1,9 @@
 -- An account's answers are of the kinds that operations have.
-use Rattle.std.proofs.Common.{◌≡◌, ℕ, ◌≤◌, Bool, true, false, Option, Some, None, List, refl, arith, zero, suc}
+use Rattle.std.proofs.Common.{◌≡◌, ℕ, ◌≤◌, Bool, true, false, Option, Some, None, List, refl, arith}
 use Rattle.std.specs.Prelude.{◌==◌, ◌||◌, ◌+◌, ◌-◌, if◌then◌else◌, min, nat_le, nat_lt}
 use Rattle.std.proofs.lemmas.Bool.Decides.{nat_tests}
+use Rattle.price_core.proofs.AffordLemmas.{units_covered_within}
 use Rattle.price_core.specs.Afford.{units_covered}
-use Rattle.price_core.specs.Ceiling.{ceiling_of}
 use Rattle.price_core.specs.Rates.{Rates}
 use Rattle.price_core.specs.Times.{Elapsed}
 use Rattle.price_core.specs.declared.times.TimeInfo.{TimeInfo}
@@ -16,22 +16,12 @@ use Rattle.account_core.specs.Known.{CallFacts, known, plan_in_force, taken_of}
 use Rattle.account_core.specs.declared.entry.Reply.TheVariants as reply
 use Rattle.shared_account.specs.Kinds.{IsReplyTo}
 
-covered_if : (enough : Bool) (n less : ℕ) → less ≤ n → (if enough then suc n else less) ≤ suc n
-covered_if true n less within = omega arith
-covered_if false n less within = omega (arith, within)
-
-covered_within : (plan : Rates) (old : Elapsed) (money n : ℕ) → units_covered plan old money n ≤ n
-unfolding units_covered
-covered_within plan old money zero = omega arith
-covered_within plan old money (suc n) =
-    covered_if (nat_le (ceiling_of plan old (suc n)) money) n (units_covered plan old money n) (covered_within plan old money n)
-
 offered_within : (credit : ℕ) (call : CallFacts) (plan : Rates) (wanted : ℕ) → units_offered credit call plan wanted ≤ wanted
 unfolding units_offered
 offered_within credit call plan wanted =
     let most = min wanted (864000 - (call.times.before + call.times.after)) in
     let within : units_covered (plan_in_force call plan) call.times (credit + taken_of call) most ≤ most =
-    covered_within (plan_in_force call plan) call.times (credit + taken_of call) most in
+    units_covered_within (plan_in_force call plan) call.times (credit + taken_of call) most in
     omega (arith, within)
 
 fits_credit : (within : Bool) (credit amount : ℕ) (moment : Option ℕ) → IsReplyTo (Credits amount moment) (showing credit (if within then reply.Credited 0 else reply.CreditOver 0))

@@ -1,9 +1,10 @@
 -- Histories that begin others.
 use Rattle.std.proofs.Common.{◌≡◌, ◌≢◌, ◌≤◌, ◌+◌, ℕ, Bool, true, false, List, [], ◌∷◌, ◌++◌, length, append-nil, append_assoc, length-append, refl, sym, ap, ◌∙◌, arith, subst, eq-eqb, ne_eqb, Option}
 use Rattle.std.specs.Prelude.{◌==◌, if◌then◌else◌, reverse}
-use Rattle.std.proofs.lemmas.List.{reverse-append}
+use Rattle.std.proofs.lemmas.List.{reverse-append, nil_from_length}
 use Rattle.account_core.specs.Answers.{IsLegal, IsLegalPast}
 use Rattle.std.proofs.lemmas.List.Elements.{filter-append}
+use Rattle.account_core.proofs.LawLemmas.{prefix_legal}
 use Rattle.account_core.specs.Entries.{EntryData}
 use Rattle.shared_account.specs.Own.{own}
 use Rattle.shared_account.specs.Prefixes.{IsPrefix}
@@ -39,15 +40,11 @@ both_begin (entry ∷ first) (other ∷ second) more further same within =
 pub shorter_begins : (first second third : List EntryData) → IsPrefix first third → IsPrefix second third → length first ≤ length second → IsPrefix first second
 shorter_begins first second third begins too within = both_begin first second begins.rest too.rest (sym begins.is ∙ too.is) within
 
-legal_past : (opening : ℕ) (until : Option ℕ) (later history : List EntryData) → IsLegalPast opening until (later ++ history) → IsLegalPast opening until history
-legal_past opening until [] history legal = legal
-legal_past opening until (entry ∷ later) history legal = legal_past opening until later history legal.0
-
 -- what begins a legal history is legal
 pub legal_begins : (opening : ℕ) (until : Option ℕ) (earlier later : List EntryData) → IsPrefix earlier later → IsLegal opening until later → IsLegal opening until earlier
 legal_begins opening until earlier later begins legal =
     let L : List EntryData → Type 0 = IsLegalPast opening until in
-    legal_past opening until (reverse begins.rest) (reverse earlier) (subst L (ap reverse begins.is ∙ reverse-append earlier begins.rest) legal)
+    prefix_legal opening until (reverse begins.rest) (reverse earlier) (subst L (ap reverse begins.is ∙ reverse-append earlier begins.rest) legal)
 
 -- ---- own entries
 
@@ -56,10 +53,6 @@ own_begins seat earlier later begins = record {
   rest = own seat begins.rest;
   is = ap (own seat) begins.is ∙ filter-append (λ entry. entry.seat == seat) earlier begins.rest;
 }
-
-pub nothing : (history : List EntryData) → length history ≡ 0 → history ≡ []
-nothing [] none = refl
-nothing (entry ∷ history) none = absurd (omega (arith, none))
 
 -- a history between two with the same own entries has those too
 pub own_between : (seat : ℕ) (first second third : List EntryData) → IsPrefix first second → IsPrefix second third → own seat first ≡ own seat third
@@ -70,7 +63,7 @@ own_between seat first second third begins goes_on same =
     let more : length (own seat second) ≡ length (own seat first) + length here.rest = ap length here.is ∙ length-append (own seat first) here.rest in
     let further : length (own seat third) ≡ length (own seat second) + length there.rest = ap length there.is ∙ length-append (own seat second) there.rest in
     let none : length here.rest ≡ 0 = omega (arith, more, further, ap length same) in
-    here.is ∙ (ap (λ (h : List EntryData). own seat first ++ h) (nothing here.rest none) ∙ append-nil (own seat first))
+    here.is ∙ (ap (λ (h : List EntryData). own seat first ++ h) (nil_from_length here.rest none) ∙ append-nil (own seat first))
 
 own_if : (here : Bool) (history : List EntryData) (entry : EntryData) → here ≡ false → history ++ (if here then entry ∷ [] else []) ≡ history
 own_if true history entry not_here = absurd (cc not_here)

@@ -3,12 +3,13 @@ use Rattle.std.proofs.Common.{◌≡◌, ℕ, Bool, true, false, List, [], ◌�
 use Rattle.std.specs.Prelude.{◌==◌, if◌then◌else◌, filter, reverse}
 use Rattle.std.proofs.lemmas.List.{reverse-append}
 use Rattle.std.proofs.lemmas.List.Elements.{filter-append}
+use Rattle.account_core.proofs.Moves.{known_apart}
 use Rattle.account_core.specs.Asked.{Asked, Credits, Reserves, Returns, Settles, call_of}
 use Rattle.account_core.specs.Entries.{EntryData}
 use Rattle.account_core.specs.Known.{deed, deed_of, is_open, known, known_after}
 use Rattle.account_core.specs.Places.{IsOwed}
 use Rattle.shared_account.specs.Own.{asks_of_call, of_call}
-use Rattle.shared_account.proofs.Knowing.{known_apart, known_resting}
+use Rattle.shared_account.proofs.Knowing.{known_resting}
 
 -- ---- reversed
 

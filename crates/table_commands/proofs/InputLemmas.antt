@@ -1,6 +1,6 @@
 -- An input of which one byte more than the most was asked for.
-use Rattle.std.proofs.Common.{◌≡◌, ℕ, Bool, true, false, ◌<◌, ◌≤◌, List, [], ◌++◌, length, min, take, Option, Some, None, ap, ◌∙◌, arith, length-take}
-use Rattle.std.specs.Prelude.{IfSome, Result, Ok, Err, option_map, if◌then◌else◌}
+use Rattle.std.proofs.Common.{◌≡◌, ℕ, Bool, true, false, ◌≤◌, List, [], ◌++◌, length, min, take, Option, Some, None, ap, ◌∙◌, arith, length-take}
+use Rattle.std.specs.Prelude.{IfSome, Result, Ok, option_map, if◌then◌else◌}
 use Rattle.std.specs.declared.io.ErrorKind.{ErrorKind}
 use Rattle.std.proofs.lemmas.Bool.Decides.{nat_tests}
 use Rattle.std.proofs.lemmas.List.{take_all}
@@ -9,15 +9,6 @@ use Rattle.table_commands.specs.Faults.{RefusesCommand, UnlessMayAlwaysCome}
 use Rattle.table_commands.specs.Input.{failed_input, is_out_of_memory, sized}
 use Rattle.table_commands.specs.declared.fault.Fault.{Fault}
 use Rattle.table_commands.specs.declared.fault.Fault.TheVariants as fault
-
--- what was read of an input that is known: all of it up to the limit
-pub too_long : (known : Option (List ℕ)) (bytes : List ℕ) → IfSome (option_map (take 16777217) known) (λ text. bytes ≡ [] ++ text)
-    → 16777216 < length bytes → IfSome known (λ text. sized text ≡ Err fault.TooLong)
-too_long None bytes read long = tt
-too_long (Some text) bytes read long =
-    let count : length bytes ≡ min 16777217 (length text) = ap length read ∙ length-take 16777217 text in
-    let more : 16777216 < length text = omega arith in
-    grind (arith, nat_tests)
 
 pub fits : (known : Option (List ℕ)) (bytes : List ℕ) → IfSome (option_map (take 16777217) known) (λ text. bytes ≡ [] ++ text)
     → length bytes ≤ 16777216 → IfSome known (λ text. sized text ≡ Ok bytes)

@@ -78,6 +78,3 @@ module _ (mark row at : ℕ) (text : List ℕ) (marks : IsMark mark text) where
 
   pub fewer_behind : HasFewerBehind (drop mark text) row → HasFewer text row
   fewer_behind few = λ some. rw rows_text (few some)
-
-pub sliced : (mark : ℕ) (text : List ℕ) → take (length text - mark) (drop mark text) ≡ drop mark text
-sliced mark text = take_all (length text - mark) (drop mark text) (omega (arith, length-drop mark text))

@@ -101,7 +101,7 @@ fn words_of(failed: Option<io::Error>) -> ArrayString<MOST_BYTES> {
 }
 
 /// Writes a text and another behind it, as far as the writer takes them.
-#[tactic(auto, using(crate::proofs::WriteLemmas::first_written))]
+#[tactic(auto, using(table_core::proofs::FrontLemmas::front_before))]
 pub fn write_both<E: io::Write>(faults: &mut E, first: &[u8], second: &[u8])
     ensures { AppendsFront (E.contents faults.old) (E.contents faults.new)
         (first.now ++ second.now) }

@@ -1,21 +1,16 @@
 -- One digit more of a decimal.
-use Rattle.std.proofs.Common.{◌≡◌, ℕ, ◌+◌, ◌*◌, ◌-◌, ◌^◌, ◌<◌, ◌≤◌, Bool, true, false, List, length, get_or, take, refl, sym, ap, ◌∙◌, add-one, arith}
+use Rattle.std.proofs.Common.{◌≡◌, ℕ, ◌+◌, ◌*◌, ◌-◌, ◌^◌, ◌<◌, ◌≤◌, true, List, length, get_or, take, sym, ap, ◌∙◌, add-one, arith}
 use Rattle.std.proofs.Math.Nat.{pow-le-pow_right, pow-suc}
 use Rattle.std.proofs.lemmas.Bool.Decides.{nat_tests}
 use Rattle.std.proofs.lemmas.Int.Digits.{digits_value_more}
 use Rattle.std.proofs.lemmas.List.Folds.{list_all_at, list_all_more}
 use Rattle.std.specs.Char.{digit_value, is_ascii_digit}
-use Rattle.std.specs.Prelude.{◌&&◌, Some, None, nat_le, if◌then◌else◌}
 use Rattle.std.specs.List.{list_all}
 use Rattle.std.specs.Str.Parse.{digits_value}
-use Rattle.table_core.specs.Decimals.{digits_of}
-
-true_by : (b : Bool) → (b ≡ false → ⊥) → b ≡ true
-true_by true h = refl
-true_by false h = absurd (h refl)
+use Rattle.std.proofs.lemmas.Bool.{true_from_ne_false}
 
 digit_at : (text : List ℕ) (i : ℕ) → i < length text → list_all is_ascii_digit text ≡ true → is_ascii_digit (get_or text i 0) ≡ true
-digit_at text i within all = true_by _ (λ no. let none = list_all_at is_ascii_digit text i 0 within no in cc)
+digit_at text i within all = true_from_ne_false _ (λ no. let none = list_all_at is_ascii_digit text i 0 within no in cc)
 
 digit_is : (c : ℕ) → is_ascii_digit c ≡ true → (digit_value c ≡ c - 48) × (c - 48 ≤ 9) × (48 ≤ c)
 digit_is c digit = grind (arith, nat_tests)
@@ -42,13 +37,3 @@ module _ (text : List ℕ) (i value : ℕ) (within : i < length text) where
   -- digits so far and one more are digits
   pub digits_more : list_all is_ascii_digit (take i text) ≡ true → is_ascii_digit (get_or text i 0) ≡ true → list_all is_ascii_digit (take (i + 1) text) ≡ true
   digits_more so_far is_digit = list_all_more is_ascii_digit text i 0 within ∙ (rw so_far is_digit)
-
-  -- a text with a byte that is no digit is no decimal
-  pub no_digits : is_ascii_digit (get_or text i 0) ≡ false → digits_of text ≡ None
-  unfolding digits_of
-  no_digits is_none = gone (nat_le 1 (length text)) (nat_le (length text) 20) (list_all is_ascii_digit text) (digits_value 10 text) (list_all_at is_ascii_digit text i 0 within is_none)
-    where
-      gone : (some few all : Bool) (number : ℕ) → all ≡ false → (if some && few && all then Some number else None) ≡ None
-      gone false few all number none = refl
-      gone true false all number none = refl
-      gone true true all number none = rw none refl

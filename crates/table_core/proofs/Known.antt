@@ -9,10 +9,6 @@ if_known (Some x) P holds = holds x refl
 pub at_known : {X : Type 0} (known : Option X) (P : X → Type 0) (x : X) → known ≡ Some x → IfSome known P → P x
 at_known known P x is holds = rw is at holds
 
-pub map_known : {X : Type 0} (known : Option X) (P Q : X → Type 0) → IfSome known P → ((x : X) → P x → Q x) → IfSome known Q
-map_known None P Q holds so = tt
-map_known (Some x) P Q holds so = so x holds
-
 pub both_known : {X : Type 0} (known : Option X) (P Q : X → Type 0) → IfSome known P → IfSome known Q → IfSome known (λ x. P x × Q x)
 both_known None P Q one other = tt
 both_known (Some x) P Q one other = (one, other)

@@ -10,6 +10,7 @@ use Rattle.std.proofs.lemmas.Bool.Decides.{nat_tests}
 use Rattle.std.proofs.lemmas.Fmt.{decimal_is_IsNumeral, length-decimal-le}
 use Rattle.std.proofs.lemmas.List.Elements.{All-head, All-tail}
 use Rattle.std.proofs.lemmas.Str.Parse.{digit_from_value}
+use Rattle.std.proofs.lemmas.Bool.{and_parts}
 use Rattle.csv.proofs.RoundTrip.{read-write-many}
 use Rattle.csv.specs.Machine.{next_record}
 use Rattle.csv.specs.Reading.{default_config, records_from}
@@ -24,16 +25,18 @@ use Rattle.table_core.specs.Rows.{Fields, rows_of}
 digit_tested : (c : ℕ) → IsInRange 48 57 c → is_ascii_digit c ≡ true
 digit_tested c range = grind (arith, nat_tests)
 
-digit_bare : (c : ℕ) → IsInRange 48 57 c → needs_byte default_writer c ≡ false
-digit_bare c range = grind (arith, nat_tests)
+digit_bare : (c : ℕ) → is_ascii_digit c ≡ true → needs_byte default_writer c ≡ false
+digit_bare c digit = grind (arith, nat_tests)
 
 digits_tested : (text : List ℕ) → AllDigits 10 text → list_all is_ascii_digit text ≡ true
 digits_tested [] digits = refl
 digits_tested (c ∷ text) digits = rw (digit_tested c (digit_from_value c digits.0), digits_tested text digits.1) refl
 
-digits_bare : (text : List ℕ) → AllDigits 10 text → IsPlain text
-digits_bare [] digits = refl
-digits_bare (c ∷ text) digits = rw (digit_bare c (digit_from_value c digits.0), digits_bare text digits.1) refl
+pub digits_plain : (text : List ℕ) → list_all is_ascii_digit text ≡ true → IsPlain text
+digits_plain [] digits = refl
+digits_plain (c ∷ text) digits =
+    let (first, others) = and_parts (is_ascii_digit c) (list_all is_ascii_digit text) digits in
+    rw (digit_bare c first, digits_plain text others) refl
 
 le_tested : (a b : ℕ) → a ≤ b → nat_le a b ≡ true
 le_tested a b le = grind (arith, nat_tests)
@@ -47,7 +50,7 @@ decimals_read most number small within =
     rw (some, few, digits_tested (decimal number) numeral.1, value, le_tested number most within) refl
 
 pub decimals_plain : DecimalsArePlain
-decimals_plain number small = digits_bare (decimal number) (decimal_is_IsNumeral number small).0.1
+decimals_plain number small = digits_plain (decimal number) (digits_tested (decimal number) (decimal_is_IsNumeral number small).0.1)
 
 -- ---- rows
 

@@ -3,8 +3,8 @@ use Rattle.std.proofs.Common.{◌≡◌, ℕ, ◌+◌, ◌<◌, ◌≤◌, Bool,
 use Rattle.std.specs.Result.{result_err}
 use Rattle.std.specs.Prelude.{IfSome, IsErrAnd, ⊤, ok_or}
 use Rattle.std.proofs.lemmas.Bool.Decides.{nat_tests}
+use Rattle.std.proofs.lemmas.Option.{IfSome_then}
 use Rattle.csv.specs.Records.{fields_of}
-use Rattle.table_core.proofs.Known.{map_known}
 use Rattle.table_core.specs.Faults.{RefusesTable}
 use Rattle.table_core.specs.Reading.{HasRows, IsAtFirst, IsNextRow, Opens, StepsRow, StepsBy, first_header}
 use Rattle.table_core.specs.Rows.{Fields, HasRowsLeft, rows_of}
@@ -86,7 +86,7 @@ module _ {R S K F : Type 0} (form : TableForm S K F) (remaining : R → Option (
     unfolding table_of
     opened table first opens = record {
       most_rows = first.most_rows;
-      so_far = map_known known _ _ opens (λ text (header, left, rows_are, which, width, has). record {
+      so_far = IfSome_then known opens (λ text (header, left, rows_are, which, width, has). record {
         left = left;
         has = has;
         is = rw (rows_are, which, width, first.number) refl;
@@ -104,7 +104,7 @@ module _ {R S K F : Type 0} (form : TableForm S K F) (remaining : R → Option (
     not_opened_by fault.OutOfMemory rows opens = tt
 
     pub not_opened : (why : TableFault) → IfSome known (λ text. Opens remaining form.headers (Err why) (rows_of text)) → IfSome known (λ text. Stops form why (table_of form (rows_of text)))
-    not_opened why opens = map_known known _ _ opens (λ text. not_opened_by why (rows_of text))
+    not_opened why opens = IfSome_then known opens (λ text. not_opened_by why (rows_of text))
 
     module _ (before after : Table R) (read : S) (was : IsRead known before read) where
       by_rows : {left rows : List Fields} → left ≡ rows
@@ -128,20 +128,20 @@ module _ {R S K F : Type 0} (form : TableForm S K F) (remaining : R → Option (
       pub taken : (now : S) → IsNextRow before after → StepsRow remaining before after (Ok true) → form.judge before.header read (fields_of after.rows.row) ≡ Ok now → IsRead known after now
       taken now next steps is = record {
         most_rows = next.same.most_rows ∙ was.most_rows;
-        so_far = map_known known _ _ was.so_far (λ text so_far.
+        so_far = IfSome_then known was.so_far (λ text so_far.
             let (rest, left_are, has) = steps so_far.left so_far.has in
             record { left = rest; has = has; is = so_far.is ∙ by_rows left_are ∙ row_judged _ rest (Ok now) next refl is });
       }
 
       pub refused : (why : K) → IsNextRow before after → StepsRow remaining before after (Ok true) → form.judge before.header read (fields_of after.rows.row) ≡ Err why
           → IfSome known (λ text. table_of form (rows_of text) ≡ Err (form.fault_at after.number why))
-      refused why next steps is = map_known known _ _ was.so_far (λ text so_far.
+      refused why next steps is = IfSome_then known was.so_far (λ text so_far.
           let (rest, left_are, has) = steps so_far.left so_far.has in
           so_far.is ∙ by_rows left_are ∙ row_judged _ rest (Err why) next refl is)
 
       pub ended : StepsRow remaining before after (Ok false) → IfSome known (λ text. table_of form (rows_of text) ≡ Ok read)
       unfolding rows_from
-      ended steps = map_known known _ _ was.so_far (λ text so_far. so_far.is ∙ by_rows (steps so_far.left so_far.has))
+      ended steps = IfSome_then known was.so_far (λ text so_far. so_far.is ∙ by_rows (steps so_far.left so_far.has))
 
       own : (why : RowKind) (fields : Fields) (rest : List Fields) → own_fault before.most_rows before.width (before.number + 1) fields ≡ Some why
           → rows_from form before.header before.width (before.number + 1) read (fields ∷ rest) ≡ Err (form.fault_at (before.number + 1) (form.kind_of why))
@@ -154,7 +154,7 @@ module _ {R S K F : Type 0} (form : TableForm S K F) (remaining : R → Option (
       stopped_by fault.OutOfMemory text so_far is = tt
 
       pub stopped : (why : TableFault) → StepsRow remaining before after (Err why) → IfSome known (λ text. Stops form why (table_of form (rows_of text)))
-      stopped why steps = map_known known _ _ was.so_far (λ text so_far. stopped_by why text so_far (steps so_far.left so_far.has))
+      stopped why steps = IfSome_then known was.so_far (λ text so_far. stopped_by why text so_far (steps so_far.left so_far.has))
 
 -- ---- what each row keeps, the whole table has
 

@@ -2,6 +2,7 @@
 use Rattle.std.proofs.Common.{◌≡◌, ◌+◌, ◌++◌, ◌∷◌, ◌∙◌, [], ℕ, true, false, List, ap, append-nil, arith, length, length-append, Option, Some, None, Result, Ok, Err, refl, sym}
 use Rattle.std.proofs.lemmas.List.{append_assoc}
 use Rattle.std.specs.Prelude.{IfSome, IsErrAnd}
+use Rattle.std.proofs.lemmas.Option.{IfSome_then}
 use Rattle.csv.specs.Records.{fields_of}
 use Rattle.table_core.specs.Faults.{GivesTable, RefusesTable}
 use Rattle.table_core.specs.Rows.{Fields, rows_below_header, rows_of}
@@ -12,7 +13,7 @@ use Rattle.table_core.specs.declared.fault.RowFault.{RowFault}
 use Rattle.table_core.specs.declared.fault.RowKind.{RowKind}
 use Rattle.table_core.specs.declared.fault.TableFault.{TableFault}
 use Rattle.table_core.specs.declared.fault.TableFault.TheVariants as fault
-use Rattle.table_core.proofs.Known.{both_known, map_known}
+use Rattle.table_core.proofs.Known.{both_known}
 use Rattle.table_core.specs.declared.table.Table.{Table}
 use Rattle.table_core.proofs.TableLemmas.{IsRead, Stops, ended, not_opened, opened, refused, refuses, stopped, taken}
 
@@ -53,7 +54,7 @@ module _ {R T S : Type 0} (headers : List Fields) (most : ℕ) (judge : T → �
   pub none_made : (Has : T → List Fields → S → Type 0) (table : Table R) → IsAtFirst headers most table → IfSome known (λ text. Opens remaining headers (Ok table) (rows_of text))
       → ((terms : T) (start : S) → Had terms start → Has terms [] start) → IsMade headers most judge remaining known Had Has table
   none_made Has table first opens has = λ terms start had.
-      let above = map_known known _ _ opens (λ text (header, left, rows_are, which, width, is). record { left = left; has = is; are = ap rows_below_header rows_are }) in
+      let above = IfSome_then known opens (λ text (header, left, rows_are, which, width, is). record { left = left; has = is; are = ap rows_below_header rows_are }) in
       (start, opened (form_by headers most judge terms start) remaining known table first opens, [], above, has terms start had, rw first.number refl)
 
   pub one_made : (Has HasNow : T → List Fields → S → Type 0) (table after : Table R) → IsMade headers most judge remaining known Had Has table → IsNextRow table after → StepsRow remaining table after (Ok true)
@@ -67,7 +68,7 @@ module _ {R T S : Type 0} (headers : List Fields) (most : ℕ) (judge : T → �
         now,
         taken (form_by headers most judge terms start) remaining known table after made read now next steps is,
         rows ++ fields ∷ [],
-        map_known known _ _ above (λ text were.
+        IfSome_then known above (λ text were.
             let (rest, left_are, left_has) = steps were.left were.has in
             record { left = rest; has = left_has; are = were.are ∙ ap (λ left. rows ++ left) left_are ∙ sym (append_assoc rows (fields ∷ []) rest) }),
         has_now,
@@ -89,7 +90,7 @@ module _ {R T S : Type 0} (headers : List Fields) (most : ℕ) (judge : T → �
     stops_by : {X : Type 0} (answer : Result X TableFault) (why : TableFault) → IsErrAnd answer (λ met. met ≡ why)
         → ((terms : T) (start : S) → Had terms start → IfSome known (λ text. Stops (form_by headers most judge terms start) why (table_of (form_by headers most judge terms start) (rows_of text)))) → IsTaken headers most judge known Had Has answer
     stops_by (Ok done) why met stops = absurd met
-    stops_by (Err other) why met stops = each_known Had _ known (λ terms start had. map_known known _ _ (stops terms start had)
+    stops_by (Err other) why met stops = each_known Had _ known (λ terms start had. IfSome_then known (stops terms start had)
         (λ text is. rw met (refuses (form_by headers most judge terms start) (λ row kind. refl) (λ all. all) (λ kind. refl) why _ is)))
 
     pub none_opened : {X : Type 0} (answer : Result X TableFault) (why : TableFault) → IsErrAnd answer (λ met. met ≡ why) → IfSome known (λ text. Opens remaining headers (Err why) (rows_of text))
@@ -107,7 +108,7 @@ module _ {R T S : Type 0} (headers : List Fields) (most : ℕ) (judge : T → �
       → IsTaken headers most judge known Had Has (Ok done)
   all_taken Has table after are done steps = each_known Had _ known (λ terms start had.
       let (made, read, rows, above, has, count) = are terms start had in
-      map_known known _ _ (both_known known _ _ (ended (form_by headers most judge terms start) remaining known table after made read steps) above) (λ text (is, were).
+      IfSome_then known (both_known known _ _ (ended (form_by headers most judge terms start) remaining known table after made read steps) above) (λ text (is, were).
       let all : rows_below_header (rows_of text) ≡ rows = were.are ∙ ap (λ left. rows ++ left) (steps were.left were.has) ∙ append-nil rows in
       (made, is, rw all has)))
 
@@ -119,7 +120,7 @@ module _ {X Y T S : Type 0} (known : Option (List ℕ)) (Had : T → S → Type 
   pub taken_gives : (x : X) (Has : List ℕ → T → S → Type 0) → ((text : List ℕ) (made : S) → Has text terms made → next (Ok made) ≡ Ok (view x))
       → IfSome known (λ text. (terms : T) (start : S) → Had terms start → (made : S) × (meaning terms start text ≡ Ok made) × Has text terms made)
       → IfSome known (λ text. GivesTable view (Ok x) (next (meaning terms start text)))
-  taken_gives x Has gives taken = map_known known _ _ taken (λ text all. let (made, is, has) = all terms start had in rw is (gives text made has))
+  taken_gives x Has gives taken = IfSome_then known taken (λ text all. let (made, is, has) = all terms start had in rw is (gives text made has))
 
   module _ (passes : (why : RowFault) → next (Err why) ≡ Err why) where
     refused_by : (why : TableFault) (was : Result S RowFault) → RefusesTable why was → RefusesTable why (next was)
@@ -132,4 +133,4 @@ module _ {X Y T S : Type 0} (known : Option (List ℕ)) (Had : T → S → Type 
         → IfSome known (λ text. (terms : T) (start : S) → Had terms start → RefusesTable why (meaning terms start text))
         → IfSome known (λ text. GivesTable view answer (next (meaning terms start text)))
     refused_gives (Ok x) why met refused = absurd met
-    refused_gives (Err other) why met refused = map_known known _ _ refused (λ text all. rw met (refused_by why (meaning terms start text) (all terms start had)))
+    refused_gives (Err other) why met refused = IfSome_then known refused (λ text all. rw met (refused_by why (meaning terms start text) (all terms start had)))

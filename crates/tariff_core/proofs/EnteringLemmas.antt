@@ -5,6 +5,7 @@ use Rattle.std.specs.BTreeMap.{BTreeMap, Updates, get}
 use Rattle.std.specs.Ordering.{is_eq}
 use Rattle.std.specs.Str.{bytes_eq}
 use Rattle.std.proofs.lemmas.Bool.Decides.{nat_tests}
+use Rattle.std.proofs.lemmas.Bool.{and_right, and_from}
 use Rattle.tariff_core.specs.Bands.{counts_on, is_at}
 use Rattle.tariff_core.specs.Digits.{text_of_digits}
 use Rattle.tariff_core.specs.BandKeys.{by_band_key}
@@ -35,13 +36,6 @@ one_day first day on low is = grind (arith, nat_tests, low, is)
 no_more : (day on : ℕ) → (day == on) ≡ false → nat_lt on (day + 1) ≡ nat_lt on day
 no_more day on is = grind (arith, nat_tests, is)
 
-both : {a b : Bool} → a ≡ true → b ≡ true → (a && b) ≡ true
-both one two = rw (one, two) refl
-
-never : (a b : Bool) → b ≡ false → (a && b) ≡ false
-never true b is = is
-never false b is = refl
-
 -- a key that isn't the row's on a day is found behind it as it was before
 still : (first day : ℕ) (row : Row) (band_key : BandKey) → ((day == band_key.day) ≡ true → is_at (text_of_digits band_key.prefix) band_key.day band_key.start (band_of row) ≡ false)
     → is_entered first (day + 1) row band_key ≡ is_entered first day row band_key
@@ -49,8 +43,8 @@ still first day row band_key not_at = by_day (day == band_key.day) refl
   where
     by_day : (b : Bool) → (day == band_key.day) ≡ b → is_entered first (day + 1) row band_key ≡ is_entered first day row band_key
     by_day true is =
-        never (nat_le first band_key.day && nat_lt band_key.day (day + 1)) (is_at (text_of_digits band_key.prefix) band_key.day band_key.start (band_of row)) (not_at is)
-        ∙ sym (never (nat_le first band_key.day && nat_lt band_key.day day) (is_at (text_of_digits band_key.prefix) band_key.day band_key.start (band_of row)) (not_at is))
+        and_right (nat_le first band_key.day && nat_lt band_key.day (day + 1)) (is_at (text_of_digits band_key.prefix) band_key.day band_key.start (band_of row)) (not_at is)
+        ∙ sym (and_right (nat_le first band_key.day && nat_lt band_key.day day) (is_at (text_of_digits band_key.prefix) band_key.day band_key.start (band_of row)) (not_at is))
     by_day false is = ap (λ b. (nat_le first band_key.day && b) && is_at (text_of_digits band_key.prefix) band_key.day band_key.start (band_of row)) (no_more day band_key.day is)
 
 not_same : (bytes day start counts : Bool) → (bytes && (day && start)) ≡ false → day ≡ true → ((bytes && start) && counts) ≡ false
@@ -69,7 +63,7 @@ entered_more first day row before now after low counts so_far updates band_key =
     by_same true is =
         let same = same_digits (band_key_at row.prefix day row.start) band_key is in
         let at : is_at (text_of_digits band_key.prefix) band_key.day band_key.start (band_of row) ≡ true = rw (← same.0, ← same.1, ← same.2) (own_band_key (band_of row) day counts) in
-        let there : is_entered first (day + 1) row band_key ≡ true = both (one_day first day band_key.day low same.1) at in
+        let there : is_entered first (day + 1) row band_key ≡ true = and_from _ _ (one_day first day band_key.day low same.1) at in
         rw there refl
     by_same false is =
         let other = sym (same_band_key (band_key_at row.prefix day row.start) band_key) ∙ is in
@@ -82,7 +76,7 @@ pub entered_not : (first day : ℕ) (row : Row) (before now : BTreeMap BandKey R
     → Entered first (day + 1) before row now
 entered_not first day row before now counts so_far band_key =
     so_far band_key ∙ ap (λ b. if b then Some row else get by_band_key before band_key) (sym (still first day row band_key (λ on.
-    never (bytes_eq (text_of_digits row.prefix) (text_of_digits band_key.prefix) && (row.start == band_key.start)) (counts_on band_key.day (band_of row))
+    and_right (bytes_eq (text_of_digits row.prefix) (text_of_digits band_key.prefix) && (row.start == band_key.start)) (counts_on band_key.day (band_of row))
     (ap (λ d. counts_on d (band_of row)) (sym (same_number_is day band_key.day on)) ∙ counts))))
 
 within : (first day on : ℕ) → first ≤ on → on < day → (nat_le first on && nat_lt on day) ≡ true

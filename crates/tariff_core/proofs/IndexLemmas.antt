@@ -20,7 +20,7 @@ use Rattle.tariff_core.specs.Tariff.{Finds, Indexes, KeepsRow, band_of, key_of}
 use Rattle.tariff_core.specs.TariffTable.{repeats}
 use Rattle.tariff_core.specs.declared.band_key.BandKey.{BandKey}
 use Rattle.tariff_core.specs.declared.row.Row.{Row}
-use Rattle.tariff_core.proofs.WeekdayLemmas.{no_weekday}
+use Rattle.tariff_core.proofs.WeekdayLemmas.{no_weekday, three}
 
 -- ---- the order of keys
 
@@ -130,11 +130,6 @@ taken found b none = rw none refl
 passed : (found : Option Band) → found ≡ (if is_some found then found else None)
 passed None = refl
 passed (Some b) = refl
-
-three : (a b c : Bool) → ((a && b) && c) ≡ true → (a ≡ true) × (b ≡ true) × (c ≡ true)
-three true true c is = (refl, refl, is)
-three true false c is = cc
-three false b c is = cc
 
 pub same_bytes_is : (xs ys : List ℕ) → bytes_eq xs ys ≡ true → xs ≡ ys
 same_bytes_is xs ys is = exact_bytes xs ys (equal_is (slice_cmp nat_cmp xs ys) (is_eq-slice_cmp xs ys ∙ is))

@@ -1,7 +1,6 @@
 pub mod CalendarLemmas
 pub mod EnteringLemmas
 pub mod IndexLemmas
-pub mod Known
 pub mod MidnightLemmas
 pub mod PrefixLemmas
 pub mod Proper

@@ -3,14 +3,12 @@ use Rattle.std.proofs.Common.{◌≡◌, ℕ, ◌+◌, ◌-◌, ◌/◌, ◌%◌
 use Rattle.std.proofs.Math.Seq.{take-append_seam}
 use Rattle.std.proofs.lemmas.List.{take-append-drop}
 use Rattle.std.specs.Prelude.{is_some, All, Contains, IfNone, IsSome}
-use Rattle.std.proofs.lemmas.Bool.{cases_lt}
+use Rattle.std.proofs.lemmas.Bool.{cases_lt, true_from_ne_false}
 use Rattle.std.proofs.lemmas.List.Elements.{All-contains, Contains-get_or}
 use Rattle.std.proofs.lemmas.List.Folds.{list_all_at}
 use Rattle.tariff_core.specs.Bands.{Band, band_at, counts_on, has_band, has_midnights, weekday}
-use Rattle.tariff_core.specs.Digits.{text_of_digits}
 use Rattle.tariff_core.specs.Routes.{BeginsWith, HasNoRoute, IsPrefixFor}
 use Rattle.tariff_core.specs.Tariff.{AreNoLonger, is_complete, key_of}
-use Rattle.tariff_core.specs.declared.digits.Digits.{Digits}
 use Rattle.tariff_core.specs.declared.row.Row.{Row}
 use Rattle.price_core.specs.declared.times.TheConstants.{DAY}
 use Rattle.tariff_core.proofs.IndexLemmas.{IsKey}
@@ -49,10 +47,6 @@ some_latest bands prefix now None has none =
     let later : now % DAY < band.start = All-contains (λ b. b.prefix ≡ prefix → counts_on (weekday now) b ≡ true → now % DAY < b.start) bands band none is.listed is.own is.counts in
     absurd (omega (arith, is.starts))
 
--- a prefix of the code is short
-pub short_digits : (prefix : Digits) → length (text_of_digits prefix) ≤ 15
-short_digits prefix = let short = prefix.short in omega (arith, length-take prefix.len prefix.bytes)
-
 -- ---- prefixes of a called number
 
 begins_take : (called prefix : List ℕ) → BeginsWith called prefix → take (length prefix) called ≡ prefix
@@ -70,13 +64,9 @@ none_longer_first bands called longest most no_longer is k d below begins =
     let fits = begins_fits called _ begins in
     let short = no_longer k d below in omega (arith, fits, short)
 
-true_by : (b : Bool) → (b ≡ false → ⊥) → b ≡ true
-true_by true h = refl
-true_by false h = absurd (h refl)
-
 complete_at : (bands : List Band) (band : Band) → is_complete bands ≡ true → Contains bands band → has_midnights band.prefix bands ≡ true
 complete_at bands band complete (k, below, is) =
-    true_by (has_midnights band.prefix bands) (λ no.
+    true_from_ne_false (has_midnights band.prefix bands) (λ no.
     let none = list_all_at (λ b. has_midnights b.prefix bands) bands k band below (rw is no) in
     let both : true ≡ false = sym complete ∙ none in cc)
 

@@ -11,7 +11,7 @@ use Rattle.table_core.specs.declared.fault.TableFault.TheVariants as fault
 use Rattle.table_core.specs.Reading.{header_of, row_number_of, row_width}
 use Rattle.table_core.specs.declared.table.Table.{Table}
 use Rattle.table_core.proofs.TableLemmas.{IsRead, Stops}
-use Rattle.tariff_core.proofs.Known.{at_known}
+use Rattle.table_core.proofs.Known.{at_known}
 use Rattle.tariff_core.specs.Bands.{Band, have_steps}
 use Rattle.price_core.specs.Rates.{are_steps}
 use Rattle.tariff_core.specs.Tariff.{band_of}

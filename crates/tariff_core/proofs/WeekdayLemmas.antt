@@ -101,16 +101,16 @@ pub rise_stops : (last digit : ℕ) (rest : List ℕ) → (digit ≤ last) ⊎ (
 unfolding rise_from
 rise_stops last digit rest past = stops last digit (rise_from digit rest) past
 
+pub three : (a b c : Bool) → (a && b && c) ≡ true → (a ≡ true) × (b ≡ true) × (c ≡ true)
+three true true c is = (refl, refl, is)
+three true false c is = cc
+three false b c is = cc
+
 rising_parts : (last digit : ℕ) (more : Bool) → (nat_lt last digit && nat_le digit 55 && more) ≡ true → (last < digit) × (digit ≤ 55) × (more ≡ true)
 rising_parts last digit more is =
     let parts = three (nat_lt last digit) (nat_le digit 55) more is in
     (below last digit parts.0, within digit parts.1, parts.2)
   where
-    three : (a b c : Bool) → (a && b && c) ≡ true → (a ≡ true) × (b ≡ true) × (c ≡ true)
-    three true true c is = (refl, refl, is)
-    three true false c is = cc
-    three false b c is = cc
-
     below : (s t : ℕ) → nat_lt s t ≡ true → s < t
     below s t is = grind (arith, nat_tests)
 

@@ -1,14 +1,14 @@
 -- Seats that have ended, in an account that is closed.
 use Rattle.std.proofs.Common.{◌≡◌, ◌<◌, ◌+◌, ℕ, true, List, [], ◌∷◌, ◌++◌, length, map, refl, sym, ap, ◌∙◌, arith, subst, zero, suc}
 use Rattle.std.specs.Prelude.{◌==◌, All, slice_index_or}
-use Rattle.std.proofs.lemmas.Bool.{and_from, eqb-true}
+use Rattle.std.proofs.lemmas.Bool.{and_from, eqb-true, and_parts}
 use Rattle.std.proofs.lemmas.List.{get_or-map, length-map}
 use Rattle.account_core.specs.Ledger.{Ledger}
 use Rattle.turn_account.specs.Ended.{HasEnded, HaveEnded}
 use Rattle.shared_account.specs.Own.{IsMerged, own}
 use Rattle.shared_account.specs.Seats.{are_all, are_numbered}
 use Rattle.turn_account.specs.TurnViews.{TurnSeatView, own_of}
-use Rattle.shared_account.proofs.Numbering.{first_by, numbered_at}
+use Rattle.shared_account.proofs.Numbering.{numbered_at}
 
 -- the seat at a place among those that have ended
 pub ended_at : (account : Ledger) (first : ℕ) (lasts : List Ledger) (k : ℕ) (d : Ledger) → HaveEnded account first lasts → k < length lasts
@@ -24,16 +24,16 @@ numbered_first : {T : Type 0} (number : T → ℕ) (first : ℕ) (seats : List T
     → are_numbered first (map number seats) ≡ true
 numbered_first number first [] last are = refl
 numbered_first number first (seat ∷ seats) last are =
-    let parts = first_by (number seat == first) (are_numbered (first + 1) (map number (seats ++ last ∷ []))) are in
+    let parts = and_parts (number seat == first) (are_numbered (first + 1) (map number (seats ++ last ∷ []))) are in
     and_from (number seat == first) (are_numbered (first + 1) (map number seats)) parts.0 (numbered_first number (first + 1) seats last parts.1)
 
 numbered_next : {T : Type 0} (number : T → ℕ) (first : ℕ) (seats : List T) (last : T) → are_numbered first (map number (seats ++ last ∷ [])) ≡ true
     → number last ≡ first + length seats
 numbered_next number first [] last are =
-    let here : number last ≡ first = eqb-true (number last) first (first_by (number last == first) true are).0 in
+    let here : number last ≡ first = eqb-true (number last) first (and_parts (number last == first) true are).0 in
     omega (arith, here)
 numbered_next number first (seat ∷ seats) last are =
-    let parts = first_by (number seat == first) (are_numbered (first + 1) (map number (seats ++ last ∷ []))) are in
+    let parts = and_parts (number seat == first) (are_numbered (first + 1) (map number (seats ++ last ∷ []))) are in
     let rest : number last ≡ first + 1 + length seats = numbered_next number (first + 1) seats last parts.1 in
     omega (arith, rest)
 
@@ -76,10 +76,10 @@ each_closed P account each first (seat ∷ seats) have (suc k) d within = each_c
 pub numbered_on : {T : Type 0} (number : T → ℕ) (first : ℕ) (seats rest : List T) (seat : T) → seats ≡ seat ∷ rest → are_numbered first (map number seats) ≡ true
     → (number seat ≡ first) × (are_numbered (first + 1) (map number rest) ≡ true)
 numbered_on number first seats rest seat is are =
-    let parts = first_by (number seat == first) (are_numbered (first + 1) (map number rest)) (rw is at are) in
+    let parts = and_parts (number seat == first) (are_numbered (first + 1) (map number rest)) (rw is at are) in
     (eqb-true (number seat) first parts.0, parts.1)
 
 -- all seats of an account are as many as it has
 pub as_many : {T : Type 0} (number : T → ℕ) (count : ℕ) (seats : List T) → are_all count (map number seats) ≡ true → length seats ≡ count
 as_many number count seats are =
-    sym (length-map seats number) ∙ eqb-true (length (map number seats)) count (first_by (length (map number seats) == count) (are_numbered 0 (map number seats)) are).0
+    sym (length-map seats number) ∙ eqb-true (length (map number seats)) count (and_parts (length (map number seats) == count) (are_numbered 0 (map number seats)) are).0

@@ -1,6 +1,7 @@
 -- The seats of a turn account, from its opening to its close.
 use Rattle.std.specs.Prelude.{◌≢◌}
 use Rattle.std.proofs.Common.{◌≡◌, ◌≤◌, ◌<◌, ◌+◌, ◌^◌, ℕ, Option, Some, None, List, [], ◌∷◌, ◌++◌, length, set, sym, ap, ◌∙◌, arith, subst, refl, ⊎_elim, length-append}
+use Rattle.std.proofs.lemmas.List.{nil_from_length}
 use mathlib.Core.Logic.{dite}
 use mathlib.Core.Option.{some, some-injective, some-ne-none}
 use native.Mathlib.Decide.{ℕ_discrete}
@@ -17,7 +18,7 @@ use Rattle.turn_account.specs.Views.{IsSeat, first_view, next_seat, one_seat_mor
 use Rattle.turn_account.specs.declared.board.Stage.TheVariants.{Idles, Serves}
 use Rattle.turn_account.specs.declared.board.Start.{Start}
 use Rattle.turn_account.specs.declared.board.View.{View}
-use Rattle.shared_account.proofs.Beginnings.{begins_any, begins_within, nothing, own_begins}
+use Rattle.shared_account.proofs.Beginnings.{begins_any, begins_within, own_begins}
 use Rattle.turn_account.proofs.Ended.{all_below, one_ended}
 use Rattle.turn_account.proofs.Rosters.{apart_alike, apart_end, apart_set, knows_again, lies_end, lies_set, note_apart, total_end, total_kept, total_set, views_grow, views_stay}
 use Rattle.turn_account.proofs.Keeping.{Table}
@@ -53,7 +54,7 @@ module _ (start : Start) where
 
   own_none : (seat : ℕ) (earlier later : List EntryData) → IsPrefix earlier later → own seat later ≡ [] → own seat earlier ≡ []
   own_none seat earlier later begins without =
-      nothing (own seat earlier) (omega (arith, begins_within (own seat earlier) (own seat later) (own_begins seat earlier later begins), ap length without))
+      nil_from_length (own seat earlier) (omega (arith, begins_within (own seat earlier) (own seat later) (own_begins seat earlier later begins), ap length without))
 
   pub numbers : (id : ℕ) (v : View) → v.stage ≡ Idles → v.number ≡ 0 → v.made < start.seats → Splits (Kept start) id v (one_seat_more v) (next_seat v)
   numbers id v idle is_first few s kept there =

@@ -1,17 +1,17 @@
 use Rattle.std.proofs.Common.{inl, refl}
 use Rattle.std.proofs.lemmas.Result.{IfOk-from_err}
 use Rattle.std.specs.Io.Buffered.{reader_remaining}
+use Rattle.std.proofs.KnownBytes.{Keeps-refl}
 use Rattle.run_texts.specs.FirstSections.{first_section}
 use Rattle.run_texts.specs.Inputs.{tariff_in}
 use Rattle.table_core.proofs.Known.{at_known, if_known}
 use Rattle.rating.specs.SaidOf.{wished_names}
 use Rattle.rating.specs.Texts.{rate_input_of}
-use Rattle.table_core.proofs.FrontLemmas.{still_held}
 use Rattle.rating.proofs.RateLemmas.{ends_silent, refused_ends}
 use Rattle.rating.proofs.rating.rate.Goals as goal
 
 pub returns-in_default-clause-ends : goal.returns-in_default-clause-ends
-returns-in_default-clause-ends g c = if_known (g.I.Read.remaining c.args.input) _ (λ text known. inl (still_held (g.O.Write.contents c.args.output.now)))
+returns-in_default-clause-ends g c = if_known (g.I.Read.remaining c.args.input) _ (λ text known. inl (Keeps-refl (g.O.Write.contents c.args.output.now)))
 
 pub returns-in_err-text-clause-ends : goal.returns-in_err-text-clause-ends
 returns-in_err-text-clause-ends g c = if_known (g.I.Read.remaining c.args.input) _ (λ text known.

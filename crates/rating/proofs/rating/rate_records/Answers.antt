@@ -1,6 +1,7 @@
 use Rattle.std.proofs.Common.{◌≡◌, ◌≤◌, ◌<◌, ◌∙◌, ℕ, List, Option, Some, inl, length, ap, sym, refl, arith}
 use Rattle.std.proofs.lemmas.Result.{IfOk-from_err}
 use Rattle.std.specs.Prelude.{option_map}
+use Rattle.std.proofs.KnownBytes.{Keeps-refl}
 use Rattle.csv.specs.Records.{fields_of}
 use Rattle.table_core.specs.Rows.{rows_of}
 use Rattle.table_core.proofs.Known.{at_known, if_known}
@@ -8,7 +9,6 @@ use Rattle.rating.specs.Cuts.{cut_start, passed_text, cut_cursor, reader_of}
 use Rattle.rating.specs.SaidOf.{wished_names}
 use Rattle.rating.specs.Texts.{headed}
 use Rattle.rating.specs.declared.call.TheConstants.{MAX_SHOWN}
-use Rattle.table_core.proofs.FrontLemmas.{still_held}
 use Rattle.rating.proofs.StopLemmas.{stopped_silent}
 use Rattle.rating.proofs.RateLemmas.{ends_same, ends_silent, long_header, no_columns, no_header, opened, over_printed, rows_may, stopped_ends, within_printed}
 use Rattle.rating.proofs.rating.rate_records.Goals as goal
@@ -43,7 +43,7 @@ returns-then-not-branch-clause-ends g c = if_known (g.I.Read.remaining c.args.re
     (passed_known passed_text g.I.Read.remaining _ _ _ _ text c.new.ensures.cursor c.new.ensures.reader known) c.new-rows.ensures in (
       no_header (wished_names c.args.ask.now.names) c.args.tariff.now text
           (rw c.if-not-branch.true at c.in_ok-next_row.ensures.takes (rows_of (cut_start MAX_SHOWN text)) has),
-      still_held (g.O.Write.contents c.args.output.now),
+      Keeps-refl (g.O.Write.contents c.args.output.now),
     ))
 
 pub returns-in_default-clause-ends : goal.returns-in_default-clause-ends
@@ -53,7 +53,7 @@ returns-in_default-clause-ends g c = if_known (g.I.Read.remaining c.args.records
       no_columns _ (wished_names c.args.ask.now.names) c.args.tariff.now text c.next_row.new.self
           (rw c.if-not-branch.false at c.in_ok-next_row.ensures.takes (rows_of (cut_start MAX_SHOWN text)) has)
           (rw c.row.ensures at (sym c.find.ensures ∙ c.in_default.is)),
-      still_held (g.O.Write.contents c.args.output.now),
+      Keeps-refl (g.O.Write.contents c.args.output.now),
     ))
 
 pub returns-then-len-gt-MAX_SHOWN-clause-ends : goal.returns-then-len-gt-MAX_SHOWN-clause-ends
@@ -64,7 +64,7 @@ returns-then-len-gt-MAX_SHOWN-clause-ends g c = if_known (g.I.Read.remaining c.a
       long_header _ (wished_names c.args.ask.now.names) c.args.tariff.now text c.next_row.new.self
           (rw c.if-not-branch.false at c.in_ok-next_row.ensures.takes (rows_of (cut_start MAX_SHOWN text)) has)
           (over_printed _ _ printed (any_more _ _ _ c.if-len-gt-MAX_SHOWN.true (c.len.ensures ∙ c.push_fields.new.text.ok.0))),
-      still_held (g.O.Write.contents c.args.output.now),
+      Keeps-refl (g.O.Write.contents c.args.output.now),
     ))
 
 pub returns-in_err-next_row : goal.returns-in_err-next_row
@@ -72,7 +72,7 @@ returns-in_err-next_row g c =
     let held = g.O.Write.contents c.args.output.now in
     let stop = c.from_residual in
     record {
-      ends = if_known (g.I.Read.remaining c.args.records) _ (λ text known. stopped_ends c.args.ask.now.differing _ held held stop.result _ stop.ensures.1 (rows_may c.in_err-next_row.field-0.0) (inl (still_held held)));
+      ends = if_known (g.I.Read.remaining c.args.records) _ (λ text known. stopped_ends c.args.ask.now.differing _ held held stop.result _ stop.ensures.1 (rows_may c.in_err-next_row.field-0.0) (inl (Keeps-refl held)));
       silent = ends_silent held stop.result;
       bounded = IfOk-from_err stop.result _ stop.ensures.0;
     }
@@ -82,7 +82,7 @@ returns-in_err-push_fields g c =
     let held = g.O.Write.contents c.args.output.now in
     let stop = c.from_residual-in_err-push_fields in
     record {
-      ends = if_known (g.I.Read.remaining c.args.records) _ (λ text known. stopped_ends c.args.ask.now.differing _ held held stop.result _ stop.ensures.1 tt (inl (still_held held)));
+      ends = if_known (g.I.Read.remaining c.args.records) _ (λ text known. stopped_ends c.args.ask.now.differing _ held held stop.result _ stop.ensures.1 tt (inl (Keeps-refl held)));
       silent = ends_silent held stop.result;
       bounded = IfOk-from_err stop.result _ stop.ensures.0;
     }
@@ -92,7 +92,7 @@ returns-in_err-push_names g c =
     let held = g.O.Write.contents c.args.output.now in
     let stop = c.from_residual-in_err-push_names in
     record {
-      ends = if_known (g.I.Read.remaining c.args.records) _ (λ text known. stopped_ends c.args.ask.now.differing _ held held stop.result _ stop.ensures.1 tt (inl (still_held held)));
+      ends = if_known (g.I.Read.remaining c.args.records) _ (λ text known. stopped_ends c.args.ask.now.differing _ held held stop.result _ stop.ensures.1 tt (inl (Keeps-refl held)));
       silent = ends_silent held stop.result;
       bounded = IfOk-from_err stop.result _ stop.ensures.0;
     }
@@ -104,19 +104,19 @@ pub returns-clause-bounded : goal.returns-clause-bounded
 returns-clause-bounded g c = c.rate_rows.ensures.bounded
 
 pub returns-then-not-branch-clause-silent : goal.returns-then-not-branch-clause-silent
-returns-then-not-branch-clause-silent g c = still_held (g.O.Write.contents c.args.output.now)
+returns-then-not-branch-clause-silent g c = Keeps-refl (g.O.Write.contents c.args.output.now)
 
 pub returns-then-not-branch-clause-bounded : goal.returns-then-not-branch-clause-bounded
 returns-then-not-branch-clause-bounded g c = tt
 
 pub returns-in_default-clause-silent : goal.returns-in_default-clause-silent
-returns-in_default-clause-silent g c = still_held (g.O.Write.contents c.args.output.now)
+returns-in_default-clause-silent g c = Keeps-refl (g.O.Write.contents c.args.output.now)
 
 pub returns-in_default-clause-bounded : goal.returns-in_default-clause-bounded
 returns-in_default-clause-bounded g c = tt
 
 pub returns-then-len-gt-MAX_SHOWN-clause-silent : goal.returns-then-len-gt-MAX_SHOWN-clause-silent
-returns-then-len-gt-MAX_SHOWN-clause-silent g c = still_held (g.O.Write.contents c.args.output.now)
+returns-then-len-gt-MAX_SHOWN-clause-silent g c = Keeps-refl (g.O.Write.contents c.args.output.now)
 
 pub returns-then-len-gt-MAX_SHOWN-clause-bounded : goal.returns-then-len-gt-MAX_SHOWN-clause-bounded
 returns-then-len-gt-MAX_SHOWN-clause-bounded g c = tt

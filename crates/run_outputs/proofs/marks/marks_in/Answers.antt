@@ -1,7 +1,7 @@
 use Rattle.std.proofs.Common.{[], ◌∷◌, map, reverse, take}
 use Rattle.std.proofs.lemmas.List.{map-append, reverse-append}
+use Rattle.book_texts.proofs.TextLemmas.{next_item}
 use Rattle.account_core.specs.Entries.{entry_data}
-use Rattle.run_outputs.proofs.CallLemmas.{next_item}
 use Rattle.run_outputs.proofs.marks.marks_in.Goals as goal
 
 pub loop-entry-preserved : goal.loop-entry-preserved

@@ -1,5 +1,6 @@
 use Rattle.std.proofs.Common.{rules, arith}
-use Rattle.run_outputs.proofs.Joins.{all_joined, joined_next, keeps_nothing, none_joined, none_left}
+use Rattle.std.proofs.lemmas.List.{nil_from_length}
+use Rattle.run_outputs.proofs.Joins.{all_joined, joined_next, keeps_nothing, none_joined}
 use Rattle.run_outputs.proofs.part.join.Goals as goal
 
 pub loop-part-init : goal.loop-part-init
@@ -17,4 +18,4 @@ pub returns : goal.returns
 returns c =
     let none = c.in-None.ensures.steps.0 in
     let len = c.loop-part.part-iterator.rest.ok in
-    all_joined _ _ _ (none_left _ (omega (arith, none, len))) c.loop-part.invariant
+    all_joined _ _ _ (nil_from_length _ (omega (arith, none, len))) c.loop-part.invariant

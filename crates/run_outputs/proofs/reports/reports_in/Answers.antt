@@ -1,5 +1,5 @@
 use Rattle.std.proofs.Common.{take}
-use Rattle.run_outputs.proofs.CallLemmas.{next_item}
+use Rattle.book_texts.proofs.TextLemmas.{next_item}
 use Rattle.run_outputs.proofs.reports.reports_in.Goals as goal
 
 pub loop-at-preserved : goal.loop-at-preserved

@@ -1,7 +1,7 @@
 use Rattle.std.proofs.Common.{arith, refl, rules}
 use Rattle.std.specs.Vec.Iter.{into_iter_items}
+use Rattle.std.proofs.lemmas.List.{nil_from_length}
 use Rattle.runs_core.proofs.WorkerLemmas.{all_going, none_going, one_going}
-use Rattle.runs_core.proofs.Shifting.{empty_by}
 use Rattle.runs_core.proofs.crew.answer_all.Goals as goal
 use Rattle.runs_core.specs.Workers.{holding, number_by}
 
@@ -38,4 +38,4 @@ push_reserved-requires g c =
 
 pub returns-clause-goes_on : goal.returns-clause-goes_on
 returns-clause-goes_on g c =
-    all_going (number_by g.S.Shared.terms) g.S.Shared.key g.S.Shared.reads g.S.Shared.was _ _ _ _ _ (empty_by _ (omega (arith, c.in-None.ensures.steps.0, c.loop-post.post-iterator.rest.ok))) c.loop-post.invariant.0
+    all_going (number_by g.S.Shared.terms) g.S.Shared.key g.S.Shared.reads g.S.Shared.was _ _ _ _ _ (nil_from_length _ (omega (arith, c.in-None.ensures.steps.0, c.loop-post.post-iterator.rest.ok))) c.loop-post.invariant.0

@@ -1,13 +1,12 @@
 use Rattle.std.proofs.Common.{◌≡◌, [], List, arith, length, map, ap, refl, sym, rules, ◌∙◌}
 use Rattle.std.proofs.Math.Seq.{map-set_same}
-use Rattle.std.proofs.lemmas.List.{length-map}
+use Rattle.std.proofs.lemmas.List.{length-map, nil_from_length}
 use Rattle.std.specs.Global.{Vec}
 use Rattle.std.specs.Vec.Iter.{into_iter_items}
 use Rattle.runs_core.specs.Sending.{heard_by, sent_by}
 use Rattle.runs_core.specs.declared.worker_link.WorkerLink.{WorkerLink}
 use Rattle.run_values.specs.declared.post.Post.{Post}
 use Rattle.runs_core.proofs.Joins.{all_joined, has_list, none_joined, one_joined}
-use Rattle.runs_core.proofs.Shifting.{empty_by}
 use Rattle.runs_core.proofs.crew.send_all.Goals as goal
 
 many_lists : {S G T : Type 0} (shares : List (Vec Post)) (links : List (WorkerLink S G T)) → length shares ≡ length links → length (map (λ share. share.items) shares) ≡ length (map sent_by links)
@@ -47,5 +46,5 @@ loop-share-preserved g c =
 
 pub returns-clause-posts : goal.returns-clause-posts
 returns-clause-posts g c =
-    let none : into_iter_items c.loop-share.share-iterator ≡ [] = empty_by _ (omega (arith, c.in-None.ensures.steps.0, c.loop-share.share-iterator.rest.ok)) in
+    let none : into_iter_items c.loop-share.share-iterator ≡ [] = nil_from_length _ (omega (arith, c.in-None.ensures.steps.0, c.loop-share.share-iterator.rest.ok)) in
     all_joined (map sent_by c.args.links.now.items) (map (λ share. share.items) (into_iter_items c.args.shares)) _ _ _ (ap (map (λ share. share.items)) none) c.loop-share.invariant.0

@@ -1,14 +1,13 @@
 use Rattle.std.proofs.Common.{◌≡◌, [], arith, ap, rules, sym, subst, ◌∙◌}
-use Rattle.std.proofs.lemmas.List.{take_all}
+use Rattle.std.proofs.lemmas.List.{take_all, nil_from_length}
 use Rattle.std.proofs.lemmas.List.Elements.{All-more}
 use Rattle.std.specs.Prelude.{All}
-use Rattle.runs_core.proofs.Shifting.{empty_by}
 use Rattle.runs_core.proofs.rounds.none_left.Goals as goal
 
 pub loop-queue-preserved : goal.loop-queue-preserved
 loop-queue-preserved c =
     let queue = c.queue-item.result in
-    let empty : queue.items ≡ [] = empty_by queue.items (search rules) in
+    let empty : queue.items ≡ [] = nil_from_length queue.items (search rules) in
     All-more (λ queue. queue.items ≡ []) c.args.queues.now c.loop-queue.queue-index queue (omega (arith, c.loop-queue-test.true)) c.loop-queue.invariant (ap (λ queue. queue.items) (sym c.queue-item.is) ∙ empty)
 
 pub returns-clause-none : goal.returns-clause-none

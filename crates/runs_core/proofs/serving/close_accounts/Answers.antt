@@ -2,12 +2,13 @@ use Rattle.std.proofs.Common.{◌≡◌, ◌∙◌, ℕ, [], All, length, map, a
 use Rattle.std.specs.Prelude.{replicate}
 use Rattle.std.specs.Vec.{vec_len}
 use Rattle.std.specs.Vec.Iter.{into_iter_items}
-use Rattle.std.proofs.lemmas.List.{length-map, length-replicate}
+use Rattle.std.proofs.lemmas.List.{length-map, length-replicate, nil_from_length}
 use Rattle.std.proofs.lemmas.List.Elements.{All-head, All-map, All-tail}
+use Rattle.runs_core.proofs.CaseLemmas.{as_many}
+use Rattle.runs_core.proofs.LayingOut.{laid_out_length}
 use Rattle.runs_core.proofs.Booking.{books_legal, books_owned, books_shown, in_books}
-use Rattle.runs_core.proofs.Columns.{AreEven, laid_out_many, laid, laid_even, map_twice}
-use Rattle.runs_core.proofs.Numbers.{all_there, rows_of, rows_rise, team_many, teams_even}
-use Rattle.runs_core.proofs.Shifting.{empty_by}
+use Rattle.runs_core.proofs.Columns.{AreEven, laid, laid_even, map_twice}
+use Rattle.runs_core.proofs.Numbers.{all_there, rows_of, rows_rise, teams_even}
 use Rattle.runs_core.proofs.serving.close_accounts.Goals as goal
 
 pub loop-team-init : goal.loop-team-init
@@ -20,20 +21,20 @@ pub deal-requires : goal.deal-requires
 deal-requires g c =
     let left = rw c.in-Some.ensures.steps.0 at c.loop-team.invariant in
     let keys = All-head (λ team. map g.S.Shared.reads.key team.items ≡ map g.S.Shared.key c.args.accounts.items) c.in-Some.team (into_iter_items c.next.new.self) left.2 in
-    team_many g.S.Shared.reads.key g.S.Shared.key c.args.accounts.items c.in-Some.team.items keys ∙ sym left.1 ∙ length-map c.loop-team.rows.items (λ row. row.items)
+    as_many g.S.Shared.reads.key g.S.Shared.key c.in-Some.team.items c.args.accounts.items keys ∙ sym left.1 ∙ length-map c.loop-team.rows.items (λ row. row.items)
 
 pub loop-team-preserved : goal.loop-team-preserved
 loop-team-preserved g c =
     let left = rw c.in-Some.ensures.steps.0 at c.loop-team.invariant in
     rw (c.in_ok-deal.ensures) (
       left.0,
-      laid_out_many (map (λ row. row.items) c.loop-team.rows.items) c.in-Some.team.items ∙ left.1,
+      laid_out_length (map (λ row. row.items) c.loop-team.rows.items) c.in-Some.team.items ∙ left.1,
       All-tail (λ team. map g.S.Shared.reads.key team.items ≡ map g.S.Shared.key c.args.accounts.items) c.in-Some.team (into_iter_items c.next.new.self) left.2,
     )
 
 pub close_each-requires-clause-rows : goal.close_each-requires-clause-rows
 close_each-requires-clause-rows g c = λ _ _.
-    let none : into_iter_items c.loop-team.team-iterator ≡ [] = empty_by _ (omega (arith, c.in-None.ensures.steps.0, c.loop-team.team-iterator.rest.ok)) in
+    let none : into_iter_items c.loop-team.team-iterator ≡ [] = nil_from_length _ (omega (arith, c.in-None.ensures.steps.0, c.loop-team.team-iterator.rest.ok)) in
     let left = rw (none) at c.loop-team.invariant in
     let teams = map (λ team. team.items) c.args.left.items in
     let keys = All-map (λ team. map g.S.Shared.reads.key team ≡ map g.S.Shared.key c.args.accounts.items) (λ team. team.items) c.args.left.items c.requires.keys in
@@ -41,7 +42,7 @@ close_each-requires-clause-rows g c = λ _ _.
 
 pub close_each-requires-clause-all : goal.close_each-requires-clause-all
 close_each-requires-clause-all g c = λ _ _.
-    let none : into_iter_items c.loop-team.team-iterator ≡ [] = empty_by _ (omega (arith, c.in-None.ensures.steps.0, c.loop-team.team-iterator.rest.ok)) in
+    let none : into_iter_items c.loop-team.team-iterator ≡ [] = nil_from_length _ (omega (arith, c.in-None.ensures.steps.0, c.loop-team.team-iterator.rest.ok)) in
     let left = rw (none) at c.loop-team.invariant in
     let read = g.S.Shared.reads in
     let teams = map (λ team. team.items) c.args.left.items in
@@ -66,7 +67,7 @@ returns-clause-legal g c =
 
 pub returns-clause-owned : goal.returns-clause-owned
 returns-clause-owned g c =
-    let none : into_iter_items c.loop-team.team-iterator ≡ [] = empty_by _ (omega (arith, c.in-None.ensures.steps.0, c.loop-team.team-iterator.rest.ok)) in
+    let none : into_iter_items c.loop-team.team-iterator ≡ [] = nil_from_length _ (omega (arith, c.in-None.ensures.steps.0, c.loop-team.team-iterator.rest.ok)) in
     let left = rw (none) at c.loop-team.invariant in
     let read = g.S.Shared.reads in
     let teams = map (λ team. team.items) c.args.left.items in
@@ -79,7 +80,7 @@ returns-clause-owned g c =
 
 pub returns-clause-shown : goal.returns-clause-shown
 returns-clause-shown g c =
-    let none : into_iter_items c.loop-team.team-iterator ≡ [] = empty_by _ (omega (arith, c.in-None.ensures.steps.0, c.loop-team.team-iterator.rest.ok)) in
+    let none : into_iter_items c.loop-team.team-iterator ≡ [] = nil_from_length _ (omega (arith, c.in-None.ensures.steps.0, c.loop-team.team-iterator.rest.ok)) in
     let left = rw (none) at c.loop-team.invariant in
     let read = g.S.Shared.reads in
     let teams = map (λ team. team.items) c.args.left.items in

@@ -1,8 +1,7 @@
 use Rattle.std.proofs.Common.{rules, arith, ◌≡◌, ◌∷◌, ◌++◌, [], List, ap, length, map, subst, sym}
 use Rattle.std.specs.Vec.Iter.{into_iter_items}
-use Rattle.std.proofs.lemmas.List.{append-nil, append_assoc}
+use Rattle.std.proofs.lemmas.List.{append-nil, append_assoc, nil_from_length}
 use Rattle.shared_account.specs.Closed.{Closed}
-use Rattle.runs_core.proofs.Shifting.{empty_by}
 use Rattle.runs_core.specs.Closing.{AreBooksOfSeats}
 use Rattle.runs_core.proofs.serving.close_each.Goals as goal
 
@@ -31,7 +30,7 @@ push_reserved-requires g c =
 
 pub returns-clause-books : goal.returns-clause-books
 returns-clause-books g c =
-    let none : into_iter_items c.loop-account.accounts ≡ [] = empty_by _ (omega (arith, c.in_default.ensures.cases.0, c.loop-account.accounts.rest.ok)) in
+    let none : into_iter_items c.loop-account.accounts ≡ [] = nil_from_length _ (omega (arith, c.in_default.ensures.cases.0, c.loop-account.accounts.rest.ok)) in
     let left = rw (none) at c.loop-account.invariant in
     subst (AreBooksOfSeats g.S.Shared.reads g.S.Shared.was g.S.Shared.stood (map g.S.Shared.terms (into_iter_items c.args.accounts.now)) (map (λ row. row.items) (into_iter_items c.args.rows.now)))
     (append-nil c.loop-account.books.items) (left.1 [] tt)

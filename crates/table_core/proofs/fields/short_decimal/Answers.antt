@@ -1,4 +1,4 @@
-use Rattle.std.proofs.Common.{◌≡◌, ◌∙◌, true, get_or, rules, arith, sym}
+use Rattle.std.proofs.Common.{◌≡◌, true, get_or, rules, arith}
 use Rattle.std.specs.Char.{is_ascii_digit}
 use Rattle.table_core.proofs.DecimalLemmas.{digits_more, value_more_by, short_powers}
 use Rattle.table_core.proofs.fields.short_decimal.Goals as goal

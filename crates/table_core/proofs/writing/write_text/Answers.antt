@@ -1,6 +1,7 @@
 use Rattle.std.proofs.Common.{◌+◌, arith}
 use Rattle.std.proofs.lemmas.List.{take_all}
-use Rattle.table_core.proofs.FrontLemmas.{more_written, none_written, still_written, within_rest}
+use Rattle.std.proofs.KnownBytes.{Appends-kept}
+use Rattle.table_core.proofs.FrontLemmas.{more_written, none_written, within_rest}
 use Rattle.table_core.proofs.writing.write_text.Goals.{in-Ok, in-Err}
 use Rattle.table_core.proofs.writing.write_text.Goals as goal
 
@@ -17,12 +18,12 @@ returns-in-Ok-eq0 g c = (
 )
 
 pub returns-in-Err-2 : goal.returns-in-Err-2
-returns-in-Err-2 g c = (c.loop-turn.written, still_written _ _ _ _ c.loop-turn.invariant.1 c.in-Err-2.ensures.bytes)
+returns-in-Err-2 g c = (c.loop-turn.written, Appends-kept _ _ _ _ c.loop-turn.invariant.1 c.in-Err-2.ensures.bytes)
 
 pub loop-turn-preserved : goal.loop-turn-preserved
 loop-turn-preserved g c = elim c.match-write.branch [
   | in-Ok w ↦ rw w.written-is (within_rest c.args.text.now c.loop-turn.written w.in-Ok.count c.loop-turn.invariant.0 w.in-Ok.ensures.bound, more_written _ _ _ c.args.text.now c.loop-turn.written w.in-Ok.count c.loop-turn.invariant.1 w.in-Ok.ensures.bytes)
-  | in-Err w ↦ rw w.written-is (c.loop-turn.invariant.0, still_written _ _ _ _ c.loop-turn.invariant.1 w.in-Err.ensures.bytes)
+  | in-Err w ↦ rw w.written-is (c.loop-turn.invariant.0, Appends-kept _ _ _ _ c.loop-turn.invariant.1 w.in-Err.ensures.bytes)
 ]
 
 pub returns : goal.returns

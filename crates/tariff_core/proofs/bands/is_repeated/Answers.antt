@@ -1,5 +1,6 @@
-use Rattle.std.proofs.Common.{◌≡◌, ◌∙◌, ℕ, Bool, true, false, refl, sym, arith}
+use Rattle.std.proofs.Common.{◌≡◌, ◌∙◌, ℕ, Bool, true, false, sym, arith}
 use Rattle.std.specs.Prelude.{◌&&◌}
+use Rattle.std.proofs.lemmas.Bool.{and_left, and_right, and_from}
 use Rattle.tariff_core.specs.Bands.{counts_on, has_band}
 use Rattle.tariff_core.specs.Tariff.{band_of}
 use Rattle.tariff_core.proofs.IndexLemmas.{counts_key, finds_at, key_above, key_below, key_day, one_more}
@@ -7,16 +8,6 @@ use Rattle.tariff_core.proofs.RangeLemmas.{band_key_at}
 use Rattle.tariff_core.proofs.WeekdayLemmas.{none_of_weekdays, some_weekday}
 use Rattle.tariff_core.proofs.bands.is_repeated.Goals as goal
 use Rattle.tariff_core.proofs.bands.is_repeated.Goals.{else-counts_on-via-then-counts_on+else-contains_key, else-counts_on-via-else-counts_on}
-
-not_first : (a b : Bool) → a ≡ false → (a && b) ≡ false
-not_first a b is = rw is refl
-
-not_second : (a b : Bool) → b ≡ false → (a && b) ≡ false
-not_second true b is = is
-not_second false b is = refl
-
-both : (a b : Bool) → a ≡ true → b ≡ true → (a && b) ≡ true
-both a b one two = rw (one, two) refl
 
 pub loop-day-init : goal.loop-day-init
 loop-day-init c bands indexed weekday low high before = absurd (omega (arith, before, key_above c.args.by_days c.keys-first.result.0 weekday c.keys-first.ensures.first low))
@@ -28,10 +19,10 @@ loop-day-preserved c bands indexed =
     elim c.else-counts_on.branch [
       | else-counts_on-via-then-counts_on+else-contains_key w ↦
           let asked = rw w.key.ensures at w.contains_key.ensures in
-          not_second (counts_on weekday band) (has_band band.prefix weekday band.start bands)
+          and_right (counts_on weekday band) (has_band band.prefix weekday band.start bands)
           (sym (finds_at c.args.by_days c.args.index.now bands (band_key_at c.args.row.now.prefix c.loop-day.day c.args.row.now.start) weekday indexed key) ∙ sym asked ∙ w.if-contains_key.false)
       | else-counts_on-via-else-counts_on w ↦
-          not_first (counts_on weekday band) (has_band band.prefix weekday band.start bands)
+          and_left (counts_on weekday band) (has_band band.prefix weekday band.start bands)
           (sym (counts_key c.args.by_days band weekday c.loop-day.day c.requires key.key) ∙ sym c.counts_on.ensures ∙ w.if-counts_on.false)
     ])
 
@@ -41,7 +32,7 @@ returns-then-contains_key c bands indexed =
     let (weekday, key) = key_day c.args.by_days c.keys-first.result.0 c.keys-first.result.1 c.loop-day.day c.keys-first.ensures.first c.keys-first.ensures.end c.loop-day.auto.day c.loop-day-test.true in
     let asked = rw c.key.ensures at c.contains_key.ensures in
     let p : ℕ → Bool = λ day. counts_on day band && has_band band.prefix day band.start bands in
-    sym (some_weekday p weekday key.low key.high (both (counts_on weekday band) (has_band band.prefix weekday band.start bands)
+    sym (some_weekday p weekday key.low key.high (and_from (counts_on weekday band) (has_band band.prefix weekday band.start bands)
     (sym (counts_key c.args.by_days band weekday c.loop-day.day c.requires key.key) ∙ sym c.counts_on.ensures ∙ c.if-counts_on.true)
     (sym (finds_at c.args.by_days c.args.index.now bands (band_key_at c.args.row.now.prefix c.loop-day.day c.args.row.now.start) weekday indexed key) ∙ sym asked ∙ c.if-contains_key.true)))
 

@@ -1,5 +1,6 @@
 use Rattle.std.proofs.Common.{◌≡◌, List, length, map, sym, ◌∙◌, subst, true, refl, rules}
 use Rattle.std.specs.Prelude.{◌<◌, ◌≤◌, ◌==◌, All}
+use Rattle.std.proofs.lemmas.Bool.{and_parts}
 use Rattle.account_core.specs.Ledger.{Ledger}
 use Rattle.shared_account.specs.Closed.{Closed, IsBookOf}
 use Rattle.turn_account.specs.Ended.{HaveEnded}
@@ -9,7 +10,6 @@ use Rattle.turn_account.specs.Seen.{IsOpenedAs}
 use Rattle.turn_account.specs.TurnViews.{TurnSeatView, own_of}
 use Rattle.turn_account.specs.Views.{unopened}
 use Rattle.turn_account.proofs.Ending.{as_many, each_closed, merged_closed}
-use Rattle.shared_account.proofs.Numbering.{first_by}
 use Rattle.turn_account.proofs.closing.close_board.Goals as goal
 
 pub gather-chair-requires-clause-some_seats : goal.gather-chair-requires-clause-some_seats
@@ -30,7 +30,7 @@ returns-clause-book c =
     let whole : c.are_all.result ≡ are_all c.args.count (map (λ (s : TurnSeatView). s.number) seats) =
     subst (λ (xs : List TurnSeatView). c.are_all.result ≡ are_all c.args.count (map (λ (s : TurnSeatView). s.number) xs)) c.as_slice.ensures.value c.are_all.ensures in
     let all : are_all c.args.count (map (λ (s : TurnSeatView). s.number) seats) ≡ true = sym whole ∙ response in
-    let numbered = (first_by (length (map (λ (s : TurnSeatView). s.number) seats) == c.args.count) (are_numbered 0 (map (λ (s : TurnSeatView). s.number) seats)) all).1 in
+    let numbered = (and_parts (length (map (λ (s : TurnSeatView). s.number) seats) == c.args.count) (are_numbered 0 (map (λ (s : TurnSeatView). s.number) seats)) all).1 in
     let have : HaveEnded account 0 (map (λ (s : TurnSeatView). s.view) seats) = subst (HaveEnded account 0) c.gather-chair.ensures.taken c.clear_board.ensures.each in
     let others : All (λ entry. entry.seat < length (map (λ (s : TurnSeatView). s.view) seats)) account.history =
     subst (λ (lasts : List Ledger). All (λ entry. entry.seat < length lasts) account.history) c.gather-chair.ensures.taken c.clear_board.ensures.no_others in

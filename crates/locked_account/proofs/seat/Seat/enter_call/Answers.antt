@@ -1,8 +1,9 @@
 use Rattle.std.proofs.Common.{arith, rules, ◌+◌, ◌-◌, ◌++◌, ◌∷◌, [], ap, length, map, reverse, ◌∙◌}
 use Rattle.std.specs.Vec.{vec_capacity}
+use Rattle.account_core.proofs.Asking.{asked_call}
 use Rattle.account_core.specs.Entries.{asked_of, entry_data}
 use Rattle.account_core.specs.declared.entry.Entry.{Entry}
-use Rattle.locked_account.proofs.Roominess.{is_entry, length_past, of_call, owed_after, roomy_after, roomy_pushed, roomy_same}
+use Rattle.locked_account.proofs.Roominess.{is_entry, length_past, owed_after, roomy_after, roomy_pushed, roomy_same}
 use Rattle.locked_account.proofs.seat.Seat.enter_call.Goals as goal
 
 pub push_reserved-requires : goal.push_reserved-requires
@@ -29,7 +30,7 @@ invariant_of-self-2 c =
     let entered = is_entry c.self.inside c.self.invariant c.args.account.now.opening c.args.account.now.until (reverse c.args.account.now.history)
     c.self.inside.number c.args.call (asked_of c.op-op.result) c.in_ok-reply.reply c.in_ok-before.before c.after-after.result c.owed-2.result c.owed.result c.needed.result
     (rw c.op-op.ensures c.requires.of_call) (rw c.op-op.ensures c.in_ok-reply.ensures.answered) (search rules) c.after-after.ensures c.owed-2.ensures.value c.owed.ensures.value c.needed.ensures.value in
-    let same = of_call c.args.call (asked_of c.op-op.result) (rw c.op-op.ensures c.requires.of_call) in
+    let same = asked_call c.args.call (asked_of c.op-op.result) (rw c.op-op.ensures c.requires.of_call) in
     roomy_pushed old c.push_reserved.new.self.items entry _ places capacity
     (c.push_reserved.ensures.items ∙ ap (λ items. items ++ entry ∷ []) c.try_reserve.ensures.items)
     (roomy_after c.places_go_with_entries.ensures.moves (reverse (map entry_data old)) (entry_data entry) before after c.owed-2.result c.owed.result c.needed.result entered

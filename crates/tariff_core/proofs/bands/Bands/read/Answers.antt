@@ -12,7 +12,7 @@ use Rattle.tariff_core.specs.declared.row.Row.{Row}
 use Rattle.tariff_core.specs.TariffTable.{GivesBands, bands_of, tariff_form}
 use Rattle.tariff_core.specs.declared.tariff_fault.TariffKind.TheVariants as kind
 use Rattle.tariff_core.proofs.IndexLemmas.{count_more, indexes_none, keeps_indexed, rows_more}
-use Rattle.tariff_core.proofs.Known.{at_known, if_known}
+use Rattle.table_core.proofs.Known.{at_known, if_known}
 use Rattle.tariff_core.proofs.TableLemmas.{bands_not_before, given_up, none_before, refused_at, taken_band, without_days}
 use Rattle.tariff_core.proofs.bands.Bands.read.Goals as goal
 

@@ -1,7 +1,7 @@
 use Rattle.std.proofs.Common.{sym}
 use Rattle.table_core.specs.Rows.{rows_of}
 use Rattle.tariff_core.specs.TariffTable.{bands_of, tariff_of}
-use Rattle.tariff_core.proofs.Known.{at_known, if_known}
+use Rattle.table_core.proofs.Known.{at_known, if_known}
 use Rattle.tariff_core.proofs.MidnightLemmas.{complete_from}
 use Rattle.tariff_core.proofs.TableLemmas.{passed_on, refused_whole}
 use Rattle.tariff_core.proofs.tariff.Tariff.read.Goals as goal
