@@ -1,12 +1,11 @@
 -- The meaning of an ops table: what is asked of one account, or the first fault.
-use Rattle.std.specs.Prelude.{ℕ, Bool, List, [], ◌∷◌, ◌++◌, Result, Ok, Err, if◌then◌else◌, codes}
+use Rattle.std.specs.Prelude.{ℕ, List, [], ◌∷◌, ◌++◌, Result, codes}
 use Rattle.account_core.specs.Asked.{Asked}
-use Rattle.table_core.specs.Fields.{field_in}
+use Rattle.table_core.specs.Fields.{field_in, when_blank}
 use Rattle.table_core.specs.Judging.{adds, and_then}
 use Rattle.table_core.specs.Tables.{TableForm, table_form, table_of}
 use Rattle.table_core.specs.declared.fault.RowFault.{RowFault}
 use Rattle.table_core.specs.declared.fault.RowKind.{RowKind}
-use Rattle.table_core.specs.declared.fault.RowKind.TheVariants as kind
 use Rattle.book_texts.specs.Column.{seat_of}
 use Rattle.book_texts.specs.Columns.{Operation, operation_at}
 use Rattle.book_texts.specs.Operations.{asked_in, is_asked_blank}
@@ -19,17 +18,13 @@ pub record SeatAsk : Type 0 where
   pub seat : ℕ
   pub asked : Asked
 
--- what is asked, where the columns that must be empty are
-abbrev pub ask_when_blank : Bool → SeatAsk → Result SeatAsk RowKind
-ask_when_blank blank asking = if blank then Ok asking else Err kind.Empty
-
 -- what the columns of a row ask: its word is judged first, then its numbers, then the empty columns
 unfoldable pub asking_in : List ℕ → Operation → Result SeatAsk RowKind
 asking_in seat_text columns =
     and_then (op_word_in columns) (λ word.
     and_then (seat_of seat_text) (λ seat.
     and_then (asked_in word columns) (λ asked.
-    ask_when_blank (is_asked_blank word columns) (record { seat = seat; asked = asked }))))
+    when_blank (is_asked_blank word columns) (record { seat = seat; asked = asked }))))
 
 -- what a row of a table of this version asks
 abbrev pub seat_ask_in : Version → List (List ℕ) → Result SeatAsk RowKind

@@ -1,5 +1,5 @@
 -- What a row of the table of books says.
-use Rattle.std.specs.Prelude.{◌&&◌, ◌+◌, ℕ, Bool, List, Option, Result, Ok, Err, codes, if◌then◌else◌}
+use Rattle.std.specs.Prelude.{◌&&◌, ◌+◌, ℕ, Bool, List, Option, Result, codes, if◌then◌else◌}
 use Rattle.std.specs.Str.{bytes_eq}
 use Rattle.account_core.specs.Entries.{EntryData}
 use Rattle.book_texts.specs.Column.{money_of, seat_of}
@@ -9,10 +9,9 @@ use Rattle.book_texts.specs.Replies.{is_reply_blank, reply_in}
 use Rattle.book_texts.specs.Versions.{operation_width}
 use Rattle.book_texts.specs.Words.{op_word_in, reply_word_in}
 use Rattle.book_texts.specs.declared.version.Version.{Version}
-use Rattle.table_core.specs.Fields.{field_in, is_empty_field, number_in_field}
+use Rattle.table_core.specs.Fields.{field_in, is_empty_field, number_in_field, when_blank}
 use Rattle.table_core.specs.Judging.{and_then}
 use Rattle.table_core.specs.declared.fault.RowKind.{RowKind}
-use Rattle.table_core.specs.declared.fault.RowKind.TheVariants as kind
 
 -- the columns of a row
 pub record Columns : Type 0 where
@@ -39,10 +38,6 @@ pub data RowSaid : Type 0 where
   Opens : (account opening : ℕ) (until : Option ℕ) → RowSaid
   Enters : (account : ℕ) (entry : EntryData) → RowSaid
 
--- what is said, where the columns that must be empty are
-abbrev pub book_when_blank : Bool → RowSaid → Result RowSaid RowKind
-book_when_blank blank said = if blank then Ok said else Err kind.Empty
-
 -- the number of an account
 abbrev pub book_account_in : List ℕ → Result ℕ RowKind
 book_account_in text = number_in_field 4294967295 text
@@ -67,7 +62,7 @@ opening_in columns =
     and_then (book_account_in columns.account) (λ account.
     and_then (money_of columns.operation.x1) (λ opening.
     and_then (until_of columns.operation.version columns.operation.x2) (λ until.
-    book_when_blank (is_opening_blank columns) (Opens account opening until))))
+    when_blank (is_opening_blank columns) (Opens account opening until))))
 
 -- ---- entries
 
@@ -80,7 +75,7 @@ entry_in columns =
     and_then (seat_of columns.seat) (λ seat.
     and_then (asked_in op_word columns.operation) (λ asked.
     and_then (reply_in reply_word columns.answer) (λ reply.
-    book_when_blank (is_asked_blank op_word columns.operation && is_reply_blank reply_word columns.answer)
+    when_blank (is_asked_blank op_word columns.operation && is_reply_blank reply_word columns.answer)
     (Enters account (record { seat = seat; asked = asked; reply = reply }))))))))
 
 -- what a row says, wherever it is

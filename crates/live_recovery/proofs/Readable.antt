@@ -12,13 +12,13 @@ use Rattle.live_answers.specs.Standing.{LineView, in_time, numbered_message, pla
 use Rattle.run_texts.specs.declared.kind.LineKind.TheVariants as kind
 use Rattle.live_recovery.proofs.Decimals.{IsShort, is_short}
 use Rattle.run_texts.specs.Lines.{line_message, message_of, nine}
-use Rattle.run_texts.specs.Messages.{MessageView, Speech, message_call_in, charging_report_in, ended_message_in, event_message_in, event_report_in, initial_in, interval_in, leg_in, message_in, mode_in, report_without_switch, of_switch, recharge_message_in, report_state_in, report_with_switch, switched_in, message_when_blank}
+use Rattle.run_texts.specs.Messages.{MessageView, Speech, message_call_in, charging_report_in, ended_message_in, event_message_in, event_report_in, initial_in, interval_in, leg_in, message_in, mode_in, report_without_switch, of_switch, recharge_message_in, report_state_in, report_with_switch, switched_in}
 use Rattle.tariff_core.specs.Fields.{moment_in}
 use Rattle.tariff_core.specs.Reading.{at_most, date_and_time_of, moment_of}
 use Rattle.run_texts.specs.Setups.{account_in, amount_in, party_in, until_in}
 use Rattle.run_texts.specs.Said.{Said, report_said}
 use Rattle.table_core.specs.Decimals.{decimal_of}
-use Rattle.table_core.specs.Fields.{counted_if_any, field_in, has_word, number_in, number_or_empty, optional_in, present}
+use Rattle.table_core.specs.Fields.{counted_if_any, field_in, has_word, number_in, number_or_empty, optional_in, present, when_blank}
 use Rattle.table_core.specs.Judging.{and_then}
 use Rattle.table_core.specs.Rows.{Fields, rows_of}
 use Rattle.table_core.specs.declared.fault.RowKind.{RowKind}
@@ -46,11 +46,11 @@ no_number said short other = record {
 abbrev pub Reads : Speech → Type 0
 Reads speech = IsReadable speech.said
 
-blank_is : (blank : Bool) (speech read : Speech) → message_when_blank blank speech ≡ Ok read → speech ≡ read
+blank_is : (blank : Bool) (speech read : Speech) → when_blank blank speech ≡ Ok read → speech ≡ read
 blank_is true speech read is = cc is
 blank_is false speech read is = absurd (cc)
 
-reads_blank : (blank : Bool) (speech read : Speech) → message_when_blank blank speech ≡ Ok read → Reads speech → Reads read
+reads_blank : (blank : Bool) (speech read : Speech) → when_blank blank speech ≡ Ok read → Reads speech → Reads read
 reads_blank blank speech read is reads = subst Reads (blank_is blank speech read is) reads
 
 -- ---- numbers that were read

@@ -19,7 +19,7 @@ use Rattle.run_texts.specs.declared.script.ScriptRow.{ScriptRow}
 use Rattle.run_values.specs.Setups.{Setup, account_of}
 use Rattle.run_values.specs.declared.post.Body.{Body}
 use Rattle.run_values.specs.declared.post.Body.TheVariants as body
-use Rattle.script_player.specs.Posts.{Begins, first_item_of, initial, is_of_call, items_of, opening_item_of, start_item_of}
+use Rattle.script_player.specs.Posts.{Begins, initial, is_of_call, items_of, opening_item_of, start_item_of}
 
 -- ---- the row that starts a call
 
@@ -45,13 +45,13 @@ module _ (setup : Setup) (call : ℕ) where
   opening_started (row ∷ rows) = by_row row.what (opening_started rows)
     where
       by_same : (b : Bool) (calling called : Number) → opening_item_of call rows ≡ option_map (item_started call) (started_by call rows)
-          → first_item_of (if b then Some (initial row.at call calling called) else None) (opening_item_of call rows)
+          → option_or (if b then Some (initial row.at call calling called) else None) (opening_item_of call rows)
           ≡ option_map (item_started call) (option_or (if b then Some (row.at, calling, called) else None) (started_by call rows))
       by_same true calling called rest = refl
       by_same false calling called rest = rest
 
       by_row : (what : Happening) → opening_item_of call rows ≡ option_map (item_started call) (started_by call rows)
-          → first_item_of (start_item_of call row.at what) (opening_item_of call rows) ≡ option_map (item_started call) (option_or (start_in call row.at what) (started_by call rows))
+          → option_or (start_item_of call row.at what) (opening_item_of call rows) ≡ option_map (item_started call) (option_or (start_in call row.at what) (started_by call rows))
       by_row (Start other calling called) rest = by_same (other == call) calling called rest
       by_row (Meets other event) rest = rest
       by_row (Recharge account amount until) rest = rest

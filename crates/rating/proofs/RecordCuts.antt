@@ -35,7 +35,7 @@ open_row st.AfterCr exit = absurd exit
 open_row st.InEscape exit = absurd exit
 open_row st.InComment exit = absurd exit
 
-between_ends : (s : State) → IsBetween s → ends_at_end s ≡ false
+pub between_ends : (s : State) → IsBetween s → ends_at_end s ≡ false
 between_ends s (inl is) = rw is refl
 between_ends s (inr is) = rw is refl
 

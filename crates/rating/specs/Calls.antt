@@ -5,7 +5,7 @@ use Rattle.cap_values.specs.Numbers.{is_number}
 use Rattle.csv.specs.Writing.{comma, default_writer, field_text}
 use Rattle.tariff_core.specs.Reading.{moment_of}
 use Rattle.table_core.specs.Decimals.{decimal_of}
-use Rattle.table_core.specs.Fields.{field_in, is_blank}
+use Rattle.table_core.specs.Fields.{field_in, is_blank, present}
 use Rattle.table_core.specs.Judging.{and_then}
 use Rattle.table_core.specs.Rows.{Fields}
 use Rattle.price_core.specs.declared.plan.TheConstants.{MAX_MONEY}
@@ -46,13 +46,8 @@ needed_number fields place most = ok_or (decimal_of most (field_in fields place)
 abbrev pub needed_moment : Fields → ℕ → Result ℕ RateKind
 needed_moment fields place = ok_or (moment_of MAX_MOMENT (field_in fields place)) kind.Number
 
--- a number where the field isn't empty
-abbrev pub present_number : Result ℕ RateKind → Result (Option ℕ) RateKind
-present_number (Ok number) = Ok (Some number)
-present_number (Err why) = Err why
-
 abbrev pub optional_number : Fields → ℕ → ℕ → Result (Option ℕ) RateKind
-optional_number fields place most = if is_blank fields place then Ok None else present_number (needed_number fields place most)
+optional_number fields place most = if is_blank fields place then Ok None else present (needed_number fields place most)
 
 -- the time up to an end, which is at most a day behind the answer
 abbrev pub talk_until : ℕ → ℕ → Result Talk RateKind

@@ -99,11 +99,6 @@ CanPass (cursor.InRow within.StartField room) count = (count ≤ room) × (count
 CanPass (cursor.InRow within.InField room) count = (count ≤ room) × (count ≤ MAX_SHOWN)
 CanPass _ count = count ≡ 0
 
--- a byte or none
-abbrev pub bytes_of : Option ℕ → List ℕ
-bytes_of None = []
-bytes_of (Some c) = c ∷ []
-
 -- the reader that is read, and where it is
 abbrev pub reader_of : {R : Type 0} → CutRows R → R
 reader_of rows = rows.reader

@@ -1,10 +1,10 @@
 //! How far a table is read that is passed on byte by byte, its long rows cut.
 
-ghost use Rattle.std.specs.Prelude.{◌≡◌, ◌≤◌, ◌++◌, ◌∷◌, List, Some, ℕ, drop, length, take};
+ghost use Rattle.std.specs.Prelude.{◌≡◌, ◌≤◌, ◌++◌, ◌∷◌, List, Some, ℕ, option_to_list, drop, length, take};
 ghost use Rattle.csv.specs.Machine.{step};
 ghost use Rattle.csv.specs.Reading.{default_config};
 ghost use Rattle.csv.specs.declared.parser.State.TheVariants as st;
-ghost use Rattle.rating.specs.Cuts.{CanPass, IsMove, bytes_of, closing, cut_from, passed_text, cut_state_of};
+ghost use Rattle.rating.specs.Cuts.{CanPass, IsMove, closing, cut_from, passed_text, cut_state_of};
 
 use crate::call::MAX_SHOWN;
 use memchr::{memchr, memrchr};
@@ -51,7 +51,7 @@ impl Within {
 
     /// What stands for the rest of a row that is cut here.
     fn closing(self) -> Option<u8>
-        ensures { bytes_of result ≡ closing (cut_state_of self) }
+        ensures { option_to_list result ≡ closing (cut_state_of self) }
     {
         match self {
             Within::InQuoted => Some(b'"'),
@@ -81,7 +81,7 @@ impl Cursor {
     /// The cursor behind a byte, and what is passed on for it.
     fn next(self, byte: u8) -> (Cursor, Option<u8>)
         ensures { (rest : List ℕ)
-            → passed_text self (byte ∷ rest) ≡ bytes_of result.1 ++ passed_text result.0 rest }
+            → passed_text self (byte ∷ rest) ≡ option_to_list result.1 ++ passed_text result.0 rest }
     {
         match (self, byte) {
             (Cursor::Start, 0xEF) => (Cursor::FirstMark, Some(byte)),
@@ -150,7 +150,7 @@ impl Cursor {
 fn between(byte: u8) -> (Cursor, Option<u8>)
     ensures { (rest : List ℕ)
         → cut_from MAX_SHOWN st.StartRecord (Some MAX_SHOWN) (byte ∷ rest)
-        ≡ bytes_of result.1 ++ passed_text result.0 rest }
+        ≡ option_to_list result.1 ++ passed_text result.0 rest }
 {
     if byte == b'\r' || byte == b'\n' {
         (Cursor::Between, Some(byte))
@@ -162,7 +162,7 @@ fn between(byte: u8) -> (Cursor, Option<u8>)
 /// The cursor behind a byte of a row that has room for so many, and what is passed on for it.
 fn in_row(within: Within, room: usize, byte: u8) -> (Cursor, Option<u8>)
     ensures { (rest : List ℕ) → cut_from MAX_SHOWN (cut_state_of within) (Some room) (byte ∷ rest)
-        ≡ bytes_of result.1 ++ passed_text result.0 rest }
+        ≡ option_to_list result.1 ++ passed_text result.0 rest }
 {
     match within.step(byte) {
         Moves::EndsRow => (Cursor::Between, Some(byte)),
@@ -175,7 +175,7 @@ fn in_row(within: Within, room: usize, byte: u8) -> (Cursor, Option<u8>)
 /// The cursor behind a byte of the rest of a row, and what is passed on for it: what ends the row.
 fn in_rest(within: Within, byte: u8) -> (Cursor, Option<u8>)
     ensures { (rest : List ℕ) → cut_from MAX_SHOWN (cut_state_of within) None (byte ∷ rest)
-        ≡ bytes_of result.1 ++ passed_text result.0 rest }
+        ≡ option_to_list result.1 ++ passed_text result.0 rest }
 {
     match within.step(byte) {
         Moves::EndsRow => (Cursor::Between, Some(byte)),

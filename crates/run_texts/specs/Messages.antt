@@ -13,7 +13,7 @@ use Rattle.run_texts.specs.Setups.{account_in, amount_in, party_in, until_in}
 use Rattle.run_texts.specs.Said.{Said, alone, event_word, mode_word, post_said, report_said, state_word}
 use Rattle.run_texts.specs.Tables.{call_of_post, sender_of}
 use Rattle.run_values.specs.declared.post.Body.{Body}
-use Rattle.table_core.specs.Fields.{counted_if_any, has_word, is_blank, number_in, number_or_empty, optional_in}
+use Rattle.table_core.specs.Fields.{counted_if_any, has_word, is_blank, number_in, number_or_empty, optional_in, when_blank}
 use Rattle.table_core.specs.Judging.{and_then}
 use Rattle.table_core.specs.Rows.{Fields}
 use Rattle.table_core.specs.declared.fault.RowKind.{RowKind}
@@ -82,10 +82,6 @@ message_word_in fields =
 
 -- ---- numbers, and fields that must be empty
 
--- what is said, where the fields that must be empty are
-abbrev pub message_when_blank : Bool → Speech → Result Speech RowKind
-message_when_blank blank speech = if blank then Ok speech else Err kind.Empty
-
 -- a call: any number of 64 bits
 abbrev pub message_call_in : Fields → Result ℕ RowKind
 message_call_in fields = number_in fields 2 18446744073709551615
@@ -98,7 +94,7 @@ of_switch call said = record { call = Some call; from = codes "switch"; said = s
 abbrev pub initial_in : Fields → Result Speech RowKind
 initial_in fields =
     and_then (message_call_in fields) (λ call. and_then (party_in fields 5) (λ calling. and_then (party_in fields 6) (λ called.
-    message_when_blank (is_blank fields 7 && is_blank fields 8) (of_switch call (record (alone (codes "InitialDP")) { x1 = calling; x2 = called })))))
+    when_blank (is_blank fields 7 && is_blank fields 8) (of_switch call (record (alone (codes "InitialDP")) { x1 = calling; x2 = called })))))
 
 -- a leg, 1 or 2, where there is one
 abbrev pub leg_in : Fields → Result (Option ℕ) RowKind
@@ -108,7 +104,7 @@ leg_in fields = and_then (optional_in fields 6 2) counted_if_any
 abbrev pub event_report_in : Fields → Event → Mode → Result Speech RowKind
 event_report_in fields event mode =
     and_then (message_call_in fields) (λ call. and_then (leg_in fields) (λ leg.
-    message_when_blank (is_blank fields 8)
+    when_blank (is_blank fields 8)
     (of_switch call (record (alone (codes "EventReportBCSM")) { x1 = event_word event; x2 = number_or_empty leg; x3 = mode_word mode }))))
 
 -- the time of a report that knows no switch is x3
@@ -126,20 +122,20 @@ report_with_switch fields = and_then (number_in fields 7 DAY) (λ since. and_the
 -- ApplyChargingReport
 abbrev pub charging_report_in : Fields → Bool → Bool → Result Speech RowKind
 charging_report_in fields active false =
-    and_then (message_call_in fields) (λ call. and_then (report_without_switch fields) (λ times. message_when_blank (is_blank fields 8) (of_switch call (report_said active times))))
+    and_then (message_call_in fields) (λ call. and_then (report_without_switch fields) (λ times. when_blank (is_blank fields 8) (of_switch call (report_said active times))))
 charging_report_in fields active true =
     and_then (message_call_in fields) (λ call. and_then (report_with_switch fields) (λ times. Ok (of_switch call (report_said active times))))
 
 -- Ended
 abbrev pub ended_message_in : Fields → Result Speech RowKind
 ended_message_in fields =
-    and_then (message_call_in fields) (λ call. message_when_blank (is_blank fields 5 && is_blank fields 6 && is_blank fields 7 && is_blank fields 8) (of_switch call (alone (codes "Ended"))))
+    and_then (message_call_in fields) (λ call. when_blank (is_blank fields 5 && is_blank fields 6 && is_blank fields 7 && is_blank fields 8) (of_switch call (alone (codes "Ended"))))
 
 -- Recharge, which has no call: x1 is the account, x2 the amount, and x3 its last moment from then on, or empty
 abbrev pub recharge_message_in : Fields → Result Speech RowKind
 recharge_message_in fields =
     and_then (account_in fields 5) (λ account. and_then (amount_in fields 6) (λ amount. and_then (until_in fields 7) (λ until.
-    message_when_blank (is_blank fields 2 && is_blank fields 8) (record {
+    when_blank (is_blank fields 2 && is_blank fields 8) (record {
       call = None;
       from = codes "operator";
       said = record (alone (codes "Recharge")) { x1 = decimal account; x2 = decimal amount; x3 = number_or_empty until };

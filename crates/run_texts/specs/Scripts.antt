@@ -3,7 +3,7 @@ use Rattle.std.specs.Prelude.{◌==◌, ◌&&◌, ◌||◌, ℕ, Bool, false, Li
 use Rattle.cap_values.specs.declared.leg.Leg.TheVariants as leg
 use Rattle.ssf_core.specs.declared.item.BcsmEvent.{BcsmEvent}
 use Rattle.ssf_core.specs.declared.item.BcsmEvent.TheVariants as bcsm
-use Rattle.table_core.specs.Fields.{has_word, is_blank, number_in}
+use Rattle.table_core.specs.Fields.{has_word, is_blank, number_in, when_blank}
 use Rattle.table_core.specs.Judging.{and_then}
 use Rattle.table_core.specs.Rows.{Fields}
 use Rattle.table_core.specs.Tables.{TableForm, table_form, table_of}
@@ -35,21 +35,17 @@ row_word_in fields =
 
 -- ---- fields; the last, z, is there under the second header alone, and empty elsewhere
 
--- what happens, where the fields that must be empty are
-abbrev pub row_when_blank : Bool → Happens → Result Happens RowKind
-row_when_blank blank what = if blank then Ok what else Err kind.Empty
-
 -- a call: any number of 64 bits
 abbrev pub call_in : List (List ℕ) → Result ℕ RowKind
 call_in fields = number_in fields 1 18446744073709551615
 
 -- a call starts: x is the calling and y the called party
 abbrev pub start_row_in : List (List ℕ) → Result Happens RowKind
-start_row_in fields = and_then (call_in fields) (λ call. and_then (party_in fields 3) (λ calling. and_then (party_in fields 4) (λ called. row_when_blank (is_blank fields 5) (Starts call calling called))))
+start_row_in fields = and_then (call_in fields) (λ call. and_then (party_in fields 3) (λ calling. and_then (party_in fields 4) (λ called. when_blank (is_blank fields 5) (Starts call calling called))))
 
 -- an event of a call that has no more to say
 abbrev pub event_row_in : List (List ℕ) → BcsmEvent → Result Happens RowKind
-event_row_in fields event = and_then (call_in fields) (λ call. row_when_blank (is_blank fields 3 && is_blank fields 4 && is_blank fields 5) (Meets call event))
+event_row_in fields event = and_then (call_in fields) (λ call. when_blank (is_blank fields 3 && is_blank fields 4 && is_blank fields 5) (Meets call event))
 
 -- the party that hangs up: the calling one at leg 1, the called one at leg 2
 abbrev pub leg_of : ℕ → Result BcsmEvent RowKind
@@ -57,13 +53,13 @@ leg_of number = if number == 1 then Ok (bcsm.Disconnect leg.One) else if number 
 
 -- a party of a call hangs up: x is its leg
 abbrev pub disconnect_in : List (List ℕ) → Result Happens RowKind
-disconnect_in fields = and_then (call_in fields) (λ call. and_then (number_in fields 3 2) (λ number. and_then (leg_of number) (λ event. row_when_blank (is_blank fields 4 && is_blank fields 5) (Meets call event))))
+disconnect_in fields = and_then (call_in fields) (λ call. and_then (number_in fields 3 2) (λ number. and_then (leg_of number) (λ event. when_blank (is_blank fields 4 && is_blank fields 5) (Meets call event))))
 
 -- without a call, the account x is recharged by the amount y, and z is its last moment from then on, or empty
 abbrev pub recharge_row_in : List (List ℕ) → Result Happens RowKind
 recharge_row_in fields =
     and_then (account_in fields 3) (λ account. and_then (amount_in fields 4) (λ amount. and_then (until_in fields 5) (λ until.
-    row_when_blank (is_blank fields 1) (Recharges account amount until))))
+    when_blank (is_blank fields 1) (Recharges account amount until))))
 
 -- what happens in a row with this word
 abbrev pub happens_in : List (List ℕ) → Word → Result Happens RowKind

@@ -2,13 +2,14 @@
 
 ghost use Rattle.std.specs.Prelude.{◌≡◌, ◌≤◌, All, IfOk, IfSome, OnOk, map, true};
 ghost use Rattle.std.specs.Result.{result_map_both};
-ghost use Rattle.run_texts.specs.Scripts.{judged_by, last_row_moment, script_row_at, script_of, call_in, disconnect_in, event_row_in, happens_in, leg_of, read_in, recharge_row_in, start_row_in, row_when_blank, row_word_in};
+ghost use Rattle.run_texts.specs.Scripts.{judged_by, last_row_moment, script_row_at, script_of, call_in, disconnect_in, event_row_in, happens_in, leg_of, read_in, recharge_row_in, start_row_in, row_word_in};
 ghost use Rattle.run_texts.specs.Starts.{HasCalls, NotesStart};
 ghost use Rattle.run_texts.specs.Happenings.{is_in_time};
 ghost use Rattle.run_texts.specs.Views.{rows_are_in_order, row_data, happens_of};
 ghost use Rattle.csv.specs.Records.{fields_of};
 ghost use Rattle.table_core.specs.Faults.{GivesTable};
 ghost use Rattle.table_core.specs.Rows.{rows_of};
+ghost use Rattle.table_core.specs.Fields.{when_blank};
 
 use crate::fields::{account, amount, moment_field, party, until};
 use cap_values::{Leg, Number};
@@ -277,7 +278,7 @@ fn read_disconnect(row: &ByteRecord) -> Result<Happening, RowKind>
 /// What happens, where the fields that must be empty are.
 fn when_blank(blank: bool, what: Happening) -> Result<Happening, RowKind>
     ensures says { result_map_both happens_of (λ kind. kind) result
-        ≡ row_when_blank blank (happens_of what) }
+        ≡ when_blank blank (happens_of what) }
     ensures same { IfOk result (λ made. made ≡ what) }
 {
     if blank { Ok(what) } else { Err(RowKind::Empty) }

@@ -2,8 +2,9 @@
 use Rattle.std.proofs.Common.{◌≡◌, ◌==◌, ◌++◌, ◌<◌, ◌≤◌, ℕ, Bool, true, false, Option, Some, None, List, [], ◌∷◌, inl, inr, refl, sym, ap, ◌∙◌, append-nil, arith, subst}
 use Rattle.std.proofs.lemmas.Bool.{cases_lt, eqb-true}
 use Rattle.std.specs.Prelude.{MatchOption}
+use Rattle.std.specs.Result.{result_err}
 use Rattle.cap_values.specs.declared.number.Number.{Number}
-use Rattle.ssf_core.specs.Calls.{RunsUntil, Stands, View, fault_in}
+use Rattle.ssf_core.specs.Calls.{RunsUntil, Stands, View}
 use Rattle.ssf_core.specs.Happenings.{Happening, sent_in}
 use Rattle.ssf_core.specs.Inputs.{meets, operates}
 use Rattle.ssf_core.specs.Rules.{on_input}
@@ -54,8 +55,8 @@ grown call given before after sent same sends = items_of-own call given sent ∙
 
 -- the fault by which the rules refuse an input
 abbrev pub table_fault : SsfConfig → ℕ → Input → List Happening → Option SsfFault
-table_fault config now (what.Operate op) timed = fault_in (on_input timed (phase_after config timed) now (operates op))
-table_fault config now (what.Meet event) timed = fault_in (on_input timed (phase_after config timed) now (meets event))
+table_fault config now (what.Operate op) timed = result_err (on_input timed (phase_after config timed) now (operates op))
+table_fault config now (what.Meet event) timed = result_err (on_input timed (phase_after config timed) now (meets event))
 table_fault config now what.Wait timed = None
 
 -- a trace whose timers have run, which a gsmSSF stands for once it was given an input

@@ -3,6 +3,7 @@ use Rattle.std.proofs.Common.{◌≡◌, ◌==◌, ◌+◌, ◌<◌, ◌≤◌, 
 use Rattle.std.proofs.lemmas.Bool.{eqb-true}
 use Rattle.std.proofs.lemmas.List.{take_more}
 use Rattle.std.proofs.lemmas.List.Elements.{filter-append}
+use Rattle.std.specs.Option.{option_or}
 use Rattle.cap_values.specs.declared.number.Number.{Number}
 use Rattle.run_texts.specs.declared.script.Happening.{Happening}
 use Rattle.run_texts.specs.declared.script.Happening.TheVariants as happening
@@ -11,7 +12,7 @@ use Rattle.run_values.specs.declared.post.Body.{Body}
 use Rattle.run_values.specs.declared.post.Body.TheVariants as body
 use Rattle.script_player.specs.Networks.{Grows, Shown}
 use Rattle.script_player.specs.Playing.{IsKept}
-use Rattle.script_player.specs.Posts.{Begins, first_item_of, initial, is_of_call, is_recharge, items_of, opening_item_of, recharge_of, recharges_in, recharge_items_of, start_item_of}
+use Rattle.script_player.specs.Posts.{Begins, initial, is_of_call, is_recharge, items_of, opening_item_of, recharge_of, recharges_in, recharge_items_of, start_item_of}
 use Rattle.script_player.specs.Rows.{Adds, AddsRow, FollowsRows, TakesRow, unless_begun}
 use Rattle.script_player.proofs.Items.{same_true}
 
@@ -49,19 +50,19 @@ recharge_items_of-append (row ∷ first) second =
 recharge_items_of-more : (rows : List ScriptRow) (at : ℕ) (what : Happening) → recharge_items_of (rows ++ record { at = at; what = what } ∷ []) ≡ recharge_items_of rows ++ recharge_of at what
 recharge_items_of-more rows at what = recharge_items_of-append rows (record { at = at; what = what } ∷ []) ∙ rw (append-nil (recharge_of at what)) refl
 
-first_item_of-none : (item : Option (ℕ × Body)) → first_item_of item None ≡ item
-first_item_of-none None = refl
-first_item_of-none (Some item) = refl
+option_or-none : (item : Option (ℕ × Body)) → option_or item None ≡ item
+option_or-none None = refl
+option_or-none (Some item) = refl
 
-first_item_of-assoc : (one two three : Option (ℕ × Body)) → first_item_of one (first_item_of two three) ≡ first_item_of (first_item_of one two) three
-first_item_of-assoc None two three = refl
-first_item_of-assoc (Some item) two three = refl
+option_or-assoc : (one two three : Option (ℕ × Body)) → option_or one (option_or two three) ≡ option_or (option_or one two) three
+option_or-assoc None two three = refl
+option_or-assoc (Some item) two three = refl
 
 opening_item_of-more : (call : ℕ) (rows : List ScriptRow) (at : ℕ) (what : Happening)
-    → opening_item_of call (rows ++ record { at = at; what = what } ∷ []) ≡ first_item_of (opening_item_of call rows) (start_item_of call at what)
-opening_item_of-more call [] at what = first_item_of-none (start_item_of call at what)
+    → opening_item_of call (rows ++ record { at = at; what = what } ∷ []) ≡ option_or (opening_item_of call rows) (start_item_of call at what)
+opening_item_of-more call [] at what = option_or-none (start_item_of call at what)
 opening_item_of-more call (row ∷ rows) at what =
-    rw (opening_item_of-more call rows at what) (first_item_of-assoc (start_item_of call row.at row.what) (opening_item_of call rows) (start_item_of call at what))
+    rw (opening_item_of-more call rows at what) (option_or-assoc (start_item_of call row.at row.what) (opening_item_of call rows) (start_item_of call at what))
 
 -- ---- what was given still follows them
 
@@ -94,36 +95,36 @@ recharges_in-unless call at calling called (first ∷ items) = refl
 
 -- a call starts: it begins by this item, unless it has begun
 begins_own : (opening : Option (ℕ × Body)) (call : ℕ) (given : List (ℕ × Body)) (item : ℕ × Body) → items_of call (item ∷ []) ≡ item ∷ [] → Begins opening (items_of call given)
-    → Begins (first_item_of opening (Some item)) (items_of call (given ++ unless_begun (items_of call given) item))
+    → Begins (option_or opening (Some item)) (items_of call (given ++ unless_begun (items_of call given) item))
 begins_own None call given item own begun =
     rw begun ([], filter-append (λ (other : ℕ × Body). is_of_call call other.1) given (item ∷ []) ∙ rw (begun, own) refl)
 begins_own (Some first) call given item own begun =
     rw begun.1 (begun.0, ap (items_of call) (append-nil given) ∙ begun.1)
 
 begins_other : (opening : Option (ℕ × Body)) (other call at : ℕ) (calling called : Number) (given : List (ℕ × Body)) → (other == call) ≡ false → Begins opening (items_of call given)
-    → Begins (first_item_of opening None) (items_of call (given ++ unless_begun (items_of other given) (initial at other calling called)))
+    → Begins (option_or opening None) (items_of call (given ++ unless_begun (items_of other given) (initial at other calling called)))
 begins_other opening other call at calling called given apart begun =
     let same : items_of call (given ++ unless_begun (items_of other given) (initial at other calling called)) ≡ items_of call given =
     filter-append (λ (item : ℕ × Body). is_of_call call item.1) given (unless_begun (items_of other given) (initial at other calling called))
     ∙ rw (items_of-unless other call at calling called (items_of other given) apart) (append-nil (items_of call given)) in
-    rw (first_item_of-none opening, same) begun
+    rw (option_or-none opening, same) begun
 
 begins_started : (here : Bool) (opening : Option (ℕ × Body)) (other call at : ℕ) (calling called : Number) (given : List (ℕ × Body)) → (other == call) ≡ here → Begins opening (items_of call given)
-    → Begins (first_item_of opening (start_item_of call at (happening.Start other calling called))) (items_of call (given ++ unless_begun (items_of other given) (initial at other calling called)))
+    → Begins (option_or opening (start_item_of call at (happening.Start other calling called))) (items_of call (given ++ unless_begun (items_of other given) (initial at other calling called)))
 begins_started true opening other call at calling called given is begun =
-    let P : ℕ → Type 0 = λ o. Begins (first_item_of opening (Some (initial at call calling called))) (items_of call (given ++ unless_begun (items_of o given) (initial at o calling called))) in
+    let P : ℕ → Type 0 = λ o. Begins (option_or opening (Some (initial at call calling called))) (items_of call (given ++ unless_begun (items_of o given) (initial at o calling called))) in
     let own : items_of call (initial at call calling called ∷ []) ≡ initial at call calling called ∷ [] = rw (same_true call) refl in
     rw is (subst P (sym (eqb-true other call is)) (begins_own opening call given (initial at call calling called) own begun))
 begins_started false opening other call at calling called given is begun = rw is (begins_other opening other call at calling called given is begun)
 
 begun_row : (taken : List ScriptRow) (before after : Shown) (at : ℕ) (what : Happening) (call : ℕ) → AddsRow before after at what → Begins (opening_item_of call taken) (items_of call before.given)
-    → Begins (first_item_of (opening_item_of call taken) (start_item_of call at what)) (items_of call after.given)
+    → Begins (option_or (opening_item_of call taken) (start_item_of call at what)) (items_of call after.given)
 begun_row taken before after at (happening.Start other calling called) call adds begun =
     rw adds (begins_started _ (opening_item_of call taken) other call at calling called before.given refl begun)
 begun_row taken before after at (happening.Meets other event) call adds begun =
-    rw (first_item_of-none (opening_item_of call taken)) (begins_on (opening_item_of call taken) call before after adds begun)
+    rw (option_or-none (opening_item_of call taken)) (begins_on (opening_item_of call taken) call before after adds begun)
 begun_row taken before after at (happening.Recharge account amount until) call adds begun =
-    rw (first_item_of-none (opening_item_of call taken), adds, items_of-recharged call before.given at account amount until) begun
+    rw (option_or-none (opening_item_of call taken), adds, items_of-recharged call before.given at account amount until) begun
 
 recharged_row : (before after : Shown) (at : ℕ) (what : Happening) → AddsRow before after at what → recharges_in after.given ≡ recharges_in before.given ++ recharge_of at what
 recharged_row before after at (happening.Start call calling called) adds =

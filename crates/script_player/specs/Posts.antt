@@ -1,5 +1,6 @@
 -- The items of a run: the messages of its gsmSSFs, and recharges.
 use Rattle.std.specs.Prelude.{◌≡◌, ◌==◌, ◌++◌, ℕ, Bool, true, false, Option, Some, None, List, [], ◌∷◌, filter, if◌then◌else◌}
+use Rattle.std.specs.Option.{option_or}
 use Rattle.cap_values.specs.declared.message.SsfMsg.TheVariants as message
 use Rattle.cap_values.specs.declared.number.Number.{Number}
 use Rattle.run_texts.specs.declared.script.Happening.{Happening}
@@ -61,15 +62,10 @@ start_item_of call at (happening.Start other calling called) = if other == call 
 start_item_of call at (happening.Meets other event) = None
 start_item_of call at (happening.Recharge account amount until) = None
 
--- the first of two, where there is one
-abbrev pub first_item_of : Option (ℕ × Body) → Option (ℕ × Body) → Option (ℕ × Body)
-first_item_of None second = second
-first_item_of (Some item) second = Some item
-
 -- the item by which a call begins: that of the first row that starts it
 abbrev pub opening_item_of : ℕ → List ScriptRow → Option (ℕ × Body)
 opening_item_of call [] = None
-opening_item_of call (row ∷ rows) = first_item_of (start_item_of call row.at row.what) (opening_item_of call rows)
+opening_item_of call (row ∷ rows) = option_or (start_item_of call row.at row.what) (opening_item_of call rows)
 
 -- items begin with this one; there are none where there is none to begin with
 abbrev pub Begins : Option (ℕ × Body) → List (ℕ × Body) → Type 0

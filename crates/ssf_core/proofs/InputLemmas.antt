@@ -4,7 +4,7 @@ use Rattle.std.specs.Prelude.{IsSome}
 use Rattle.std.specs.Result.{result_err, result_unwrap_or}
 use Rattle.cap_values.specs.declared.charge.Charge.{Charge}
 use Rattle.cap_values.specs.declared.operation.ScfOp.TheVariants.{ApplyCharging}
-use Rattle.ssf_core.specs.Calls.{fault_in, with_input}
+use Rattle.ssf_core.specs.Calls.{with_input}
 use Rattle.ssf_core.specs.Happenings.{Happening, Took, What, sent_at, sent_in}
 use Rattle.ssf_core.specs.Quantities.{pending, started_switch}
 use Rattle.ssf_core.specs.Stages.{IsQuiet, passed_switch, started, switch_due_of}
@@ -44,7 +44,7 @@ follows_after {now = now} {before = before} first effect is follows = record {
 
 -- what an input leaves of a stage that stands for a trace
 pub record Taken (config : SsfConfig) (now : ℕ) (s : Stage) (t : List Happening) (input : Input) (before : List Out) (o : Result Effect SsfFault) (result : Result Stage SsfFault) (outs : List Out) : Type 0 where
-  pub refused : result_err result ≡ fault_in o
+  pub refused : result_err result ≡ result_err o
   pub stands : StageStands config now (result_unwrap_or result s) (with_input now input t o)
   pub sends : sent_in (with_input now input t o) ≡ before ++ outs
 

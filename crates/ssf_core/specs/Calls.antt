@@ -1,5 +1,6 @@
 -- What a call of the gsmSSF does to the traces that it stands for.
 use Rattle.std.specs.Prelude.{◌≡◌, ◌++◌, ◌<◌, ◌≤◌, ℕ, Option, Some, None, Result, Ok, Err, List, [], ◌∷◌}
+use Rattle.std.specs.Result.{result_err}
 use Rattle.ssf_core.specs.Happenings.{Happening, What, Took, Expired, sent_in}
 use Rattle.ssf_core.specs.Quantities.{last_happening_moment}
 use Rattle.ssf_core.specs.Stands.{StageStands}
@@ -46,11 +47,6 @@ abbrev pub with_input : ℕ → Input → List Happening → Result Effect SsfFa
 with_input now input trace (Ok effect) = record { at = now; what = Took input; sent = effect.sent } ∷ trace
 with_input now input trace (Err fault) = trace
 
--- the fault of an input that the rules refuse
-abbrev pub fault_in : Result Effect SsfFault → Option SsfFault
-fault_in (Ok effect) = None
-fault_in (Err fault) = Some fault
-
 -- time passes: the timers run, and what they send is sent
 pub record Advances (before after : View) (now : ℕ) (trace : List Happening) (sent : List Out) : Type 0 where
   pub timed : List Happening
@@ -62,7 +58,7 @@ pub record Advances (before after : View) (now : ℕ) (trace : List Happening) (
 pub record TakesAt (before after : View) (now : ℕ) (input : Input) (trace : List Happening) (sent : List Out) (fault : Option SsfFault) : Type 0 where
   pub timed : List Happening
   pub runs : RunsUntil before.config now trace timed
-  pub refused : fault ≡ fault_in (on_input timed (phase_after before.config timed) now input)
+  pub refused : fault ≡ result_err (on_input timed (phase_after before.config timed) now input)
   pub stands : Stands after (with_input now input timed (on_input timed (phase_after before.config timed) now input))
   pub sends : sent_in (with_input now input timed (on_input timed (phase_after before.config timed) now input)) ≡ sent_in trace ++ sent
 

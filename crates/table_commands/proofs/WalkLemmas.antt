@@ -3,6 +3,8 @@ use Rattle.std.proofs.Common.{◌≡◌, ◌∙◌, ◌+◌, ◌<◌, ◌≤◌,
 use Rattle.std.specs.Prelude.{if◌then◌else◌, ◌==◌}
 use Rattle.std.proofs.lemmas.List.{take-append-drop}
 use Rattle.std.proofs.lemmas.Bool.Decides.{nat_tests}
+use Rattle.rating.proofs.RecordCuts.{between_ends}
+use Rattle.rating.specs.Cuts.{IsBetween}
 use Rattle.csv.specs.Machine.{ends_at_end, field_after, fields_after, is_end, next_record, step}
 use Rattle.csv.specs.Reading.{default_config, records, records_from, records_next}
 use Rattle.csv.specs.declared.parser.Action.{Action}
@@ -11,7 +13,7 @@ use Rattle.csv.specs.declared.parser.State.{State}
 use Rattle.csv.specs.declared.parser.State.TheVariants as st
 use Rattle.table_core.specs.Rows.{Fields}
 use Rattle.table_commands.specs.RowStarts.{BeginsLine, is_line_end}
-use Rattle.table_commands.specs.Walks.{BeginsRowBehind, HasFewerBehind, HasAtHand, HasWalked, IsBetweenRows, IsPlace, StepsMachine, begins_row, ends_row, met_at, rows_after}
+use Rattle.table_commands.specs.Walks.{BeginsRowBehind, HasFewerBehind, HasAtHand, HasWalked, IsPlace, StepsMachine, begins_row, ends_row, met_at, rows_after}
 use Rattle.table_commands.specs.declared.explanations.walk.Place.{Place}
 use Rattle.table_commands.specs.declared.explanations.walk.Place.TheVariants as place
 
@@ -83,7 +85,7 @@ module _ (from : Place) (n : ℕ) (front : List ℕ) (c : ℕ) (walked : HasWalk
   }
 
   -- to the end of a row
-  to_end : IsBetweenRows (step default_config walked.state c).0 → is_end (step default_config walked.state c).1 ≡ true
+  to_end : IsBetween (step default_config walked.state c).0 → is_end (step default_config walked.state c).1 ≡ true
       → HasWalked (record { place = place.Between; above = n + 1 }) (front ++ c ∷ [])
   to_end between is = record {
     state = (step default_config walked.state c).0;
@@ -167,27 +169,23 @@ goes_as from to n above front c ended is above_is steps walked = rw (above_is, i
 
 -- ---- where a row begins
 
-between_ends : (s : State) → IsBetweenRows s → ends_at_end s ≡ false
-between_ends s (inl is) = rw is refl
-between_ends s (inr is) = rw is refl
-
-nothing_after : (s : State) (fields : Fields) (field : List ℕ) → IsBetweenRows s → rows_after s fields field [] ≡ []
+nothing_after : (s : State) (fields : Fields) (field : List ℕ) → IsBetween s → rows_after s fields field [] ≡ []
 unfolding rows_after
 nothing_after s fields field between = rw (between_ends s between) refl
 
 no_feed : (c : ℕ) → is_line_end c ≡ false → (c == 10) ≡ false
 no_feed c is = grind (arith, nat_tests)
 
-begins_alike : (s : State) (c : ℕ) → IsBetweenRows s → is_line_end c ≡ false → step default_config s c ≡ step default_config st.StartRecord c
+begins_alike : (s : State) (c : ℕ) → IsBetween s → is_line_end c ≡ false → step default_config s c ≡ step default_config st.StartRecord c
 begins_alike s c (inl is) other = rw is refl
 begins_alike s c (inr is) other = rw (is, no_feed c other) refl
 
-begins_row_alike : (s : State) (text : List ℕ) → IsBetweenRows s → BeginsLine text → rows_after s [] [] text ≡ rows_after st.StartRecord [] [] text
+begins_row_alike : (s : State) (text : List ℕ) → IsBetween s → BeginsLine text → rows_after s [] [] text ≡ rows_after st.StartRecord [] [] text
 unfolding rows_after
 begins_row_alike s [] between begins = absurd begins
 begins_row_alike s (c ∷ rest) between begins = rw (begins_alike s c between begins) refl
 
-none_left : (s : State) (fields : Fields) (field : List ℕ) → IsBetweenRows s → HasAtHand place.Between fields field → rows_after s fields field ≡ rows_after s [] []
+none_left : (s : State) (fields : Fields) (field : List ℕ) → IsBetween s → HasAtHand place.Between fields field → rows_after s fields field ≡ rows_after s [] []
 none_left s fields field between none = rw (none.0, none.1) refl
 
 pub begun : (n row at : ℕ) (text : List ℕ) → HasWalked (record { place = place.Between; above = n }) (take at text) → n + 1 ≡ row → BeginsLine (drop at text)

@@ -1,5 +1,6 @@
 -- A walk through a table by the machine of `csv`.
-use Rattle.std.specs.Prelude.{◌≡◌, ◌≤◌, ◌<◌, ◌⊎◌, ◌++◌, ◌∷◌, ℕ, Bool, true, false, List, [], length, take, drop, ⊤, ◌+◌, if◌then◌else◌}
+use Rattle.std.specs.Prelude.{◌≡◌, ◌≤◌, ◌<◌, ◌++◌, ◌∷◌, ℕ, Bool, true, false, List, [], length, take, drop, ⊤, ◌+◌, if◌then◌else◌}
+use Rattle.rating.specs.Cuts.{IsBetween}
 use Rattle.csv.specs.Machine.{ends_at_end, field_after, fields_after, is_end, step}
 use Rattle.csv.specs.Reading.{default_config, records, strip_bom}
 use Rattle.csv.specs.declared.parser.Action.{Action}
@@ -12,13 +13,9 @@ use Rattle.table_commands.specs.declared.explanations.walk.Place.{Place}
 use Rattle.table_commands.specs.declared.explanations.walk.Place.TheVariants as place
 use Rattle.table_commands.specs.declared.explanations.walk.Walk.{Walk}
 
--- the machine is between two rows, whatever ended the first
-abbrev pub IsBetweenRows : State → Type 0
-IsBetweenRows s = (s ≡ st.StartRecord) ⊎ (s ≡ st.AfterCr)
-
 -- the machine is in the state of a place
 abbrev pub IsPlace : Place → State → Type 0
-IsPlace place.Between s = IsBetweenRows s
+IsPlace place.Between s = IsBetween s
 IsPlace place.StartField s = s ≡ st.StartField
 IsPlace place.InField s = s ≡ st.InField
 IsPlace place.InQuoted s = s ≡ st.InQuoted
@@ -32,7 +29,7 @@ ends_row from to = false
 
 -- what the machine does at a byte from a place to the next: the end of a line between two rows is passed over, and else a row ends or goes on
 abbrev pub IsStep : Place → Place → State × Action → Type 0
-IsStep place.Between place.Between next = IsBetweenRows next.0 × (next.1 ≡ act.Skip)
+IsStep place.Between place.Between next = IsBetween next.0 × (next.1 ≡ act.Skip)
 IsStep from to next = IsPlace to next.0 × (is_end next.1 ≡ ends_row from to)
 
 -- the rows that come of a text, from a state of the machine with the fields and the bytes of the field at hand

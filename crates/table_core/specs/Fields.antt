@@ -16,8 +16,12 @@ is_empty_field field = length field == 0
 abbrev pub number_in_field : ℕ → List ℕ → Result ℕ RowKind
 number_in_field most field = ok_or (decimal_of most field) kind.Number
 
+-- what was read, where all fields that must be empty are
+abbrev pub when_blank : {X : Type 0} → Bool → X → Result X RowKind
+when_blank blank read = if blank then Ok read else Err kind.Empty
+
 -- a number where there is one
-abbrev pub present : Result ℕ RowKind → Result (Option ℕ) RowKind
+abbrev pub present : {K : Type 0} → Result ℕ K → Result (Option ℕ) K
 present (Ok number) = Ok (Some number)
 present (Err why) = Err why
 
