@@ -2,8 +2,9 @@
 """Looks whether docs/PROOFS.md names what there is, and whether each lemma is used: tests/proofs_test.py
 
 Each name in backquotes is a name of the code, of specs, proofs or tests. Where a function, a type or a record is in
-front of a colon, what is behind it are its own clauses or fields; where a clause is, they are definitions. What specs
-or proofs define is named somewhere else too, besides what only brings it into a file.
+front of a colon, what is behind it are its own clauses or fields; where a clause is, they are definitions.
+
+A lemma or a definition is used where its name is outside its own type, its equations, comments and `use` lines.
 """
 import glob
 import os
@@ -21,7 +22,7 @@ WORD = re.compile(r"[A-Za-z_]\w*")
 OWNER = re.compile(r"(?:pub(?:\(crate\))? )?(?:impl(?:<.*?>)? (?:[\w<>:', ]+ for )?|trait |struct |enum )(\w+)")
 FUNCTION = re.compile(r"\s*(?:pub(?:\(crate\))? )?fn (\w+)")
 CLAUSE = re.compile(r"\s*(?:ensures|requires) (\w+) \{|\s*(?:pub )?ghost (\w+)(?: =|:)")
-# What names nothing that it uses: comments, and what is brought into a file.
+# Comments and `use` lines, which use no lemma.
 BROUGHT = re.compile(r"--.*|^ *(?:pub )?use .*|^ *ghost use [^;]*;", re.MULTILINE)
 LEMMA = re.compile(r"^((?:  (?=pub))?)(?:abbrev )?(?:pub )?([A-Za-z_][\w'-]*) :(?: |$)", re.MULTILINE)
 LEMMA_NAME = re.compile(r"[A-Za-z_][\w'-]*")
