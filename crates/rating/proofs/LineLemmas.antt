@@ -169,7 +169,7 @@ pub minus : (now : List ℕ) (number : ℕ) → number < 18446744073709551616 �
 minus now number small =
     append_assoc now (codes "-") (cell (decimal number)) ∙ ap (λ l. now ++ l) (ap (λ l. codes "-" ++ l) (sym (decimal_cell number small)) ∙ minus_cell number small)
 
--- the same, of a text that was appended by another
+-- where all went well the text is one, which is all
 pub then_to : {X E : Type 0} (answer : Result X E) (new one all : List ℕ) → OnOk answer (new ≡ one) → one ≡ all → OnOk answer (new ≡ all)
 then_to (Ok done) new one all is same = is ∙ same
 then_to (Err why) new one all is same = tt

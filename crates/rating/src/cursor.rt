@@ -80,8 +80,8 @@ pub(crate) enum Cursor {
 impl Cursor {
     /// The cursor behind a byte, and what is passed on for it.
     fn next(self, byte: u8) -> (Cursor, Option<u8>)
-        ensures { (rest : List ℕ)
-            → passed_text self (byte ∷ rest) ≡ option_to_list result.1 ++ passed_text result.0 rest }
+        ensures { (rest : List ℕ) → passed_text self (byte ∷ rest)
+            ≡ option_to_list result.1 ++ passed_text result.0 rest }
     {
         match (self, byte) {
             (Cursor::Start, 0xEF) => (Cursor::FirstMark, Some(byte)),

@@ -1,4 +1,4 @@
--- A number above 32 bits is out of the range of every time, and so is the greatest number of 32 bits.
+-- A number above 32 bits counts as the greatest number of 32 bits.
 use Rattle.std.proofs.Common.{◌≡◌, ◌≤◌, ℕ, Bool, true, false, List, Option, Some, None, refl, ap, min, arith}
 use Rattle.std.specs.Prelude.{option_map, unwrap_or, nat_le, if◌then◌else◌}
 use Rattle.std.proofs.lemmas.Bool.Decides.{nat_tests}
