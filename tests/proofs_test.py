@@ -95,10 +95,15 @@ def unused_lemmas(crates):
     texts = {path: BROUGHT.sub("", "\n".join(lines_of(path))) for path in paths}
     named = Counter(name for text in texts.values() for name in LEMMA_NAME.findall(text))
     for path, text in texts.items():
-        for indent, name in LEMMA.findall(text) if path.endswith(".antt") else []:
-            equations = len(re.findall(rf"^{indent}{re.escape(name)}(?= |$)(?! :)", text, re.MULTILINE))
-            # A field of a record has no equation, and may be there to be read.
-            if equations and named[name] == 1 + equations:
+        for it in LEMMA.finditer(text) if path.endswith(".antt") else []:
+            indent, name = it.groups()
+            equation = rf"{indent}{re.escape(name)} (?!:).*\n"
+            # Its type, its equations, and what is further in than they are.
+            own = re.compile(rf".*\n(?:{indent} +.*\n|{equation}|{indent}unfolding .*\n| *\n)*")
+            lemma = own.match(text + "\n", it.start())[0]
+            # The prover asks for answers to goals. A field of a record has no equation, and may be there to be read.
+            is_asked_for = f"goal.{name}" in lemma or not re.search(rf"^{equation}", lemma, re.MULTILINE)
+            if not is_asked_for and named[name] == LEMMA_NAME.findall(lemma).count(name):
                 yield f"{path}: nothing uses {name}"
 
 
