@@ -12,8 +12,6 @@ use Rattle.run_texts.specs.Sections.{with_first_byte, is_divider, lines_in_text}
 use Rattle.run_texts.specs.declared.input_fault.InputFault.{InputFault}
 use Rattle.run_texts.specs.declared.input_fault.InputFault.TheVariants as fault
 
--- ---- readers
-
 -- ---- the first line
 
 pub first_line : (ends : Bool) (c : ℕ) (text : List ℕ)

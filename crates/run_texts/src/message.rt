@@ -5,9 +5,8 @@ ghost use Rattle.std.specs.Result.{result_map_both};
 ghost use Rattle.run_texts.specs.Messages.{message_call_in, charging_report_in, ended_message_in, event_report_in, initial_in, interval_in, leg_in, message_in, report_without_switch, recharge_message_in, speech_in, speech_of, report_with_switch};
 ghost use Rattle.run_texts.specs.MessageViews.{leg_number_of, view_of};
 ghost use Rattle.csv.specs.Records.{fields_of};
-ghost use Rattle.table_core.specs.Fields.{when_blank};
 
-use crate::fields::{account, amount, moment_field, party, until};
+use crate::fields::{account, amount, moment_field, party, until, when_blank};
 use crate::words::{Word, read_word};
 use cap_values::{Event, Leg, Mode, SsfMsg};
 use csv::ByteRecord;
@@ -169,12 +168,4 @@ fn read_recharge(row: &ByteRecord) -> Result<Body, RowKind>
         until,
     };
     when_blank(is_blank(row, 2) && is_blank(row, 8), recharge)
-}
-
-/// What is said, where the fields that must be empty are.
-fn when_blank(blank: bool, body: Body) -> Result<Body, RowKind>
-    ensures { result_map_both speech_of (λ kind. kind) result ≡ when_blank blank
-        (speech_of body) }
-{
-    if blank { Ok(body) } else { Err(RowKind::Empty) }
 }

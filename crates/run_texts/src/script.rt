@@ -9,9 +9,8 @@ ghost use Rattle.run_texts.specs.Views.{rows_are_in_order, row_data, happens_of}
 ghost use Rattle.csv.specs.Records.{fields_of};
 ghost use Rattle.table_core.specs.Faults.{GivesTable};
 ghost use Rattle.table_core.specs.Rows.{rows_of};
-ghost use Rattle.table_core.specs.Fields.{when_blank};
 
-use crate::fields::{account, amount, moment_field, party, until};
+use crate::fields::{account, amount, moment_field, party, until, when_blank};
 use cap_values::{Leg, Number};
 use csv::ByteRecord;
 use price_core::MAX_MOMENT;
@@ -273,15 +272,6 @@ fn read_disconnect(row: &ByteRecord) -> Result<Happening, RowKind>
     let event = disconnect(leg)?;
     let blank = is_blank(row, 4) && is_blank(row, 5);
     when_blank(blank, Happening::Meets { call, event })
-}
-
-/// What happens, where the fields that must be empty are.
-fn when_blank(blank: bool, what: Happening) -> Result<Happening, RowKind>
-    ensures says { result_map_both happens_of (λ kind. kind) result
-        ≡ when_blank blank (happens_of what) }
-    ensures same { IfOk result (λ made. made ≡ what) }
-{
-    if blank { Ok(what) } else { Err(RowKind::Empty) }
 }
 
 fn disconnect(leg: u64) -> Result<BcsmEvent, RowKind>
