@@ -15,7 +15,7 @@ rustc --edition 2021 -O -o "$work/plain" bench/plain_contend.rs
 
 # The proved program is built in a repository of its own, so that the gate needn't prove it. Its
 # source has another ending, since the gate refuses a .rt file that is in no crate.
-below="rising_map price_core account_core shared_account turn_account locked_account"
+below="price_core account_core turn_account locked_account"
 repository="$work/repository"
 program="$repository/crates/contend"
 mkdir -p "$program/src" "$program/proofs/seat_all"
@@ -24,7 +24,7 @@ for crate in $below; do
     cp -a "crates/$crate" "$repository/crates"
     grep "^$crate:" crates.txt >> "$repository/crates.txt"
 done
-echo "contend: price_core account_core shared_account turn_account locked_account" >> "$repository/crates.txt"
+echo "contend: price_core account_core turn_account locked_account" >> "$repository/crates.txt"
 cp bench/contend.rattle "$program/src/main.rt"
 cat > "$program/proofs/seat_all/Invariants.antt" <<'PROOF'
 use Rattle.std.proofs.Common.{◌≡◌}

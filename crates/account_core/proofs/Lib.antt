@@ -18,3 +18,11 @@ pub mod Sums
 pub mod Tallying
 pub mod Verdicts
 pub mod Walking
+pub mod RisingLemmas
+pub mod Beginnings
+pub mod Knowing
+pub mod Numbering
+pub mod OwnData
+pub mod Owning
+pub mod Refusing
+pub mod ReplyKinds

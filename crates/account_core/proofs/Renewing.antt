@@ -6,7 +6,7 @@ use Rattle.account_core.specs.CallStates.{Renews}
 use Rattle.account_core.specs.declared.call_states.CallStates.{CallStates}
 use Rattle.account_core.specs.declared.call_state.CallState.{CallState}
 use Rattle.account_core.specs.declared.call_state.CallState.TheVariants.{Fresh}
-use Rattle.rising_map.proofs.RisingLemmas.{kept_of}
+use Rattle.account_core.proofs.RisingLemmas.{kept_of}
 
 pub renews : (old new : CallStates) (call : ℕ) (state : CallState) → new.calls ≡ insert_entry nat_cmp old.calls call state → Renews old new call state
 renews old new call state is other = kept_of old.calls new.calls call state other Fresh is

@@ -8,8 +8,7 @@ ghost use Rattle.account_core.specs.Kept.{known_of};
 ghost use Rattle.account_core.specs.Sums.{AreSums, sum_of, sums_known};
 
 use crate::call_state::CallState;
-use crate::{CallSum, Fate};
-use rising_map::{Listing, RisingMap};
+use crate::{CallSum, Fate, Listing, RisingMap};
 use std::alloc::{AllocError, Global};
 use std::collections::BTreeMap;
 

@@ -3,6 +3,7 @@
 
 ghost use Rattle.std.specs.Prelude.{◌≡◌, ◌^◌};
 ghost use Rattle.account_core.specs.Laws.{AnswersFitTheirOperations, ClosedCallsPayTheTariff, EntriesAreInRange, NoBalanceIsNegative, NothingIsGrantedLate, SettlesKeepTheCredit, TimesAreReported};
+ghost use Rattle.account_core.specs.Kinds.{RefusalsAreOfTheirKind};
 ghost use Rattle.account_core.specs.Sound.{LegalPastsAreSound, SoundPastsAnswer};
 ghost use Rattle.account_core.specs.TariffLaws.{TariffLaws};
 ghost use Rattle.account_core.specs.SharingLaws.{AccountsHaveNoGate, EachIsOwedItsShare, EntriesOweToTheirCalls};
@@ -84,6 +85,14 @@ pub fn places_go_with_entries()
 pub fn accounts_have_no_gate()
     ensures { AccountsHaveNoGate }
 {}
+
+/// What an account refuses an operation with is a fault of a kind that the operation has, and never
+/// `GateClosed`.
+pub fn refusals_are_of_their_kind()
+    ensures { RefusalsAreOfTheirKind }
+{
+    accounts_have_no_gate();
+}
 
 /// The limits of a history in plain numbers.
 pub fn limits_in_numbers()

@@ -10,7 +10,7 @@ use Rattle.std.specs.declared.cmp.Ordering.TheVariants.{Less}
 use Rattle.account_core.specs.Sums.{AreSums, sum_in}
 use Rattle.account_core.specs.declared.call_sum.CallSum.{CallSum}
 use Rattle.account_core.specs.declared.call_sum.Fate.TheVariants as fate
-use Rattle.shared_account.specs.Closed.{Closed}
+use Rattle.account_core.specs.Closed.{Closed}
 use Rattle.book_texts.specs.RunTexts.{line_in, call_line_of, call_lines_of}
 use Rattle.book_texts.specs.declared.lines.CallLine.{CallLine}
 

@@ -6,7 +6,7 @@ use Rattle.std.proofs.lemmas.List.Elements.{filter-append, filter_map-append}
 use Rattle.account_core.specs.Available.{available}
 use Rattle.account_core.specs.Sums.{AreSums}
 use Rattle.account_core.specs.declared.call_sum.CallSum.{CallSum}
-use Rattle.shared_account.specs.Closed.{Closed}
+use Rattle.account_core.specs.Closed.{Closed}
 use Rattle.book_texts.proofs.CallLemmas.{calls_more}
 use Rattle.book_texts.proofs.TextLemmas.{next_item}
 use Rattle.book_texts.specs.RunTexts.{AreLinesOf, LinesSaid, account_line, account_text, line_in, call_line_of}

@@ -9,7 +9,7 @@ use Rattle.account_core.specs.Wrong.{IsWrong, response as response_after, reply_
 use Rattle.account_core.specs.declared.entry.Reply.{Reply}
 use Rattle.account_core.specs.declared.fault.AccountFault.{AccountFault}
 use Rattle.table_core.specs.Rows.{Fields}
-use Rattle.rising_map.proofs.RisingLemmas.{looked_up_at}
+use Rattle.account_core.proofs.RisingLemmas.{looked_up_at}
 use Rattle.book_texts.specs.Audits.{HasVerdict}
 use Rattle.book_texts.specs.Books.{Books, Booked, books_of, account_so_far, books_with_entry, with_opening}
 use Rattle.book_texts.specs.Checks.{HaveVerdicts, HasItsVerdict, NotesEntry, wrong_of}

@@ -5,7 +5,7 @@ use Rattle.std.specs.List.{AllZip, flat_map, list_all}
 use Rattle.account_core.specs.Answers.{IsLegal}
 use Rattle.account_core.specs.Available.{available}
 use Rattle.account_core.specs.Checked.{entries_counted}
-use Rattle.shared_account.specs.Closed.{Closed}
+use Rattle.account_core.specs.Closed.{Closed}
 use Rattle.table_core.specs.Faults.{RefusesTable}
 use Rattle.table_core.specs.Rows.{Fields}
 use Rattle.table_core.specs.declared.fault.RowFault.{RowFault}

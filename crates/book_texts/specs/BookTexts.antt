@@ -5,7 +5,7 @@ use Rattle.std.specs.List.{flat_map, list_any}
 use Rattle.account_core.specs.Asked.{Asked, Reserves}
 use Rattle.account_core.specs.Entries.{EntryData}
 use Rattle.price_core.specs.Rates.{has_steps}
-use Rattle.shared_account.specs.Closed.{Closed}
+use Rattle.account_core.specs.Closed.{Closed}
 use Rattle.book_texts.specs.Columns.{Answer, Operation, reply_fields, answer_text, no_answer, opening_columns, operation_of, operation_text}
 use Rattle.book_texts.specs.declared.version.Version.{Version}
 use Rattle.book_texts.specs.declared.version.Version.TheVariants as version

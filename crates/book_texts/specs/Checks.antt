@@ -11,7 +11,7 @@ use Rattle.account_core.specs.Wrong.{IsWrong}
 use Rattle.account_core.specs.declared.entry.Reply.{Reply}
 use Rattle.account_core.specs.declared.fault.AccountFault.{AccountFault}
 use Rattle.account_core.specs.declared.history_check.HistoryCheck.{HistoryCheck}
-use Rattle.rising_map.specs.Rising.{AreRising}
+use Rattle.account_core.specs.Rising.{AreRising}
 use Rattle.table_core.specs.Faults.{RefusesTable}
 use Rattle.table_core.specs.Rows.{Fields}
 use Rattle.table_core.specs.declared.fault.RowFault.{RowFault}

@@ -10,7 +10,7 @@ use Rattle.account_core.specs.Sums.{sum_of}
 use Rattle.account_core.specs.declared.call_sum.CallSum.{CallSum}
 use Rattle.account_core.specs.declared.call_sum.Fate.{Fate}
 use Rattle.account_core.specs.declared.call_sum.Fate.TheVariants as fate
-use Rattle.shared_account.specs.Closed.{Closed}
+use Rattle.account_core.specs.Closed.{Closed}
 use Rattle.book_texts.specs.declared.lines.CallLine.{CallLine}
 
 -- `account A opening O available N entries E`

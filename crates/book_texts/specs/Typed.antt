@@ -4,7 +4,7 @@ use Rattle.std.specs.List.{All}
 use Rattle.account_core.specs.Asked.{Asked, Credits, Reserves, Settles, Returns}
 use Rattle.account_core.specs.Entries.{EntryData}
 use Rattle.book_texts.specs.Fits.{FitsPlan, IsWide}
-use Rattle.shared_account.specs.Closed.{Closed}
+use Rattle.account_core.specs.Closed.{Closed}
 
 -- a call and the number of a report have 64 bits, and a plan has fees, rates, free units and steps as plans may have them
 abbrev pub IsTypedAsked : Asked → Type 0

@@ -6,11 +6,10 @@ ghost use Rattle.account_core.specs.Checked.{IsCheckOf};
 ghost use Rattle.account_core.specs.Entries.{entry_data};
 ghost use Rattle.book_texts.specs.Books.{Books, entered_in_books, opened, account_so_far};
 ghost use Rattle.book_texts.specs.Checks.{AreChecks, Comes, HaveChecks, IsHeard, ListComes, checks_by_account};
-ghost use Rattle.rising_map.specs.Rising.{AreRising};
+ghost use Rattle.account_core.specs.Rising.{AreRising};
 
-use account_core::{AccountFault, Entry, HistoryCheck, Reply};
+use account_core::{AccountFault, Entry, HistoryCheck, Reply, is_above, place_of};
 use price_core::MAX_MONEY;
-use rising_map::{is_above, place_of};
 use std::alloc::{AllocError, Global};
 use std::collections::BTreeMap;
 use std::mem;

@@ -3,11 +3,10 @@
 ghost use Rattle.std.specs.Prelude.{◌≡◌, ◌++◌, ◌∷◌, [], OnOk, IfOk, List, string_bytes, map};
 ghost use Rattle.std.specs.List.{flat_map};
 ghost use Rattle.book_texts.specs.RunTexts.{AreLinesOf, AreOrdered, IsRunText, account_text, call_line, fate_word, call_line_of};
-ghost use Rattle.shared_account.specs.Closed.{Closed};
+ghost use Rattle.account_core.specs.Closed.{Closed};
 ghost use Rattle.book_texts.specs.declared.lines.CallLine.{CallLine};
 
-use account_core::{CallSum, Fate};
-use shared_account::{Book, Summary};
+use account_core::{Book, CallSum, Fate, Summary};
 use std::alloc::{AllocError, Global};
 use std::marker::Model;
 

@@ -9,8 +9,7 @@ ghost use Rattle.book_texts.specs.Typed.{IsTyped, IsTypedAsked};
 use crate::columns::{write_answer, write_opening, write_operation};
 use crate::ranges::op_is_typed;
 use crate::version::Version;
-use account_core::{Entry, Op};
-use shared_account::Book;
+use account_core::{Book, Entry, Op};
 use std::alloc::{AllocError, Global};
 
 /// The table of these books: a header, and for each book, in order, a row of its opening and a row

@@ -1,4 +1,4 @@
-//! The tests of `shared_account`, `turn_account` and `locked_account`.
+//! The tests of accounts of several threads, of `turn_account` and of `locked_account`.
 
 mod books;
 mod forms;

@@ -4,13 +4,13 @@
 
 mod switch;
 
+use account_core::OpenGate;
 use anyhow::Result;
 use book_texts::run_lines;
 use cap_values::Number;
 use dialogue_core::ServiceConfig;
 use run_values::{OpeningCredit, RunSetup};
 use runs_core::serve;
-use shared_account::OpenGate;
 use std::alloc::Global;
 use switch::Switch;
 use tariff_core::Tariff;

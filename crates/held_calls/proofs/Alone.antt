@@ -11,9 +11,9 @@ use Rattle.cap_values.specs.declared.message.SsfMsg.TheVariants.{InitialDp, Even
 use Rattle.run_values.specs.declared.post.Body.{Body}
 use Rattle.run_values.specs.declared.post.Body.TheVariants.{Ssf, Recharge}
 use Rattle.run_values.specs.declared.post.Post.{Post}
-use Rattle.shared_account.specs.Closed.{Closed}
-use Rattle.shared_account.specs.Own.{asks_of_call, own}
-use Rattle.shared_account.specs.Refusals.{Knowing}
+use Rattle.account_core.specs.Closed.{Closed}
+use Rattle.account_core.specs.Own.{asks_of_call, own}
+use Rattle.account_core.specs.Refusals.{Knowing}
 use Rattle.turn_account.specs.Seen.{CallsOfOneSeatAreAlone, IsBySeat, StoodIn}
 use Rattle.held_calls.proofs.Refusing.{never_refused}
 use Rattle.held_calls.specs.Workers.{EntriesComeFromPosts}

@@ -17,8 +17,8 @@ use Rattle.held_calls.specs.Dialogues.{IsHonest}
 use Rattle.dialogue_core.specs.Talks.{Got, after_got, is_ask, talked}
 use Rattle.held_calls.proofs.Rules.{Stands, facts_after, got_stands}
 use Rattle.held_calls.specs.Held.{entries_at, facts_at}
-use Rattle.shared_account.proofs.Owning.{known_alike}
-use Rattle.shared_account.specs.Own.{asks_of_call, of_call}
+use Rattle.account_core.proofs.Owning.{known_alike}
+use Rattle.account_core.specs.Own.{asks_of_call, of_call}
 use Rattle.runs_core.proofs.OwnCalls.{SaysOf}
 use Rattle.held_calls.proofs.Talked.{says_of_call}
 use Rattle.runs_core.specs.Handled.{grown}

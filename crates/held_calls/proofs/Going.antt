@@ -23,9 +23,9 @@ use Rattle.run_values.specs.declared.post.Body.TheVariants.{Ssf, Recharge}
 use Rattle.run_values.specs.declared.post.Post.{Post}
 use Rattle.held_calls.proofs.Listed.{all_first}
 use Rattle.runs_core.specs.Shares.{item_of}
-use Rattle.shared_account.proofs.Beginnings.{begins_further}
-use Rattle.shared_account.specs.Own.{of_call}
-use Rattle.shared_account.specs.Prefixes.{IsPrefix}
+use Rattle.account_core.proofs.Beginnings.{begins_further}
+use Rattle.account_core.specs.Own.{of_call}
+use Rattle.account_core.specs.Prefixes.{IsPrefix}
 use Rattle.runs_core.proofs.OwnCalls.{TakesTo, begun_about, takes_answer}
 use Rattle.held_calls.proofs.Talked.{begun_says}
 use Rattle.held_calls.proofs.Chaining.{first_sound}

@@ -16,8 +16,8 @@ use Rattle.held_calls.proofs.Rules.{Stands, StepStands, begun_stands, answer_sta
 use Rattle.held_calls.specs.Held.{CallsAreHeld, IsHeldBy, IsShown, entries_at, facts_at}
 use Rattle.run_values.specs.Setups.{Setup}
 use Rattle.run_values.specs.declared.post.Post.{Post}
-use Rattle.shared_account.proofs.Owning.{known_alike}
-use Rattle.shared_account.specs.Own.{of_call}
+use Rattle.account_core.proofs.Owning.{known_alike}
+use Rattle.account_core.specs.Own.{of_call}
 use Rattle.runs_core.proofs.OwnCalls.{SaysOf, TakesTo, begun_about, takes_answer}
 use Rattle.held_calls.proofs.Talked.{begun_says}
 use Rattle.held_calls.proofs.Chaining.{first_sound, once_sound}

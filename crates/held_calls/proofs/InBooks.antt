@@ -6,9 +6,9 @@ use Rattle.std.proofs.lemmas.List.{get_or-map}
 use Rattle.account_core.specs.Entries.{EntryData}
 use Rattle.runs_core.specs.Closing.{lists_of}
 use Rattle.held_calls.specs.Entered.{IsBookAt, RechargesAreInTheBooks, ReservesAreInTheBooks, RunEntriesAreServed, RunListsAreWorked}
-use Rattle.shared_account.specs.Closed.{Closed}
-use Rattle.shared_account.specs.Own.{own}
-use Rattle.shared_account.specs.Refusals.{Knowing}
+use Rattle.account_core.specs.Closed.{Closed}
+use Rattle.account_core.specs.Own.{own}
+use Rattle.account_core.specs.Refusals.{Knowing}
 use Rattle.held_calls.proofs.Chaining.{worked_so}
 use Rattle.runs_core.proofs.Handling.{at_place, same_number}
 use Rattle.held_calls.proofs.Sound.{many_keys}

@@ -31,11 +31,11 @@ use Rattle.runs_core.specs.Closing.{lists_of, refuses_in}
 use Rattle.held_calls.specs.Entered.{IsBookAt, RunCallsAreOfOneWorker, RunOwedIsNeverRefused}
 use Rattle.runs_core.specs.Hearing.{answers_to}
 use Rattle.runs_core.specs.Shares.{Item, item_at, item_of, numbered, share_from, worker_of}
-use Rattle.shared_account.proofs.Beginnings.{begins_itself}
-use Rattle.shared_account.proofs.Owning.{filter_reverse}
-use Rattle.shared_account.specs.Closed.{Closed}
-use Rattle.shared_account.specs.Own.{asks_of_call, of_call, own}
-use Rattle.shared_account.specs.Refusals.{Refusal}
+use Rattle.account_core.proofs.Beginnings.{begins_itself}
+use Rattle.account_core.proofs.Owning.{filter_reverse}
+use Rattle.account_core.specs.Closed.{Closed}
+use Rattle.account_core.specs.Own.{asks_of_call, of_call, own}
+use Rattle.account_core.specs.Refusals.{Refusal}
 use Rattle.turn_account.specs.Seen.{CallsOfOneSeatAreAlone, IsBySeat, StoodIn}
 use Rattle.price_core.specs.declared.plan.TheConstants.{MAX_MONEY}
 use Rattle.runs_core.proofs.Handling.{same_number}

@@ -1,8 +1,8 @@
 -- What a call is owed that is a seat's alone is never refused.
 use Rattle.std.proofs.Common.{◌≡◌, ℕ, sym, subst}
-use Rattle.shared_account.proofs.Owning.{owed_alike}
-use Rattle.shared_account.specs.Own.{of_call}
-use Rattle.shared_account.specs.Refusals.{IsAlone, IsRefusedAt, Knowing}
+use Rattle.account_core.proofs.Owning.{owed_alike}
+use Rattle.account_core.specs.Own.{of_call}
+use Rattle.account_core.specs.Refusals.{IsAlone, IsRefusedAt, Knowing}
 use Rattle.held_calls.specs.Owed.{NeverRefusesOwed}
 
 pub never_refused : (Was : ℕ → Knowing) (call : ℕ) → ((place : ℕ) → IsAlone (Was place) call) → NeverRefusesOwed (λ place. IsRefusedAt (Was place)) call

@@ -20,8 +20,8 @@ use Rattle.held_calls.proofs.Rules.{Awaits, Fits}
 use Rattle.held_calls.specs.Going.{left_in, after_message, is_there, pays}
 use Rattle.held_calls.specs.Held.{entries_at}
 use Rattle.run_values.specs.Setups.{Setup}
-use Rattle.shared_account.specs.Own.{of_call}
-use Rattle.shared_account.specs.Prefixes.{IsPrefix}
+use Rattle.account_core.specs.Own.{of_call}
+use Rattle.account_core.specs.Prefixes.{IsPrefix}
 use Rattle.runs_core.proofs.OwnCalls.{settled_by}
 use Rattle.held_calls.proofs.Talked.{part_of_none, talk_settles}
 use Rattle.held_calls.proofs.AtRest.{nothing_asked}

@@ -3,9 +3,9 @@ use Rattle.std.specs.Prelude.{◌≡◌, ◌<◌, ◌%◌, ℕ, Some, List, leng
 use Rattle.runs_core.specs.Closing.{lists_of, refuses_in}
 use Rattle.runs_core.specs.Hearing.{IsAnsweredBy, answers_to}
 use Rattle.runs_core.specs.Runs.{IsRun}
-use Rattle.shared_account.specs.Closed.{Closed}
-use Rattle.shared_account.specs.Own.{own}
-use Rattle.shared_account.specs.Refusals.{Knowing}
+use Rattle.account_core.specs.Closed.{Closed}
+use Rattle.account_core.specs.Own.{own}
+use Rattle.account_core.specs.Refusals.{Knowing}
 use Rattle.turn_account.specs.Seen.{IsBySeat, StoodIn}
 use Rattle.runs_core.specs.Chains.{refusals_in}
 use Rattle.held_calls.specs.Chains.{IsWorked}

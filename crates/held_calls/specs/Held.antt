@@ -6,7 +6,7 @@ use Rattle.account_core.specs.declared.fault.AccountFault.{AccountFault}
 use Rattle.dialogue_core.specs.Phases.{Phase, FirstAsk, Running, Settling, MoreAsk, Returning, Ending, Closed}
 use Rattle.run_values.specs.Setups.{Setup}
 use Rattle.run_values.specs.declared.post.Post.{Post}
-use Rattle.shared_account.specs.Own.{of_call}
+use Rattle.account_core.specs.Own.{of_call}
 use Rattle.runs_core.specs.Chains.{at_first, seat_numbers}
 use Rattle.held_calls.specs.Chains.{AreHandled}
 use Rattle.runs_core.specs.Handled.{Holding}

@@ -4,7 +4,7 @@ use Rattle.account_core.specs.Asked.{Asked, call_of}
 use Rattle.account_core.specs.Entries.{EntryData}
 use Rattle.account_core.specs.Places.{IsOwed}
 use Rattle.account_core.specs.declared.fault.AccountFault.{AccountFault}
-use Rattle.shared_account.specs.Refusals.{IsAlone, Knowing}
+use Rattle.account_core.specs.Refusals.{IsAlone, Knowing}
 use Rattle.runs_core.specs.Talks.{Showing}
 use Rattle.runs_core.specs.Refusals.{WasAt}
 

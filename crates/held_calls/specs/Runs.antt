@@ -7,8 +7,8 @@ use Rattle.run_values.specs.declared.post.Body.{Body}
 use Rattle.held_calls.specs.Entered.{IsBookAt}
 use Rattle.runs_core.specs.Runs.{IsRun}
 use Rattle.runs_core.specs.Shares.{numbered}
-use Rattle.shared_account.specs.Closed.{Closed}
-use Rattle.shared_account.specs.Own.{of_call}
+use Rattle.account_core.specs.Closed.{Closed}
+use Rattle.account_core.specs.Own.{of_call}
 use Rattle.turn_account.specs.Seen.{StoodIn}
 use Rattle.price_core.specs.declared.plan.TheConstants.{MAX_MONEY}
 use Rattle.runs_core.specs.Handled.{answer_view}

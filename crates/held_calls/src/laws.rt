@@ -8,8 +8,7 @@ ghost use Rattle.held_calls.specs.Runs.{RunCallsAreReturned, RunCallsThatEndAreR
 ghost use Rattle.runs_core.specs.Refusals.{RefusesAt};
 
 use crate::runs::{run_calls_are_of_one_worker, run_owed_is_never_refused};
-use account_core::answers_fit_their_operations;
-use shared_account::Shared;
+use account_core::{Shared, answers_fit_their_operations};
 use turn_account::{TurnAccount, calls_of_one_seat_are_alone};
 
 /// The entries of a worker show each call as its dialogue is, whatever posts it has handled and

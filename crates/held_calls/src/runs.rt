@@ -3,7 +3,7 @@
 ghost use Rattle.held_calls.specs.Entered.{RechargesAreInTheBooks, ReservesAreInTheBooks, RunCallsAreOfOneWorker, RunOwedIsNeverRefused, RunEntriesAreServed, RunListsAreWorked};
 
 use crate::workers::{entries_come_from_posts, recharges_are_entered, reserves_are_on_terms};
-use shared_account::Shared;
+use account_core::Shared;
 use turn_account::calls_of_one_seat_are_alone;
 
 /// A worker's entries in the books of a run are what handling its posts, one after another, comes

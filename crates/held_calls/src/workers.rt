@@ -5,7 +5,7 @@ ghost use Rattle.held_calls.specs.Workers.{CallsAreReserved, CallsAreReturned, E
 ghost use Rattle.runs_core.specs.Refusals.{RefusesAt};
 ghost use Rattle.held_calls.specs.Owed.{IsAloneWith, NeverRefusesOwed};
 
-use shared_account::Shared;
+use account_core::Shared;
 
 /// An answer to a message that asks no account has the operations that the dialogue said at once,
 /// and no refusal.

@@ -18,7 +18,7 @@ use Rattle.run_texts.specs.Tables.{trace_header}
 use Rattle.run_values.specs.Setups.{Setup}
 use Rattle.run_values.specs.declared.post.Body.{Body}
 use Rattle.run_values.specs.declared.run_fault.RunFault.TheVariants as run
-use Rattle.shared_account.specs.Closed.{Closed}
+use Rattle.account_core.specs.Closed.{Closed}
 use Rattle.live_answers.specs.Ends.{IsCutAt, IsCutEnd, IsEndOf, is_cut_off}
 use Rattle.live_answers.specs.Heads.{IsOfHead, IsOfLog, IsOfRun, RefusesService}
 use Rattle.live_answers.specs.Inputs.{LiveInput}

@@ -13,7 +13,7 @@ use Rattle.run_values.specs.declared.post.Body.{Body}
 use Rattle.runs_core.specs.Runs.{IsRun}
 use Rattle.run_values.specs.declared.run_fault.RunFault.{RunFault}
 use Rattle.run_values.specs.declared.run_fault.RunFault.TheVariants as run
-use Rattle.shared_account.specs.Closed.{Closed}
+use Rattle.account_core.specs.Closed.{Closed}
 use Rattle.turn_account.specs.Seen.{StoodIn}
 
 -- what was written, where a fault may have ended the run: all of a text, and only where the output failed no more than a front of it

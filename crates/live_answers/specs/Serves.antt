@@ -19,7 +19,7 @@ use Rattle.run_values.specs.declared.post.Answer.{Answer}
 use Rattle.run_values.specs.declared.post.Body.{Body}
 use Rattle.runs_core.specs.Runs.{IsRun}
 use Rattle.run_values.specs.declared.run_fault.RunFault.TheVariants as run
-use Rattle.shared_account.specs.Closed.{Closed}
+use Rattle.account_core.specs.Closed.{Closed}
 use Rattle.turn_account.specs.Seen.{StoodIn}
 use Rattle.live_answers.specs.Ends.{IsEndOf}
 use Rattle.live_answers.specs.Inputs.{LiveInput}

@@ -5,9 +5,9 @@ ghost use Rattle.live_answers.specs.Runs.{IsLiveRunTo, MayEndLive};
 
 use crate::driver::LiveDriver;
 use crate::{LiveFault, Replay};
+use account_core::{Book, OpenGate};
 use run_values::{Body, RunFault, RunSetup};
 use runs_core::serve;
-use shared_account::{Book, OpenGate};
 use std::alloc::Global;
 use std::io::{BufRead, Write};
 use std::sync::Wait;

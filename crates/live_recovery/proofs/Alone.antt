@@ -23,10 +23,10 @@ use Rattle.runs_core.specs.Hearing.{IsAnsweredBy, answers_to}
 use Rattle.runs_core.specs.Runs.{IsRun}
 use Rattle.runs_core.specs.Shares.{Item, item_of, numbered, share, worker_of}
 use Rattle.runs_core.specs.Teams.{terms_with}
-use Rattle.shared_account.specs.Closed.{Closed}
-use Rattle.shared_account.specs.Own.{own}
+use Rattle.account_core.specs.Closed.{Closed}
+use Rattle.account_core.specs.Own.{own}
 use Rattle.turn_account.specs.Seen.{StoodIn}
-use Rattle.shared_account.specs.Terms.{Terms}
+use Rattle.account_core.specs.Terms.{Terms}
 use Rattle.runs_core.specs.Chains.{at_first, seat_numbers}
 use Rattle.runs_core.specs.Handled.{AnswerView}
 use native.Mathlib.Nat.{mod-one}

@@ -15,8 +15,8 @@ use Rattle.live_recovery.proofs.Talking.{AreEntered, same_got, same_gots}
 use Rattle.tariff_core.specs.Laws.{IsProper}
 use Rattle.run_values.specs.Setups.{Setup}
 use Rattle.run_values.specs.declared.post.Post.{Post}
-use Rattle.shared_account.proofs.Beginnings.{begins_itself, begins_further}
-use Rattle.shared_account.specs.Prefixes.{IsPrefix}
+use Rattle.account_core.proofs.Beginnings.{begins_itself, begins_further}
+use Rattle.account_core.specs.Prefixes.{IsPrefix}
 use Rattle.runs_core.proofs.Handling.{Means, at_place, standing_so}
 use Rattle.runs_core.specs.Handled.{AnswerView, Holding, IsDone, IsRecharged, IsTalked, IsUnasked, Stay, StandsNow, grown}
 use Rattle.runs_core.specs.Talks.{AllAsk, entries_of, last_fault}

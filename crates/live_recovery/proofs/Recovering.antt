@@ -24,7 +24,7 @@ use Rattle.live_recovery.specs.Recovery.{CutOffRunsGoOn, GoesOnBehind, HearsAgai
 use Rattle.run_texts.specs.Messages.{Speech}
 use Rattle.run_values.specs.Setups.{Setup}
 use Rattle.run_values.specs.declared.post.Answer.{Answer}
-use Rattle.shared_account.specs.Closed.{Closed}
+use Rattle.account_core.specs.Closed.{Closed}
 use Rattle.runs_core.specs.Handled.{AnswerView}
 
 -- ---- a run that was given the first of what another one was given

@@ -8,8 +8,8 @@ use Rattle.account_core.specs.Ledger.{entry_by}
 use Rattle.account_core.specs.declared.entry.Reply.{Reply}
 use Rattle.dialogue_core.specs.Phases.{Phase, Says, Asks, Sends, Finished}
 use Rattle.dialogue_core.specs.Talks.{Got, is_ask, talked}
-use Rattle.shared_account.proofs.Beginnings.{begins_further, legal_begins}
-use Rattle.shared_account.specs.Prefixes.{IsPrefix}
+use Rattle.account_core.proofs.Beginnings.{begins_further, legal_begins}
+use Rattle.account_core.specs.Prefixes.{IsPrefix}
 use Rattle.runs_core.specs.Talks.{AllAsk, entries_of, entry_of, last_fault}
 
 -- ---- lists that end alike

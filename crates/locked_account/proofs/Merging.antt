@@ -6,9 +6,9 @@ use Rattle.std.proofs.lemmas.List.{drop_more, get_or-map, get_or_at, length-appe
 use Rattle.std.proofs.lemmas.List.Elements.{All-map, filter-append}
 use Rattle.account_core.specs.Entries.{EntryData, entry_data}
 use Rattle.account_core.specs.declared.entry.Entry.{Entry}
-use Rattle.shared_account.specs.Own.{IsMerged, own}
-use Rattle.shared_account.specs.Seats.{are_numbered}
-use Rattle.shared_account.proofs.Numbering.{numbered_at}
+use Rattle.account_core.specs.Own.{IsMerged, own}
+use Rattle.account_core.specs.Seats.{are_numbered}
+use Rattle.account_core.proofs.Numbering.{numbered_at}
 use Rattle.locked_account.specs.Seats.{SeatView}
 
 nobody : SeatView

@@ -4,8 +4,8 @@ use Rattle.std.specs.Prelude.{◌==◌, All, Err, IfOk, Ok, Result}
 use Rattle.std.proofs.lemmas.Bool.{and_from, eq-eqb}
 use Rattle.std.proofs.lemmas.List.{length-map, map-append}
 use Rattle.std.proofs.lemmas.List.Elements.{All-nil, All-push}
-use Rattle.shared_account.specs.Seats.{are_all, are_numbered}
-use Rattle.shared_account.proofs.Numbering.{numbered_push}
+use Rattle.account_core.specs.Seats.{are_all, are_numbered}
+use Rattle.account_core.proofs.Numbering.{numbered_push}
 use Rattle.locked_account.specs.Seats.{SeatView, fresh_seats}
 
 fresh_length : (account seats : ℕ) → length (fresh_seats account seats) ≡ seats

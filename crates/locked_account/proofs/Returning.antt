@@ -9,9 +9,9 @@ use Rattle.account_core.specs.Places.{IsOwed}
 use Rattle.account_core.specs.declared.entry.Reply.{Reply}
 use Rattle.account_core.specs.declared.fault.AccountFault.{AccountFault}
 use Rattle.account_core.specs.declared.fault.AccountFault.TheVariants as fault
-use Rattle.shared_account.specs.Kinds.{IsReplyTo, IsReturn}
-use Rattle.shared_account.proofs.Answering.{answer_fits}
-use Rattle.shared_account.proofs.Refusing.{return_closed}
+use Rattle.account_core.specs.Kinds.{IsReplyTo, IsReturn}
+use Rattle.account_core.proofs.ReplyKinds.{answer_fits}
+use Rattle.account_core.proofs.Refusing.{return_closed}
 
 pub fits_of : (account : Ledger) (asked : Asked) (response : Reply) → response ≡ answer_of account asked → IsReplyTo asked response
 fits_of account asked response is =

@@ -25,12 +25,12 @@ use Rattle.account_core.specs.declared.entry.Entry.{Entry}
 use Rattle.account_core.specs.declared.entry.Reply.{Reply}
 use Rattle.account_core.specs.declared.entry.Reply.TheVariants as reply
 use Rattle.account_core.proofs.Owing.{owes_denied, owes_end, owes_grant, owes_report}
-use Rattle.rising_map.proofs.RisingLemmas.{kept_of}
-use Rattle.shared_account.specs.Kinds.{IsReplyTo}
+use Rattle.account_core.proofs.RisingLemmas.{kept_of}
+use Rattle.account_core.specs.Kinds.{IsReplyTo}
 use Rattle.locked_account.specs.Room.{IsRoomy, ShowsStages, stage_in}
 use Rattle.locked_account.specs.declared.seat.Seat.TheInside.{Inside}
-use Rattle.shared_account.proofs.Answering.{answer_fits}
-use Rattle.shared_account.proofs.Knowing.{known_resting}
+use Rattle.account_core.proofs.ReplyKinds.{answer_fits}
+use Rattle.account_core.proofs.Knowing.{known_resting}
 
 -- ---- the places of one call
 

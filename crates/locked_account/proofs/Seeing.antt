@@ -7,7 +7,7 @@ use Rattle.account_core.specs.Entries.{EntryData}
 use Rattle.account_core.specs.Ledger.{entry_by}
 use Rattle.account_core.specs.declared.entry.Reply.TheVariants as reply
 use Rattle.account_core.specs.declared.fault.AccountFault.TheVariants as fault
-use Rattle.shared_account.specs.Refusals.{IsAlone, Refusal}
+use Rattle.account_core.specs.Refusals.{IsAlone, Refusal}
 
 abbrev return_of : ℕ → EntryData
 return_of call = entry_by 0 (Returns call) (reply.Returned 0 0)

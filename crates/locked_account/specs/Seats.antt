@@ -2,7 +2,7 @@
 use Rattle.std.specs.Prelude.{ℕ, List, [], ◌∷◌, ◌++◌}
 use Rattle.std.proofs.Common.{zero, suc}
 use Rattle.account_core.specs.Entries.{EntryData}
-use Rattle.shared_account.specs.Seats.{Reads}
+use Rattle.account_core.specs.Seats.{Reads}
 
 -- the account that a seat is of, its number there, and its own entries, oldest first
 pub record SeatView : Type 0 where

@@ -1,21 +1,20 @@
 //! The account under its lock.
 
 ghost use Rattle.std.specs.Prelude.{◌≡◌, ◌≤◌, ◌↔◌, ◌⊎◌, ◌++◌, ◌∷◌, List, [], false, map, reverse, All, OnErr, IfOk, IfErr};
-ghost use Rattle.shared_account.specs.Closed.{IsBookOf};
-ghost use Rattle.shared_account.specs.Kinds.{IsReplyTo, IsReturn};
-ghost use Rattle.shared_account.specs.Refusals.{IsRefusedAt, Refusal};
-ghost use Rattle.shared_account.specs.Seats.{are_all};
+ghost use Rattle.account_core.specs.Closed.{IsBookOf};
+ghost use Rattle.account_core.specs.Kinds.{IsReplyTo, IsReturn};
+ghost use Rattle.account_core.specs.Refusals.{IsRefusedAt, Refusal};
+ghost use Rattle.account_core.specs.Seats.{are_all};
 ghost use Rattle.locked_account.specs.Seats.{fresh_seats};
 ghost use Rattle.account_core.specs.Entries.{EntryData, asked_of};
 ghost use Rattle.account_core.specs.Ledger.{entry_by};
 ghost use Rattle.account_core.specs.Places.{IsOwed};
-ghost use Rattle.shared_account.specs.declared.fault.CloseFault.TheVariants as close;
+ghost use Rattle.account_core.specs.declared.close_fault.CloseFault.TheVariants as close;
 
 use crate::Seat;
 use crate::closing::{Start, close_book};
-use account_core::{Account, AccountFault, Op, Reply};
+use account_core::{Account, AccountFault, Book, CloseFault, Gate, Op, Reply, Shared};
 use price_core::MAX_MONEY;
-use shared_account::{Book, CloseFault, Gate, Shared};
 use std::alloc::{AllocError, Global};
 use std::marker::Model;
 use std::sync::{Mutex, Wait};
@@ -36,7 +35,7 @@ pub struct SharedAccount {
 }
 
 impl Model for SharedAccount {
-    ghost use Rattle.shared_account.specs.Terms.{Terms};
+    ghost use Rattle.account_core.specs.Terms.{Terms};
 
     ghost Value = { Terms };
 

@@ -4,15 +4,14 @@ ghost use Rattle.std.specs.Prelude.{◌≡◌, ◌↔◌, ◌<◌, map, IfOk, tr
 ghost use Rattle.account_core.specs.Entries.{entry_data, asked_of};
 ghost use Rattle.price_core.specs.RatesOf.{rates_of};
 ghost use Rattle.locked_account.specs.Closing.{IsClosable};
-ghost use Rattle.shared_account.specs.Closed.{IsBookOf};
-ghost use Rattle.shared_account.specs.Own.{IsMerged, own};
-ghost use Rattle.shared_account.specs.Seats.{are_all, are_numbered};
-ghost use Rattle.shared_account.specs.declared.fault.CloseFault.TheVariants as close;
+ghost use Rattle.account_core.specs.Closed.{IsBookOf};
+ghost use Rattle.account_core.specs.Own.{IsMerged, own};
+ghost use Rattle.account_core.specs.Seats.{are_all, are_numbered};
+ghost use Rattle.account_core.specs.declared.close_fault.CloseFault.TheVariants as close;
 
 use crate::Seat;
-use account_core::{Account, Entry, Op};
+use account_core::{Account, Book, CloseFault, Entry, Op};
 use price_core::Plan;
-use shared_account::{Book, CloseFault};
 
 /// What an account is opened with: the credit, its last moment, if it has one, how many entries it
 /// may have, and how many seats.

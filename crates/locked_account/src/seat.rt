@@ -4,8 +4,8 @@ ghost use Rattle.std.specs.Prelude.{◌≡◌, ◌≢◌, ◌++◌, ◌∷◌, �
 ghost use Rattle.std.specs.BTreeMap.{is_at};
 ghost use Rattle.std.specs.Map.{lookup};
 ghost use Rattle.std.specs.Ordering.{nat_cmp};
-ghost use Rattle.shared_account.specs.Kinds.{IsReplyTo, IsReturn};
-ghost use Rattle.shared_account.specs.Own.{of_call};
+ghost use Rattle.account_core.specs.Kinds.{IsReplyTo, IsReturn};
+ghost use Rattle.account_core.specs.Own.{of_call};
 ghost use Rattle.locked_account.specs.Room.{stage_in};
 ghost use Rattle.account_core.specs.Asked.{call_of, Credits, IsCredit, IsOfCall};
 ghost use Rattle.account_core.specs.Entries.{asked_of, entry_data};
@@ -14,9 +14,8 @@ ghost use Rattle.account_core.specs.Places.{IsOwed};
 ghost use Rattle.account_core.specs.Admitting.{IsAdmitted};
 
 use account_core::{
-    Account, AccountFault, Admitted, CallStage, Entry, Op, Reply, places_go_with_entries,
+    Account, AccountFault, Admitted, CallStage, Entry, Op, Reply, RisingMap, places_go_with_entries,
 };
-use rising_map::RisingMap;
 use std::alloc::{AllocError, Global};
 use std::marker::Model;
 

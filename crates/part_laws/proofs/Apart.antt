@@ -28,9 +28,9 @@ use Rattle.runs_core.specs.Hearing.{IsAnsweredBy}
 use Rattle.runs_core.specs.Runs.{IsRun}
 use Rattle.runs_core.specs.Shares.{Item, item_at, item_of, numbered}
 use Rattle.runs_core.specs.Teams.{terms_with}
-use Rattle.shared_account.specs.Closed.{Closed}
+use Rattle.account_core.specs.Closed.{Closed}
 use Rattle.turn_account.specs.Seen.{StoodIn}
-use Rattle.shared_account.specs.Terms.{Terms}
+use Rattle.account_core.specs.Terms.{Terms}
 use Rattle.runs_core.specs.Chains.{AreAnswered, at_first, seat_numbers}
 use Rattle.runs_core.specs.Handled.{AnswerView, Holding, answer_view}
 

@@ -24,8 +24,8 @@ use Rattle.run_values.specs.declared.post.Body.{Body}
 use Rattle.run_values.specs.declared.post.Body.TheVariants.{Ssf, Recharge}
 use Rattle.runs_core.specs.Closing.{terms_shown}
 use Rattle.runs_core.specs.Teams.{terms_with}
-use Rattle.shared_account.specs.Closed.{Closed}
-use Rattle.shared_account.specs.Terms.{Terms}
+use Rattle.account_core.specs.Closed.{Closed}
+use Rattle.account_core.specs.Terms.{Terms}
 
 -- ---- what rises is the pieces of its parts, one after another
 

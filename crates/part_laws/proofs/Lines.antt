@@ -14,7 +14,7 @@ use Rattle.part_laws.proofs.Blind.{available_same, known_same, reverse_map}
 use Rattle.part_laws.specs.Numbers.{unnumbered_book, without_number, without_numbers}
 use Rattle.part_laws.specs.OneText.{BooksHaveOneText}
 use Rattle.part_laws.specs.Printed.{LinesHaveNoNumbers}
-use Rattle.shared_account.specs.Closed.{Closed}
+use Rattle.account_core.specs.Closed.{Closed}
 
 past_same : (history : List EntryData) → reverse (without_numbers history) ≡ without_numbers (reverse history)
 past_same history = sym (reverse_map without_number history)

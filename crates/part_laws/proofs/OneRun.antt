@@ -27,7 +27,7 @@ use Rattle.script_player.specs.Posts.{posts_of}
 use Rattle.script_player.specs.Rounds.{IsTurn}
 use Rattle.script_player.specs.Runs.{Hears, fresh_play}
 use Rattle.script_player.specs.Steps.{Delivers, GetsSsf, FeedsSsf, GivesTo, HappensAt, PlaysRow, StartsCall, Waits}
-use Rattle.shared_account.specs.Closed.{Closed}
+use Rattle.account_core.specs.Closed.{Closed}
 use Rattle.turn_account.specs.Seen.{StoodIn}
 use Rattle.ssf_core.specs.Calls.{View}
 use Rattle.tariff_core.specs.Laws.{IsProper}

@@ -24,7 +24,7 @@ use Rattle.script_player.specs.Networks.{Shown}
 use Rattle.script_player.specs.Plays.{Play}
 use Rattle.script_player.specs.Rounds.{IsEnd, IsRound, IsTurn, waiting}
 use Rattle.script_player.specs.Runs.{fresh_play}
-use Rattle.shared_account.specs.Closed.{Closed}
+use Rattle.account_core.specs.Closed.{Closed}
 use Rattle.turn_account.specs.Seen.{StoodIn}
 use Rattle.ssf_core.specs.declared.config.SsfConfig.{SsfConfig}
 use Rattle.ssf_core.specs.declared.deliveries.Delivery.{Delivery}

@@ -27,7 +27,7 @@ use Rattle.part_laws.specs.Printed.{RecordsAreThoseOfAll, run_given}
 use Rattle.run_values.specs.Setups.{Setup, account_of}
 use Rattle.run_values.specs.declared.post.Body.{Body}
 use Rattle.run_values.specs.declared.post.Body.TheVariants.{Ssf, Recharge}
-use Rattle.shared_account.specs.Closed.{Closed}
+use Rattle.account_core.specs.Closed.{Closed}
 
 -- ---- what a history says of a call, without the numbers
 

@@ -4,7 +4,7 @@ use Rattle.account_core.specs.Asked.{Asked, Credits, Reserves, Settles, Returns}
 use Rattle.account_core.specs.Entries.{EntryData}
 use Rattle.cap_values.specs.Orders.{orders_in}
 use Rattle.run_values.specs.declared.post.Answer.{Answer}
-use Rattle.shared_account.specs.Closed.{Closed}
+use Rattle.account_core.specs.Closed.{Closed}
 use Rattle.runs_core.specs.Handled.{AnswerView}
 
 -- an operation, where a settle has the number 0

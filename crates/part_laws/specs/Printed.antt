@@ -8,7 +8,7 @@ use Rattle.part_laws.specs.Chosen.{AreByAccount, Choice, HasBooksOf, chosen}
 use Rattle.part_laws.specs.Numbers.{unnumbered_book}
 use Rattle.run_values.specs.Setups.{Setup}
 use Rattle.run_values.specs.declared.post.Body.{Body}
-use Rattle.shared_account.specs.Closed.{Closed}
+use Rattle.account_core.specs.Closed.{Closed}
 
 -- books that are the same but for the numbers of settles have the same lines
 abbrev pub LinesHaveNoNumbers : Type 0

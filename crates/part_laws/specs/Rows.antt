@@ -13,7 +13,7 @@ use Rattle.run_values.specs.declared.post.Answer.{Answer}
 use Rattle.run_values.specs.declared.post.Body.{Body}
 use Rattle.runs_core.specs.Hearing.{all_heard}
 use Rattle.runs_core.specs.Runs.{IsRun}
-use Rattle.shared_account.specs.Closed.{Closed}
+use Rattle.account_core.specs.Closed.{Closed}
 use Rattle.turn_account.specs.Seen.{StoodIn}
 use Rattle.ssf_core.specs.declared.config.SsfConfig.{SsfConfig}
 use Rattle.tariff_core.specs.Laws.{IsProper}

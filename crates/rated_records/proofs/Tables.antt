@@ -34,8 +34,8 @@ use Rattle.run_laws.specs.Starts.{HaveTheirStarts}
 use Rattle.run_texts.specs.Inputs.{as_input_fault}
 use Rattle.run_texts.specs.declared.input_fault.InputFault.{InputFault}
 use Rattle.run_texts.specs.declared.input_fault.InputFault.TheVariants as fault
-use Rattle.shared_account.specs.Closed.{Closed}
-use Rattle.shared_account.specs.Refusals.{Knowing}
+use Rattle.account_core.specs.Closed.{Closed}
+use Rattle.account_core.specs.Refusals.{Knowing}
 use Rattle.table_core.specs.Decimals.{decimal_of}
 use Rattle.table_core.specs.Printed.{DecimalsArePlain, DecimalsAreRead, IsPlain, IsPlainRow, TablesAreRead, line_of, lines_of}
 use Rattle.table_core.specs.Rows.{Fields, rows_of}

@@ -12,8 +12,8 @@ use Rattle.rating.specs.declared.charge.PricedTimes.{PricedTimes}
 use Rattle.rating.specs.declared.kind.RateKind.TheVariants as kind
 use Rattle.run_laws.proofs.Unrouted.{routed}
 use Rattle.run_laws.specs.Records.{CallsPayTheirRoute, IsUntalked, PaysItsRoute, RecordsAreInRange}
-use Rattle.shared_account.specs.Closed.{Closed}
-use Rattle.shared_account.specs.Refusals.{Knowing}
+use Rattle.account_core.specs.Closed.{Closed}
+use Rattle.account_core.specs.Refusals.{Knowing}
 use Rattle.tariff_core.proofs.Routing.{one_prefix, same_terms}
 use Rattle.tariff_core.specs.Laws.{IsProper}
 use Rattle.price_core.specs.Price.{price_at, price_of}

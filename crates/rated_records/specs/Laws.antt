@@ -12,8 +12,8 @@ use Rattle.rating.specs.declared.kind.RateKind.{RateKind}
 use Rattle.rating.specs.declared.kind.RateKind.TheVariants as kind
 use Rattle.run_laws.specs.Records.{IsServedRun}
 use Rattle.run_laws.specs.Starts.{HaveTheirStarts}
-use Rattle.shared_account.specs.Closed.{Closed}
-use Rattle.shared_account.specs.Refusals.{Knowing}
+use Rattle.account_core.specs.Closed.{Closed}
+use Rattle.account_core.specs.Refusals.{Knowing}
 use Rattle.table_core.specs.Judging.{and_then}
 
 -- what a record says to `rate`, where its start is taken for the answer, and its times before the switch and after it as they are

@@ -19,8 +19,8 @@ use Rattle.run_laws.specs.Records.{IsServedRun}
 use Rattle.run_laws.specs.Starts.{HaveTheirStarts}
 use Rattle.run_texts.specs.FirstSections.{FirstSection, first_section}
 use Rattle.run_texts.specs.Inputs.{tariff_in}
-use Rattle.shared_account.specs.Closed.{Closed}
-use Rattle.shared_account.specs.Refusals.{Knowing}
+use Rattle.account_core.specs.Closed.{Closed}
+use Rattle.account_core.specs.Refusals.{Knowing}
 use Rattle.table_core.specs.Decimals.{digits_text}
 use Rattle.table_core.specs.Rows.{Fields}
 use Rattle.price_core.specs.declared.times.TheConstants.{MAX_MOMENT}

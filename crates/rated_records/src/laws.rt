@@ -5,8 +5,8 @@ ghost use Rattle.rated_records.specs.Laws.{RecordsHaveNoDifference};
 ghost use Rattle.rated_records.specs.Runs.{RunsHaveNoDifference};
 ghost use Rattle.rated_records.specs.Tables.{NoRowIsPrinted, TablesHaveNoDifference};
 
+use account_core::Shared;
 use run_laws::{answered_calls_have_paid, calls_pay_their_route, records_are_in_range};
-use shared_account::Shared;
 use table_core::{printed_decimals_are_read, printed_tables_are_read};
 use tariff_core::{printed_moments_are_read, read_tariffs_are_proper};
 use turn_account::TurnAccount;

@@ -1,9 +1,8 @@
 //! How a call went.
 
-use account_core::AccountFault;
+use account_core::{AccountFault, CloseFault};
 use cap_values::ValueFault;
 use one_call::DriveFault;
-use shared_account::CloseFault;
 use std::alloc::AllocError;
 use std::io;
 

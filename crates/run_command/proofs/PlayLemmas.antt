@@ -19,7 +19,7 @@ use Rattle.run_values.specs.Options.{is_trace}
 use Rattle.run_outputs.specs.declared.played.Played.{Played}
 use Rattle.run_outputs.specs.Refused.{refusals_counted_in}
 use Rattle.run_values.specs.Setups.{Setup}
-use Rattle.shared_account.specs.Closed.{Closed}
+use Rattle.account_core.specs.Closed.{Closed}
 use Rattle.turn_account.specs.Seen.{StoodIn}
 
 -- from round to round

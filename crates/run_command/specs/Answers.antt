@@ -19,7 +19,7 @@ use Rattle.runs_core.specs.Hearing.{all_heard}
 use Rattle.runs_core.specs.Teams.{are_workers}
 use Rattle.run_values.specs.declared.run_fault.RunFault.{RunFault}
 use Rattle.run_values.specs.declared.run_fault.RunFault.TheVariants as run
-use Rattle.shared_account.specs.Closed.{Closed}
+use Rattle.account_core.specs.Closed.{Closed}
 use Rattle.run_values.specs.declared.post.Answer.{Answer}
 use Rattle.run_values.specs.declared.post.Body.{Body}
 use Rattle.run_outputs.specs.Texts.{IsTextOf, RunSaid}

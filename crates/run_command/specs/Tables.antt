@@ -14,7 +14,7 @@ use Rattle.run_values.specs.declared.post.Answer.{Answer}
 use Rattle.run_values.specs.declared.post.Body.{Body}
 use Rattle.runs_core.specs.Hearing.{all_heard}
 use Rattle.runs_core.specs.Teams.{are_workers}
-use Rattle.shared_account.specs.Closed.{Closed}
+use Rattle.account_core.specs.Closed.{Closed}
 use Rattle.run_outputs.specs.Texts.{AreTextsOf, TablesSaid, clock_of}
 
 -- the texts are those of a run over the input, as it was asked for, to which the script of the input was played, the refusals are those of the answers that were heard, and the events that had no place

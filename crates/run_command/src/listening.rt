@@ -6,10 +6,10 @@ ghost use Rattle.run_outputs.specs.Refused.{none_refused};
 ghost use Rattle.run_values.specs.Options.{is_trace};
 
 use crate::watching::{Watch, Watcher};
+use account_core::Book;
 use run_outputs::{Played, Refusals};
 use run_values::{Answer, Body, Driver, RunOutput};
 use script_player::ScriptPlayer;
-use shared_account::Book;
 use std::alloc::{AllocError, Global};
 
 /// Plays a script, counts the refusals that the answers speak of, keeps the answers where a trace

@@ -16,9 +16,9 @@ use Rattle.run_values.specs.declared.post.Answer.{Answer}
 use Rattle.run_values.specs.declared.post.Body.{Body}
 use Rattle.held_calls.specs.Entered.{IsBookAt, ReservesAreInTheBooks, RunEntriesAreServed}
 use Rattle.runs_core.specs.Runs.{IsRun}
-use Rattle.shared_account.specs.Closed.{Closed}
-use Rattle.shared_account.specs.Own.{own}
-use Rattle.shared_account.specs.Refusals.{Knowing}
+use Rattle.account_core.specs.Closed.{Closed}
+use Rattle.account_core.specs.Own.{own}
+use Rattle.account_core.specs.Refusals.{Knowing}
 
 -- ---- an operation, by its ranges, its types and its times
 

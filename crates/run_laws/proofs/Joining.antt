@@ -11,7 +11,7 @@ use Rattle.std.proofs.lemmas.List.{map-append}
 use Rattle.std.proofs.lemmas.List.Elements.{All-append, All-nil}
 use Rattle.run_outputs.specs.Kept.{PartSaid, own_books}
 use Rattle.run_outputs.specs.Parts.{part_of_account}
-use Rattle.shared_account.specs.Closed.{Closed}
+use Rattle.account_core.specs.Closed.{Closed}
 
 -- ---- tests of numbers
 

@@ -17,8 +17,8 @@ use Rattle.run_values.specs.declared.directory.OpeningCredit.{OpeningCredit}
 use Rattle.runs_core.specs.Closing.{terms_shown}
 use Rattle.held_calls.specs.Entered.{IsBookAt}
 use Rattle.runs_core.specs.Teams.{are_workers, terms_of, terms_with}
-use Rattle.shared_account.specs.Closed.{Closed}
-use Rattle.shared_account.specs.Terms.{Terms}
+use Rattle.account_core.specs.Closed.{Closed}
+use Rattle.account_core.specs.Terms.{Terms}
 
 -- ---- the ranges of an opening
 

@@ -15,7 +15,7 @@ use Rattle.book_texts.specs.Columns.{Answer, Operation, reply_fields, in_fourth,
 use Rattle.book_texts.specs.declared.version.Version.{Version}
 use Rattle.book_texts.specs.declared.version.Version.TheVariants as version
 use Rattle.book_texts.specs.Fits.{FitsAsked, FitsEntry, IsInterval, IsMoment, IsRate}
-use Rattle.shared_account.specs.Closed.{Closed}
+use Rattle.account_core.specs.Closed.{Closed}
 use Rattle.table_core.specs.Printed.{DecimalsArePlain, IsPlain, IsPlainRow, line_of, lines_of}
 use Rattle.table_core.specs.Rows.{Fields}
 use Rattle.price_core.specs.declared.times.TimeInfo.TheVariants as info

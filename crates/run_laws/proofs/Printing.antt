@@ -15,8 +15,8 @@ use Rattle.run_laws.specs.Runs.{IsRecorded, IsTimelyRun}
 use Rattle.run_values.specs.Setups.{Setup}
 use Rattle.run_values.specs.declared.post.Body.{Body}
 use Rattle.held_calls.specs.Entered.{ReservesAreInTheBooks, RunEntriesAreServed}
-use Rattle.shared_account.specs.Closed.{Closed}
-use Rattle.shared_account.specs.Refusals.{Knowing}
+use Rattle.account_core.specs.Closed.{Closed}
+use Rattle.account_core.specs.Refusals.{Knowing}
 
 -- ---- such books, of whatever runs they are
 

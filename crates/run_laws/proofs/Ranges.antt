@@ -15,8 +15,8 @@ use Rattle.run_outputs.specs.declared.call_record.CallRecord.{CallRecord}
 use Rattle.run_laws.proofs.Openings.{opened_within}
 use Rattle.run_laws.proofs.Unrouted.{all_found}
 use Rattle.run_laws.specs.Records.{RecordIsInRange, IsServedRun, RecordsAreInRange}
-use Rattle.shared_account.specs.Closed.{Closed}
-use Rattle.shared_account.specs.Refusals.{Knowing}
+use Rattle.account_core.specs.Closed.{Closed}
+use Rattle.account_core.specs.Refusals.{Knowing}
 use Rattle.price_core.specs.Rates.{Rates}
 use Rattle.price_core.specs.Times.{Elapsed, no_times}
 

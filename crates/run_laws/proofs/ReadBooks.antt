@@ -24,7 +24,7 @@ use Rattle.run_laws.specs.ReadBack.{OperationsAreRead, PrintsWhole, RepliesAreRe
 use Rattle.book_texts.specs.Versions.{version_at}
 use Rattle.book_texts.specs.declared.version.Version.{Version}
 use Rattle.book_texts.specs.declared.version.Version.TheVariants as version
-use Rattle.shared_account.specs.Closed.{Closed}
+use Rattle.account_core.specs.Closed.{Closed}
 use Rattle.table_core.specs.Printed.{DecimalsArePlain, DecimalsAreRead, TablesAreRead}
 use Rattle.table_core.specs.Rows.{Fields, rows_of}
 use Rattle.table_core.specs.Tables.{rows_from, table_of}

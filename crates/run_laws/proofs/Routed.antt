@@ -23,8 +23,8 @@ use Rattle.run_laws.specs.Starts.{HasItsStart, HaveTheirStarts, begins_with}
 use Rattle.run_values.specs.declared.post.Body.{Body}
 use Rattle.run_values.specs.declared.post.Body.TheVariants.{Ssf}
 use Rattle.held_calls.specs.Entered.{ReservesAreInTheBooks}
-use Rattle.shared_account.specs.Closed.{Closed}
-use Rattle.shared_account.specs.Refusals.{Knowing}
+use Rattle.account_core.specs.Closed.{Closed}
+use Rattle.account_core.specs.Refusals.{Knowing}
 use Rattle.price_core.specs.Price.{price_at}
 use Rattle.price_core.specs.Rates.{Rates}
 use Rattle.tariff_core.specs.Routes.{IsRoute}

@@ -6,8 +6,8 @@ use Rattle.held_calls.proofs.Listed.{all_unmapped}
 use Rattle.run_values.specs.Setups.{Setup}
 use Rattle.runs_core.specs.Closing.{terms_shown}
 use Rattle.runs_core.specs.Teams.{terms_of, terms_with}
-use Rattle.shared_account.specs.Closed.{Closed}
-use Rattle.shared_account.specs.Terms.{Terms}
+use Rattle.account_core.specs.Closed.{Closed}
+use Rattle.account_core.specs.Terms.{Terms}
 
 -- a history has at most so many entries
 abbrev pub IsWithin : ℕ → Closed → Type 0

@@ -26,8 +26,8 @@ use Rattle.run_laws.proofs.Unrouted.{reversed}
 use Rattle.run_laws.specs.Records.{IsServedRun, RecordsSumUp, paid_by_calls, paid_in}
 use Rattle.run_values.specs.Setups.{place_of}
 use Rattle.held_calls.specs.Entered.{ReservesAreInTheBooks}
-use Rattle.shared_account.specs.Closed.{Closed}
-use Rattle.shared_account.specs.Refusals.{Knowing}
+use Rattle.account_core.specs.Closed.{Closed}
+use Rattle.account_core.specs.Refusals.{Knowing}
 use Rattle.price_core.specs.Rates.{Rates}
 use Rattle.runs_core.proofs.Handling.{at_place}
 use Rattle.runs_core.specs.Verdicts.{home_of}

@@ -15,8 +15,8 @@ use Rattle.run_laws.proofs.Grants.{IfReserves, granted_has}
 use Rattle.run_laws.proofs.Reserves.{IsBegun, begun_parties, book_begun, there}
 use Rattle.run_laws.specs.Records.{IsServedRun, UnroutedCallsPayNothing}
 use Rattle.held_calls.specs.Entered.{ReservesAreInTheBooks}
-use Rattle.shared_account.specs.Closed.{Closed}
-use Rattle.shared_account.specs.Refusals.{Knowing}
+use Rattle.account_core.specs.Closed.{Closed}
+use Rattle.account_core.specs.Refusals.{Knowing}
 use Rattle.tariff_core.specs.Bands.{Band}
 use Rattle.price_core.specs.Rates.{Rates}
 use Rattle.tariff_core.specs.Routes.{HasNoRoute, IsPrefixFor}

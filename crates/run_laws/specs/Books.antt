@@ -15,8 +15,8 @@ use Rattle.run_laws.specs.Runs.{IsRecorded, IsTimelyRun}
 use Rattle.run_values.specs.Setups.{Setup}
 use Rattle.run_values.specs.declared.post.Answer.{Answer}
 use Rattle.run_values.specs.declared.post.Body.{Body}
-use Rattle.shared_account.specs.Closed.{Closed}
-use Rattle.shared_account.specs.Refusals.{Knowing}
+use Rattle.account_core.specs.Closed.{Closed}
+use Rattle.account_core.specs.Refusals.{Knowing}
 use Rattle.table_core.specs.Rows.{rows_of}
 
 -- the text of the table of books, whose tariff has billing steps or not

@@ -10,7 +10,7 @@ use Rattle.run_laws.specs.Played.{PassTheirAudits}
 use Rattle.run_values.specs.declared.options.RunAsk.{RunAsk}
 use Rattle.run_texts.specs.Inputs.{RunInput}
 use Rattle.runs_core.specs.Teams.{are_workers}
-use Rattle.shared_account.specs.Closed.{Closed}
+use Rattle.account_core.specs.Closed.{Closed}
 
 -- these are all parts of an input that is in range
 pub record AreAllParts (ask : RunAsk) (said : RunInput) (firsts : List ℕ) (parts : List PartSaid) : Type 0 where

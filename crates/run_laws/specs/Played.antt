@@ -19,7 +19,7 @@ use Rattle.run_values.specs.declared.post.Answer.{Answer}
 use Rattle.run_values.specs.declared.post.Body.{Body}
 use Rattle.run_values.specs.Openings.{HasAccounts}
 use Rattle.runs_core.specs.Teams.{are_workers}
-use Rattle.shared_account.specs.Closed.{Closed}
+use Rattle.account_core.specs.Closed.{Closed}
 use Rattle.turn_account.specs.Seen.{StoodIn}
 
 -- the table of books passes a long audit, and a short one where that takes as many rows

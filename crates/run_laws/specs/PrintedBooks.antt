@@ -2,7 +2,7 @@
 use Rattle.std.specs.Prelude.{◌≡◌, ◌≤◌, ℕ, Bool, true, false, List, None, map, Ok}
 use Rattle.std.specs.List.{All}
 use Rattle.account_core.specs.Answers.{IsLegal}
-use Rattle.shared_account.specs.Closed.{Closed}
+use Rattle.account_core.specs.Closed.{Closed}
 use Rattle.table_core.specs.Rows.{rows_of}
 use Rattle.book_texts.specs.Audits.{Audited, GivesAudit, audited}
 use Rattle.book_texts.specs.BookTexts.{book_text, version_of}

@@ -11,8 +11,8 @@ use Rattle.run_laws.specs.Starts.{HaveTheirParties, HaveTheirStarts}
 use Rattle.run_values.specs.declared.post.Answer.{Answer}
 use Rattle.runs_core.specs.Runs.{IsRun}
 use Rattle.runs_core.specs.Teams.{are_workers}
-use Rattle.shared_account.specs.Closed.{Closed}
-use Rattle.shared_account.specs.Refusals.{Knowing}
+use Rattle.account_core.specs.Closed.{Closed}
+use Rattle.account_core.specs.Refusals.{Knowing}
 use Rattle.price_core.specs.Price.{price_at}
 use Rattle.price_core.specs.RatesOf.{rates_of}
 use Rattle.tariff_core.specs.Routes.{IsRoute}

@@ -8,8 +8,8 @@ use Rattle.run_values.specs.declared.post.Answer.{Answer}
 use Rattle.run_values.specs.declared.post.Body.{Body}
 use Rattle.runs_core.specs.Runs.{IsRun}
 use Rattle.runs_core.specs.Teams.{are_workers}
-use Rattle.shared_account.specs.Closed.{Closed}
-use Rattle.shared_account.specs.Refusals.{Knowing}
+use Rattle.account_core.specs.Closed.{Closed}
+use Rattle.account_core.specs.Refusals.{Knowing}
 
 -- a run over such accounts, to which nothing was given that has no range
 pub record IsTimelyRun (Stood : Closed → ℕ → Knowing) (setup : Setup) (workers : ℕ) (given : List (ℕ × Body)) (answers : List Answer) (books : List Closed) : Type 0 where

@@ -3,9 +3,8 @@
 ghost use Rattle.run_laws.specs.Books.{AuditableBooksHaveFewRows, AuditableBooksPass, RunBooksAreAuditable, RunBooksHaveTheirAccounts, RunsArePrintable, RunsHaveFewRows, RunsPassTheAudit};
 
 use crate::printed::printed_books_are_read;
-use account_core::entries_are_in_range;
+use account_core::{Shared, entries_are_in_range};
 use held_calls::{reserves_are_in_the_books, run_entries_are_served};
-use shared_account::Shared;
 
 /// The table that `book_table` prints of the books of a run is read back to their openings and
 /// histories. An audit of it says yes for each account, or, where lines are asked for, the lines

@@ -2,9 +2,8 @@
 
 ghost use Rattle.run_laws.specs.Records.{CallsPayTheirRoute, RecordsAreInRange, RecordsSumUp, UnroutedCallsPayNothing};
 
-use account_core::tariff_laws;
+use account_core::{Shared, tariff_laws};
 use held_calls::reserves_are_in_the_books;
-use shared_account::Shared;
 
 /// A call to a number without a route has paid nothing.
 ///

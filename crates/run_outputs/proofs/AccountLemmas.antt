@@ -10,7 +10,7 @@ use Rattle.account_core.specs.Known.{CallFacts, known, paid_if_granted, paid_und
 use Rattle.account_core.specs.Sums.{sum_in, sum_of, sum_under}
 use Rattle.price_core.specs.Rates.{Rates}
 use Rattle.account_core.specs.declared.call_sum.CallSum.{CallSum}
-use Rattle.shared_account.specs.Closed.{Closed}
+use Rattle.account_core.specs.Closed.{Closed}
 use Rattle.run_outputs.specs.KeptRecords.{AreCallsOf, KnowCalls}
 use Rattle.run_outputs.specs.Standings.{book_of}
 use Rattle.run_outputs.specs.declared.accounts.AccountCalls.{AccountCalls}

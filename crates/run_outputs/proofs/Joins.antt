@@ -15,7 +15,7 @@ use Rattle.run_outputs.specs.Refused.{added_up, refusals_counted, with_refusals}
 use Rattle.run_outputs.specs.Unplaced.{AreByCall}
 use Rattle.run_outputs.specs.declared.refusals.Refusals.{Refusals}
 use Rattle.run_outputs.specs.declared.unplaced.UnplacedEvent.{UnplacedEvent}
-use Rattle.shared_account.specs.Closed.{Closed}
+use Rattle.account_core.specs.Closed.{Closed}
 use Rattle.tariff_core.specs.Bands.{Band}
 
 -- ---- refusals are added up

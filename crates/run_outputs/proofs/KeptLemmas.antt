@@ -5,7 +5,7 @@ use Rattle.std.specs.Map.{lookup}
 use Rattle.std.specs.Option.{option_or}
 use Rattle.std.specs.Ordering.{nat_cmp}
 use Rattle.std.specs.Prelude.{if◌then◌else◌}
-use Rattle.rising_map.proofs.RisingLemmas.{looked_up_at}
+use Rattle.account_core.proofs.RisingLemmas.{looked_up_at}
 use Rattle.run_outputs.proofs.CallLemmas.{or_none, same_call}
 
 first_of : {V : Type 0} (now : Bool) (was : Option V) (value : V) → (now ≡ true → was ≡ None)

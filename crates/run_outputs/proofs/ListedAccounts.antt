@@ -10,7 +10,7 @@ use Rattle.std.specs.Str.{bytes_eq}
 use Rattle.run_outputs.proofs.CallLemmas.{or_none, either}
 use Rattle.cap_values.specs.NumberDigits.{digits_of_number}
 use Rattle.cap_values.specs.declared.number.Number.{Number}
-use Rattle.rising_map.proofs.RisingLemmas.{looked_up}
+use Rattle.account_core.proofs.RisingLemmas.{looked_up}
 use Rattle.run_outputs.specs.Parts.{account_of_digits, payer_by, payer_in, payer_of}
 use Rattle.run_texts.specs.Happenings.{RowData}
 use Rattle.run_texts.specs.Views.{row_data, with_digits}

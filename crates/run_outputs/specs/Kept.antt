@@ -19,7 +19,7 @@ use Rattle.run_outputs.specs.Unplaced.{AreByCall, IsMergedBy, events_in_rows}
 use Rattle.run_outputs.specs.declared.refusals.Refusals.{Refusals}
 use Rattle.run_outputs.specs.declared.unplaced.UnplacedEvent.{UnplacedEvent}
 use Rattle.run_values.specs.Setups.{Setup}
-use Rattle.shared_account.specs.Closed.{Closed}
+use Rattle.account_core.specs.Closed.{Closed}
 use Rattle.tariff_core.specs.Bands.{Band, have_steps}
 
 -- what a part comes to: the books of its own accounts, the records of its calls where these are printed, its refusals, and its events that had no place

@@ -7,7 +7,7 @@ use Rattle.std.specs.Ordering.{nat_cmp}
 use Rattle.account_core.specs.Entries.{EntryData}
 use Rattle.account_core.specs.Known.{known, paid_if_granted}
 use Rattle.run_values.specs.declared.post.Body.{Body}
-use Rattle.shared_account.specs.Closed.{Closed}
+use Rattle.account_core.specs.Closed.{Closed}
 use Rattle.run_outputs.specs.Calls.{call_reports_of, start_of}
 use Rattle.run_outputs.specs.Standings.{book_of, is_denied, is_denied_later, last_grant}
 use Rattle.run_outputs.specs.declared.accounts.AccountCalls.{AccountCalls}

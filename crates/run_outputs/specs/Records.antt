@@ -7,7 +7,7 @@ use Rattle.std.specs.Ordering.{nat_cmp}
 use Rattle.cap_values.specs.NumberDigits.{digits_of_number}
 use Rattle.run_values.specs.Setups.{Setup, account_of}
 use Rattle.run_values.specs.declared.post.Body.{Body}
-use Rattle.shared_account.specs.Closed.{Closed}
+use Rattle.account_core.specs.Closed.{Closed}
 use Rattle.tariff_core.specs.Bands.{Band}
 use Rattle.tariff_core.specs.Routes.{HasNoRoute, IsPrefixFor}
 use Rattle.run_outputs.specs.Calls.{call_reports_of, start_of}

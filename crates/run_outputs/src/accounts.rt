@@ -9,13 +9,11 @@ ghost use Rattle.account_core.specs.Entries.{EntryData};
 ghost use Rattle.account_core.specs.Sums.{AreSums};
 ghost use Rattle.run_outputs.specs.KeptRecords.{HaveAccounts, HavePaid, KnowCalls};
 ghost use Rattle.run_outputs.specs.Standings.{past_of, standing_of};
-ghost use Rattle.shared_account.specs.Closed.{Closed};
+ghost use Rattle.account_core.specs.Closed.{Closed};
 
 use crate::marks::{CallMarks, marks_in, marks_of};
 use crate::standing::Standing;
-use account_core::CallSum;
-use rising_map::RisingMap;
-use shared_account::Book;
+use account_core::{Book, CallSum, RisingMap};
 use std::alloc::{AllocError, Global};
 use std::collections::BTreeMap;
 

@@ -9,8 +9,8 @@ ghost use Rattle.run_texts.specs.Views.{rows_are_in_order, happens_of, row_data,
 
 use crate::firsts::Firsts;
 use crate::payers::payers_in;
+use account_core::RisingMap;
 use price_core::MAX_MOMENT;
-use rising_map::RisingMap;
 use run_texts::{Happening, ScriptRow};
 use run_values::RunSetup;
 use std::alloc::{AllocError, Global};

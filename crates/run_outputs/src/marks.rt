@@ -5,9 +5,8 @@ ghost use Rattle.account_core.specs.Asked.{call_of};
 ghost use Rattle.account_core.specs.Entries.{EntryData, asked_of, entry_data};
 ghost use Rattle.run_outputs.specs.KeptRecords.{HaveMarks, marks_in, marks_of};
 
-use account_core::{Entry, Op, Reply};
+use account_core::{Entry, Op, Reply, RisingMap};
 use price_core::{Times, read_times};
-use rising_map::RisingMap;
 use std::alloc::{AllocError, Global};
 
 /// What entries say of a call.

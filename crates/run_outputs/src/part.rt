@@ -9,9 +9,9 @@ ghost use Rattle.run_outputs.specs.Texts.{run_said_of};
 
 use crate::unplaced::{UnplacedEvent, by_call, events_of};
 use crate::{CallRecord, Firsts, Played, Ran, Refusals, call_table, records};
+use account_core::Book;
 use book_texts::{RunLines, book_table};
 use run_values::{Body, RunOutput, RunSetup};
-use shared_account::Book;
 use std::alloc::{AllocError, Global};
 use tariff_core::Clock;
 

@@ -5,7 +5,7 @@ ghost use Rattle.std.specs.Option.{option_or};
 ghost use Rattle.run_outputs.specs.Parts.{HavePayers, payer_by, payer_in, payer_of};
 ghost use Rattle.run_texts.specs.Views.{happens_of, row_data, with_digits};
 
-use rising_map::RisingMap;
+use account_core::RisingMap;
 use run_texts::{Happening, ScriptRow};
 use run_values::RunSetup;
 use std::alloc::{AllocError, Global};

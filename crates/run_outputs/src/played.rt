@@ -7,10 +7,10 @@ ghost use Rattle.run_outputs.specs.Unplaced.{AreByCall, events_in_rows};
 
 use crate::unplaced::{UnplacedEvent, events_by_call};
 use crate::{Refusals, call_table, records};
+use account_core::Book;
 use book_texts::{book_table, run_lines};
 use run_texts::{ScriptRow, trace_table};
 use run_values::{Answer, Body, RunOutput, RunSetup};
-use shared_account::Book;
 use std::alloc::{AllocError, Global};
 
 /// A script that was played.

@@ -9,8 +9,8 @@ ghost use Rattle.run_outputs.specs.KeptRecords.{HaveReports, reports_in};
 ghost use Rattle.run_values.specs.declared.post.Body.{Body};
 ghost use Rattle.run_values.specs.declared.post.Body.TheVariants as body;
 
+use account_core::RisingMap;
 use cap_values::{Event, SsfMsg};
-use rising_map::RisingMap;
 use run_values::Body;
 use std::alloc::{AllocError, Global};
 

@@ -5,11 +5,11 @@ use Rattle.std.proofs.lemmas.List.{get_or-map, length-map}
 use Rattle.std.proofs.lemmas.List.Elements.{All-cons, All-head, All-nil, All-tail}
 use Rattle.account_core.specs.Answers.{IsLegal}
 use Rattle.account_core.specs.Entries.{EntryData}
-use Rattle.shared_account.specs.Closed.{Closed}
-use Rattle.shared_account.specs.Own.{own}
-use Rattle.shared_account.specs.Refusals.{Knowing, Refusal}
-use Rattle.shared_account.specs.Seats.{Reads}
-use Rattle.shared_account.specs.Terms.{Terms}
+use Rattle.account_core.specs.Closed.{Closed}
+use Rattle.account_core.specs.Own.{own}
+use Rattle.account_core.specs.Refusals.{Knowing, Refusal}
+use Rattle.account_core.specs.Seats.{Reads}
+use Rattle.account_core.specs.Terms.{Terms}
 use Rattle.runs_core.proofs.Columns.{AreEven, column, column_of, even_at, laid, laid_even, laid_many}
 use Rattle.runs_core.proofs.Numbers.{numbered_at, teams_even}
 use Rattle.runs_core.specs.Closing.{AreBooksOfSeats, AreNumberedFrom, IsInBooks, lists_of, terms_shown}

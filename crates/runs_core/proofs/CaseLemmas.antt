@@ -10,7 +10,7 @@ use mathlib.Core.Logic.{dite}
 use native.Mathlib.Decide.{ℕ_discrete}
 use Rattle.account_core.specs.Asked.{Credits}
 use Rattle.account_core.specs.Entries.{EntryData}
-use Rattle.shared_account.specs.Refusals.{Knowing, Refusal}
+use Rattle.account_core.specs.Refusals.{Knowing, Refusal}
 use Rattle.account_core.specs.declared.fault.AccountFault.{AccountFault}
 use Rattle.cap_values.specs.Orders.{Order}
 use Rattle.dialogue_core.specs.Phases.{Phase, Says, Asks}

@@ -6,7 +6,7 @@ use Rattle.account_core.specs.Entries.{EntryData}
 use Rattle.account_core.specs.declared.fault.AccountFault.{AccountFault}
 use Rattle.dialogue_core.specs.Phases.{Asks}
 use Rattle.dialogue_core.specs.Rules.{on_begin}
-use Rattle.shared_account.specs.Refusals.{IsRefusedAt, Knowing, Refusal}
+use Rattle.account_core.specs.Refusals.{IsRefusedAt, Knowing, Refusal}
 use Rattle.runs_core.proofs.Talking.{all_right_still, refused_still, right_still}
 use Rattle.runs_core.specs.Chains.{AreAnswered}
 use Rattle.runs_core.specs.Handled.{AnswerView, AreRefusedRightly, Holding, IsDone}

@@ -7,9 +7,9 @@ use mathlib.Core.Logic.{inl, inr}
 use Rattle.std.proofs.lemmas.List.{append-nil, append_assoc, map-append}
 use Rattle.run_values.specs.Setups.{Setup}
 use Rattle.run_values.specs.declared.directory.OpeningCredit.{OpeningCredit}
-use Rattle.shared_account.specs.Refusals.{Knowing}
-use Rattle.shared_account.specs.Seats.{Reads}
-use Rattle.shared_account.specs.Terms.{Terms}
+use Rattle.account_core.specs.Refusals.{Knowing}
+use Rattle.account_core.specs.Seats.{Reads}
+use Rattle.account_core.specs.Terms.{Terms}
 use Rattle.runs_core.specs.Handled.{answer_view}
 use Rattle.runs_core.specs.Workers.{number_by}
 use Rattle.runs_core.specs.Sending.{AreLeftBy, ArePromised, IsFirstFault, IsLeftBy, IsPromised, MayBeShut, heard_by, promises_of, sent_by}

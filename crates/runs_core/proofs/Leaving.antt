@@ -9,7 +9,7 @@ use Rattle.runs_core.specs.Chains.{at_first, seat_numbers}
 use Rattle.run_values.specs.Setups.{Setup}
 use Rattle.runs_core.specs.Verdicts.{DialogueAt}
 use Rattle.run_values.specs.declared.directory.OpeningCredit.{OpeningCredit}
-use Rattle.shared_account.specs.Seats.{Reads}
+use Rattle.account_core.specs.Seats.{Reads}
 use Rattle.runs_core.specs.Teams.{IsFresh}
 
 pub numbered_each : {T : Type 0} (number_of : T → ℕ) (n number : ℕ) (team : List T) → n ≡ number → All (λ m. m ≡ n) (map number_of team) → All (λ seat. number_of seat ≡ number) team

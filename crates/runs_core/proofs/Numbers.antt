@@ -5,14 +5,14 @@ use Rattle.std.proofs.lemmas.Bool.Decides.{nat_tests}
 use Rattle.std.proofs.lemmas.List.{length-append, length-map, length-replicate}
 use Rattle.std.proofs.lemmas.List.Elements.{All-cons, All-head, All-map, All-nil, All-push, All-tail}
 use Rattle.runs_core.proofs.CaseLemmas.{as_many}
-use Rattle.shared_account.proofs.Numbering.{numbered_push}
+use Rattle.account_core.proofs.Numbering.{numbered_push}
 use Rattle.runs_core.proofs.LayingOut.{laid_out_length}
 use Rattle.runs_core.proofs.Columns.{AreEven, laid, map_laid_out}
 use Rattle.runs_core.specs.Closing.{AreAllThere, AreNumberedFrom, AreSeatsOf}
 use Rattle.runs_core.specs.LaidOut.{laid_out}
 use Rattle.runs_core.specs.Teams.{terms_of, terms_with}
-use Rattle.shared_account.specs.Seats.{Reads, are_numbered}
-use Rattle.shared_account.specs.Terms.{Terms}
+use Rattle.account_core.specs.Seats.{Reads, are_numbered}
+use Rattle.account_core.specs.Terms.{Terms}
 use Rattle.run_values.specs.declared.directory.OpeningCredit.{OpeningCredit}
 
 -- each row has the numbers from 0 up to this one

@@ -7,8 +7,8 @@ use Rattle.run_values.specs.Setups.{Setup}
 use Rattle.run_values.specs.declared.post.Answer.{Answer}
 use Rattle.run_values.specs.declared.post.Body.{Body}
 use Rattle.run_values.specs.declared.post.Post.{Post}
-use Rattle.shared_account.specs.Refusals.{Knowing}
-use Rattle.shared_account.specs.Seats.{Reads}
+use Rattle.account_core.specs.Refusals.{Knowing}
+use Rattle.account_core.specs.Seats.{Reads}
 use Rattle.runs_core.specs.Handled.{answer_view}
 use Rattle.runs_core.specs.Workers.{accounts_of, seats_of, setup_of}
 use Rattle.runs_core.specs.declared.worker.Worker.{Worker}

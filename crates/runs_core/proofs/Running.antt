@@ -4,10 +4,10 @@ use Rattle.std.specs.Global.{Vec}
 use Rattle.std.specs.Prelude.{All, Err, IfOk, Ok, Result, slice_index_or}
 use Rattle.account_core.specs.Answers.{IsLegal}
 use Rattle.account_core.specs.Entries.{EntryData}
-use Rattle.shared_account.specs.Closed.{Closed}
-use Rattle.shared_account.specs.Refusals.{Knowing}
-use Rattle.shared_account.specs.Seats.{Reads}
-use Rattle.shared_account.specs.Terms.{Terms}
+use Rattle.account_core.specs.Closed.{Closed}
+use Rattle.account_core.specs.Refusals.{Knowing}
+use Rattle.account_core.specs.Seats.{Reads}
+use Rattle.account_core.specs.Terms.{Terms}
 use Rattle.runs_core.proofs.Chaining.{answered_still}
 use Rattle.runs_core.specs.Chains.{AnswersItsPosts, at_first, seat_numbers}
 use Rattle.runs_core.specs.Handled.{AnswerView, answer_view}

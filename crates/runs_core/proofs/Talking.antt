@@ -2,8 +2,8 @@
 use Rattle.std.proofs.Common.{◌≡◌, ◌++◌, ◌∙◌, ℕ, false, Option, None, Ok, Err, List, [], ◌∷◌, refl, sym, ap, subst, append_assoc, append-nil}
 use Rattle.account_core.specs.Asked.{Asked}
 use Rattle.account_core.specs.Entries.{EntryData}
-use Rattle.shared_account.specs.Refusals.{IsRefusedAt, Knowing, Refusal}
-use Rattle.shared_account.specs.Seats.{Reads}
+use Rattle.account_core.specs.Refusals.{IsRefusedAt, Knowing, Refusal}
+use Rattle.account_core.specs.Seats.{Reads}
 use Rattle.account_core.specs.declared.fault.AccountFault.{AccountFault}
 use Rattle.account_core.specs.declared.fault.AccountFault.TheVariants as fault
 use Rattle.cap_values.specs.Orders.{Order}

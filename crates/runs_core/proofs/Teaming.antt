@@ -6,8 +6,8 @@ use Rattle.std.proofs.lemmas.Bool.Decides.{nat_tests}
 use Rattle.std.proofs.lemmas.List.{length-map, length-replicate, map-append, take_all, take_more}
 use Rattle.std.proofs.lemmas.List.Elements.{All-head, All-nil, All-push, All-tail}
 use Rattle.std.proofs.lemmas.Bool.{and_parts}
-use Rattle.shared_account.specs.Seats.{Reads, are_numbered}
-use Rattle.shared_account.specs.Terms.{Terms}
+use Rattle.account_core.specs.Seats.{Reads, are_numbered}
+use Rattle.account_core.specs.Terms.{Terms}
 use Rattle.run_values.specs.Openings.{no_credit}
 use Rattle.run_values.specs.declared.directory.OpeningCredit.{OpeningCredit}
 use Rattle.runs_core.specs.LaidOut.{laid_out}

@@ -2,8 +2,8 @@
 use Rattle.std.proofs.Common.{◌≡◌, ◌++◌, ℕ, None, List, [], ◌∷◌, map, refl, ap, sym, subst, ◌∙◌}
 use Rattle.std.specs.Map.{keys_of}
 use Rattle.std.proofs.lemmas.List.{append-nil, append_assoc, map-append}
-use Rattle.shared_account.specs.Refusals.{Knowing}
-use Rattle.shared_account.specs.Seats.{Reads}
+use Rattle.account_core.specs.Refusals.{Knowing}
+use Rattle.account_core.specs.Seats.{Reads}
 use Rattle.runs_core.proofs.Chaining.{answered_still, more_after}
 use Rattle.runs_core.specs.Chains.{AreAnswered, at_first, seat_numbers}
 use Rattle.runs_core.specs.Handled.{AnswerView, answer_view}

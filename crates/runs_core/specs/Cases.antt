@@ -12,8 +12,8 @@ use Rattle.cap_values.specs.declared.number.Number.{Number}
 use Rattle.dialogue_core.specs.Phases.{Phase, Says, Asks}
 use Rattle.dialogue_core.specs.Rules.{on_begin}
 use Rattle.dialogue_core.specs.Views.{phase_of, says_of}
-use Rattle.shared_account.specs.Refusals.{IsRefusedAt, Knowing, Refusal}
-use Rattle.shared_account.specs.Seats.{Reads}
+use Rattle.account_core.specs.Refusals.{IsRefusedAt, Knowing, Refusal}
+use Rattle.account_core.specs.Seats.{Reads}
 use Rattle.price_core.specs.declared.route.Route.{Route}
 use Rattle.runs_core.specs.Handled.{Holding, IsRecharged, IsTalked, IsUnasked, AnswerView}
 use Rattle.run_values.specs.Setups.{Setup}

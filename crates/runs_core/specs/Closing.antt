@@ -1,11 +1,11 @@
 -- The accounts of a run are closed: what their books show of the workers.
 use Rattle.std.specs.Prelude.{◌≡◌, ◌+◌, ◌<◌, ℕ, true, List, [], ◌∷◌, length, map, All, slice_index_or}
 use Rattle.account_core.specs.Entries.{EntryData}
-use Rattle.shared_account.specs.Closed.{Closed, IsBookOf}
-use Rattle.shared_account.specs.Own.{own}
-use Rattle.shared_account.specs.Refusals.{IsRefusedAt, Knowing, Refusal}
-use Rattle.shared_account.specs.Seats.{Reads, are_all}
-use Rattle.shared_account.specs.Terms.{Terms}
+use Rattle.account_core.specs.Closed.{Closed, IsBookOf}
+use Rattle.account_core.specs.Own.{own}
+use Rattle.account_core.specs.Refusals.{IsRefusedAt, Knowing, Refusal}
+use Rattle.account_core.specs.Seats.{Reads, are_all}
+use Rattle.account_core.specs.Terms.{Terms}
 use Rattle.runs_core.specs.Refusals.{WasAt}
 use Rattle.runs_core.specs.Talks.{Showing}
 

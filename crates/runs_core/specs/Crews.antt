@@ -9,8 +9,8 @@ use Rattle.runs_core.specs.Goings.{GoesOn, HasAnswered}
 use Rattle.runs_core.specs.Hearing.{AreAnswers, HearsRounds, all_heard}
 use Rattle.runs_core.specs.Sending.{heard_by, sent_by}
 use Rattle.runs_core.specs.Shares.{AreShares, HaveHandled}
-use Rattle.shared_account.specs.Refusals.{Knowing}
-use Rattle.shared_account.specs.Seats.{Reads}
+use Rattle.account_core.specs.Refusals.{Knowing}
+use Rattle.account_core.specs.Seats.{Reads}
 use Rattle.runs_core.specs.declared.crew.Crew.{Crew}
 
 -- each list goes on with the list at its place

@@ -1,8 +1,8 @@
 -- A worker goes on: the posts that it handles, one after another, and its answers.
 use Rattle.std.specs.Prelude.{◌≡◌, ℕ, List, map}
 use Rattle.account_core.specs.Entries.{EntryData}
-use Rattle.shared_account.specs.Refusals.{Knowing, Refusal}
-use Rattle.shared_account.specs.Seats.{Reads}
+use Rattle.account_core.specs.Refusals.{Knowing, Refusal}
+use Rattle.account_core.specs.Seats.{Reads}
 use Rattle.runs_core.specs.Chains.{AreAnswered, at_first, seat_numbers}
 use Rattle.runs_core.specs.Handled.{AnswerView}
 use Rattle.runs_core.specs.Refusals.{RefusesAt, WasAt}

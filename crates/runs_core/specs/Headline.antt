@@ -5,7 +5,7 @@ use Rattle.account_core.specs.Available.{credits, taken_by_all}
 use Rattle.account_core.specs.Entries.{EntryData}
 use Rattle.account_core.specs.Known.{known}
 use Rattle.account_core.specs.Laws.{AreReported, IsClosed, last_report, paid_at_return}
-use Rattle.shared_account.specs.Closed.{Closed}
+use Rattle.account_core.specs.Closed.{Closed}
 use Rattle.price_core.specs.Price.{price_at}
 use Rattle.price_core.specs.Rates.{Rates}
 use Rattle.price_core.specs.declared.plan.TheConstants.{MAX_MONEY}

@@ -1,8 +1,8 @@
 -- What the driver of a run hears: the answers of the workers, in the order of its items.
 use Rattle.std.specs.Prelude.{◌≡◌, ◌++◌, ◌<◌, ◌==◌, ℕ, Bool, true, false, Option, List, [], ◌∷◌, length, map, flat_map, if◌then◌else◌, slice_index_or}
 use Rattle.account_core.specs.declared.fault.AccountFault.{AccountFault}
-use Rattle.shared_account.specs.Closed.{Closed}
-use Rattle.shared_account.specs.Refusals.{Knowing}
+use Rattle.account_core.specs.Closed.{Closed}
+use Rattle.account_core.specs.Refusals.{Knowing}
 use Rattle.runs_core.specs.Chains.{AnswersItsPosts, refusals_in}
 use Rattle.runs_core.specs.Handled.{answer_view}
 use Rattle.run_values.specs.Setups.{Setup}
@@ -12,7 +12,7 @@ use Rattle.run_values.specs.declared.post.Post.{Post}
 use Rattle.runs_core.specs.Closing.{lists_of, refuses_in}
 use Rattle.runs_core.specs.Shares.{HaveHandled, item_of, numbered, share, worker_of}
 use Rattle.runs_core.specs.Teams.{IsLeft}
-use Rattle.shared_account.specs.Seats.{Reads}
+use Rattle.account_core.specs.Seats.{Reads}
 
 -- there is one answer for each item, in the order of the items, whose numbers go on from this one
 abbrev pub AnswersEach : ℕ → List (ℕ × Body) → List Answer → Type 0

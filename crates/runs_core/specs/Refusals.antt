@@ -1,7 +1,7 @@
 -- What shows that an account refused a worker.
 use Rattle.std.specs.Prelude.{◌≡◌, ◌<◌, ℕ, List, length, slice_index_or}
 use Rattle.account_core.specs.Entries.{EntryData}
-use Rattle.shared_account.specs.Refusals.{IsRefusedAt, Knowing, Refusal}
+use Rattle.account_core.specs.Refusals.{IsRefusedAt, Knowing, Refusal}
 use Rattle.runs_core.specs.Talks.{Showing}
 
 -- a refusal that the seat at a place knows of

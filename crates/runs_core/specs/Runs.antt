@@ -7,8 +7,8 @@ use Rattle.run_values.specs.declared.post.Body.{Body}
 use Rattle.runs_core.specs.Closing.{terms_shown}
 use Rattle.runs_core.specs.Hearing.{AnswersEach, HearsRounds, IsAnsweredBy, all_heard}
 use Rattle.runs_core.specs.Teams.{terms_of}
-use Rattle.shared_account.specs.Closed.{Closed}
-use Rattle.shared_account.specs.Refusals.{Knowing}
+use Rattle.account_core.specs.Closed.{Closed}
+use Rattle.account_core.specs.Refusals.{Knowing}
 
 -- a run by so many workers in this setup has come to these books, where its driver has given these items and heard these answers
 pub record IsRun (Stood : Closed → ℕ → Knowing) (setup : Setup) (workers : ℕ) (given : List (ℕ × Body)) (answers : List Answer) (books : List Closed) : Type 0 where

@@ -1,8 +1,8 @@
 -- The links of the workers of a run: what was sent by them, and what their threads promise.
 use Rattle.std.specs.Prelude.{◌≡◌, ◌+◌, ◌++◌, ◌⊎◌, ℕ, List, [], ◌∷◌, map}
 use Rattle.runs_core.specs.Mails.{items_in}
-use Rattle.shared_account.specs.Refusals.{Knowing}
-use Rattle.shared_account.specs.Seats.{Reads}
+use Rattle.account_core.specs.Refusals.{Knowing}
+use Rattle.account_core.specs.Seats.{Reads}
 use Rattle.runs_core.specs.Teams.{IsLeft}
 use Rattle.runs_core.specs.declared.worker_link.WorkerLink.{WorkerLink}
 use Rattle.runs_core.specs.declared.promise.WorkerPromise.{WorkerPromise}

@@ -1,8 +1,8 @@
 -- The seats of the accounts of a run: a team of each worker's, a row of each account's.
 use Rattle.std.specs.Prelude.{◌≡◌, ◌+◌, ◌&&◌, ℕ, Bool, nat_le, true, List, [], ◌∷◌, map, All, ⊤}
-use Rattle.shared_account.specs.Refusals.{Knowing}
-use Rattle.shared_account.specs.Seats.{Reads, are_all}
-use Rattle.shared_account.specs.Terms.{Terms}
+use Rattle.account_core.specs.Refusals.{Knowing}
+use Rattle.account_core.specs.Seats.{Reads, are_all}
+use Rattle.account_core.specs.Terms.{Terms}
 use Rattle.runs_core.specs.Chains.{AnswersItsPosts}
 use Rattle.runs_core.specs.Handled.{AnswerView}
 use Rattle.runs_core.specs.Refusals.{RefusesAt}

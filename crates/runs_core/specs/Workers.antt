@@ -4,8 +4,8 @@ use Rattle.std.specs.BTreeMap.{is_at}
 use Rattle.std.specs.Map.{keys_of, lookup}
 use Rattle.std.specs.Ordering.{nat_cmp}
 use Rattle.account_core.specs.Entries.{EntryData}
-use Rattle.shared_account.specs.Seats.{Reads}
-use Rattle.shared_account.specs.Terms.{Terms}
+use Rattle.account_core.specs.Seats.{Reads}
+use Rattle.account_core.specs.Terms.{Terms}
 use Rattle.dialogue_core.specs.Phases.{Phase, FirstAsk, Running, Settling, MoreAsk, Returning, Ending, Closed}
 use Rattle.dialogue_core.specs.Views.{phase_of}
 use Rattle.runs_core.specs.Handled.{Holding}

@@ -11,16 +11,14 @@ ghost use Rattle.runs_core.specs.Refusals.{RefusesAt, WasAt};
 ghost use Rattle.runs_core.specs.Workers.{talk_standing, standings_in};
 ghost use Rattle.dialogue_core.specs.Talks.{asks_after, asks_left};
 ghost use Rattle.account_core.specs.Entries.{EntryData, asked_of};
-ghost use Rattle.shared_account.specs.Refusals.{IsRefusedAt, Refusal};
+ghost use Rattle.account_core.specs.Refusals.{IsRefusedAt, Refusal};
 ghost use Rattle.dialogue_core.specs.Views.{phase_of, says_of};
 
 use crate::worker::{Case, Talk};
-use account_core::{AccountFault, Op, Reply};
+use account_core::{AccountFault, Gate, Op, Reply, RisingMap, Shared};
 use cap_values::{Cause, Instructions};
 use dialogue_core::{Asker, Dialogue, Turn, converse};
-use rising_map::RisingMap;
 use run_values::{Answer, Body, RunFault};
-use shared_account::{Gate, Shared};
 use std::sync::Wait;
 
 /// Makes room for the dialogue of a case, where it has one: it is kept as it is before its

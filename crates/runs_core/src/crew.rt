@@ -13,8 +13,8 @@ ghost use Rattle.run_values.specs.declared.post.Answer.{Answer};
 
 use crate::worker::Worker;
 use crate::worker_link::WorkerLink;
+use account_core::{Gate, Shared};
 use run_values::{Answer, Post, RunFault};
-use shared_account::{Gate, Shared};
 use std::alloc::Global;
 use std::collections::VecDeque;
 use std::sync::Wait;

@@ -4,9 +4,9 @@ ghost use Rattle.std.specs.Prelude.{◌≡◌, ◌≤◌, [], length, map, IfOk,
 ghost use Rattle.runs_core.specs.Teams.{AreFresh, IsNew, terms_of};
 ghost use Rattle.runs_core.specs.LaidOut.{laid_out};
 
+use account_core::Shared;
 use price_core::MAX_MONEY;
 use run_values::{OpeningCredit, RunFault, RunSetup};
-use shared_account::Shared;
 use std::alloc::{AllocError, AllocFailed, Global};
 
 /// The accounts of a run, in order, and the seats of each worker, one of each account.

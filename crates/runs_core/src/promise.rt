@@ -1,8 +1,8 @@
 //! What a worker's thread promises.
 
 use crate::ends::{Inbox, Outbox};
+use account_core::{Gate, Shared};
 use run_values::{Answer, Post, RunFault, RunSetup};
-use shared_account::{Gate, Shared};
 use std::snapshot::Snapshot;
 use std::thread::Promise;
 

@@ -13,9 +13,9 @@ ghost use Rattle.run_values.specs.declared.post.Body.{Body};
 
 use crate::crew::Crew;
 use crate::shares::{share_out, worker_of};
+use account_core::{Gate, Shared};
 use price_core::HORIZON;
 use run_values::{Answer, Body, Driver, RunFault};
-use shared_account::{Gate, Shared};
 use std::alloc::Global;
 use std::collections::VecDeque;
 use std::sync::Wait;

@@ -9,8 +9,8 @@ ghost use Rattle.runs_core.specs.Teams.{AreFresh};
 ghost use Rattle.runs_core.specs.Workers.{number_by};
 
 use crate::worker_link::{WorkerLink, start};
+use account_core::{Gate, Shared};
 use run_values::{RunFault, RunSetup};
-use shared_account::{Gate, Shared};
 use std::alloc::Global;
 use std::sync::Wait;
 use std::thread::{Scope, Threads};

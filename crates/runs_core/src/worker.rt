@@ -9,19 +9,18 @@ ghost use Rattle.runs_core.specs.Workers.{IsReady, accounts_of, holding, number_
 ghost use Rattle.runs_core.specs.Calls.{AreCalled};
 ghost use Rattle.runs_core.specs.Cases.{IsCase};
 ghost use Rattle.account_core.specs.Entries.{EntryData};
-ghost use Rattle.shared_account.specs.Refusals.{Refusal};
+ghost use Rattle.account_core.specs.Refusals.{Refusal};
 ghost use Rattle.cap_values.specs.Orders.{Release, orders_in};
 ghost use Rattle.dialogue_core.specs.Rules.{on_message};
 ghost use Rattle.dialogue_core.specs.Views.{phase_of};
 ghost use Rattle.run_values.specs.Setups.{place_of};
 
 use crate::acting::{act, make_room, notify_gate, pass};
+use account_core::{Gate, RisingMap, Shared};
 use cap_values::{Number, SsfMsg};
 use dialogue_core::{Dialogue, Turn};
 use price_core::HORIZON;
-use rising_map::RisingMap;
 use run_values::{Answer, Body, Post, RunFault, RunSetup};
-use shared_account::{Gate, Shared};
 use std::alloc::Global;
 use std::sync::Wait;
 

@@ -8,16 +8,16 @@ use Rattle.account_core.specs.Entries.{EntryData}
 use Rattle.account_core.specs.Ledger.{entry_by}
 use Rattle.account_core.specs.declared.entry.Reply.{Reply}
 use Rattle.account_core.specs.declared.fault.AccountFault.{AccountFault}
-use Rattle.shared_account.specs.Kinds.{IsReplyTo}
-use Rattle.shared_account.specs.Own.{own}
+use Rattle.account_core.specs.Kinds.{IsReplyTo}
+use Rattle.account_core.specs.Own.{own}
 use Rattle.turn_account.specs.Plays.{HasMet, IsLater, Sitter, with_entry}
-use Rattle.shared_account.specs.Prefixes.{EndsWithEntry, IsPrefix}
+use Rattle.account_core.specs.Prefixes.{EndsWithEntry, IsPrefix}
 use Rattle.turn_account.specs.Sitting.{IsSitting}
 use Rattle.turn_account.specs.Views.{at_stage, hearing, seeing}
 use Rattle.turn_account.specs.declared.board.Stage.TheVariants.{Idles}
 use Rattle.turn_account.specs.declared.board.View.{View}
-use Rattle.shared_account.proofs.Answering.{answer_fits}
-use Rattle.shared_account.proofs.Beginnings.{begins_further, begins_longer, own_entry}
+use Rattle.account_core.proofs.ReplyKinds.{answer_fits}
+use Rattle.account_core.proofs.Beginnings.{begins_further, begins_longer, own_entry}
 
 -- a seat after its turn: it has seen what it saw, and more
 pub record HasGone (before after : View) : Type 0 where

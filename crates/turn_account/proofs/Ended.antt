@@ -7,9 +7,9 @@ use mathlib.Core.Logic.{dite}
 use Rattle.account_core.specs.Entries.{EntryData}
 use Rattle.account_core.specs.Ledger.{Ledger}
 use Rattle.turn_account.specs.Ended.{HasEnded, HaveEnded}
-use Rattle.shared_account.specs.Own.{own}
-use Rattle.shared_account.specs.Prefixes.{IsPrefix}
-use Rattle.shared_account.proofs.Beginnings.{begins_further}
+use Rattle.account_core.specs.Own.{own}
+use Rattle.account_core.specs.Prefixes.{IsPrefix}
+use Rattle.account_core.proofs.Beginnings.{begins_further}
 
 -- one more seat has ended
 pub one_ended : (account : Ledger) (first : ℕ) (lasts : List Ledger) (last : Ledger) → HaveEnded account first lasts

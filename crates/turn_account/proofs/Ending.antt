@@ -5,10 +5,10 @@ use Rattle.std.proofs.lemmas.Bool.{and_from, eqb-true, and_parts}
 use Rattle.std.proofs.lemmas.List.{get_or-map, length-map}
 use Rattle.account_core.specs.Ledger.{Ledger}
 use Rattle.turn_account.specs.Ended.{HasEnded, HaveEnded}
-use Rattle.shared_account.specs.Own.{IsMerged, own}
-use Rattle.shared_account.specs.Seats.{are_all, are_numbered}
+use Rattle.account_core.specs.Own.{IsMerged, own}
+use Rattle.account_core.specs.Seats.{are_all, are_numbered}
 use Rattle.turn_account.specs.TurnViews.{TurnSeatView, own_of}
-use Rattle.shared_account.proofs.Numbering.{numbered_at}
+use Rattle.account_core.proofs.Numbering.{numbered_at}
 
 -- the seat at a place among those that have ended
 pub ended_at : (account : Ledger) (first : ℕ) (lasts : List Ledger) (k : ℕ) (d : Ledger) → HaveEnded account first lasts → k < length lasts

@@ -9,15 +9,15 @@ use Rattle.atomic_table.specs.Table.{Allows, Joins, Splits, keeps, step}
 use Rattle.atomic_table.proofs.Lists.{set_again, set_else}
 use Rattle.account_core.specs.Answers.{IsLegal}
 use Rattle.account_core.specs.Entries.{EntryData}
-use Rattle.shared_account.specs.Own.{own}
+use Rattle.account_core.specs.Own.{own}
 use Rattle.turn_account.specs.Plays.{HasMet, Sitter, compared}
-use Rattle.shared_account.specs.Prefixes.{IsPrefix}
+use Rattle.account_core.specs.Prefixes.{IsPrefix}
 use Rattle.turn_account.specs.Turns.{Kept, Knows}
 use Rattle.turn_account.specs.Views.{IsSeat, hearing, note_of, seats_at, seeing, spent_note, tickets_at}
 use Rattle.turn_account.specs.declared.board.Stage.TheVariants.{Idles, Notes, Serves}
 use Rattle.turn_account.specs.declared.board.Start.{Start}
 use Rattle.turn_account.specs.declared.board.View.{View}
-use Rattle.shared_account.proofs.Beginnings.{begins_any, begins_itself, legal_begins, own_between, shorter_begins}
+use Rattle.account_core.proofs.Beginnings.{begins_any, begins_itself, legal_begins, own_between, shorter_begins}
 use Rattle.turn_account.proofs.Rosters.{apart_end, lies_end, note_apart, total_end, views_grow}
 use Rattle.turn_account.proofs.Keeping.{Table, revises, unchanged}
 

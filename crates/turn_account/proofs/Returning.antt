@@ -8,8 +8,8 @@ use Rattle.account_core.specs.Places.{IsOwed}
 use Rattle.account_core.specs.declared.entry.Reply.{Reply}
 use Rattle.account_core.specs.declared.fault.AccountFault.{AccountFault}
 use Rattle.account_core.specs.declared.fault.AccountFault.TheVariants as fault
-use Rattle.shared_account.specs.Kinds.{IsReturn}
-use Rattle.shared_account.proofs.Refusing.{return_closed}
+use Rattle.account_core.specs.Kinds.{IsReturn}
+use Rattle.account_core.proofs.Refusing.{return_closed}
 
 open_or_not : (open_yet : Bool) (account : Ledger) (call : ℕ) (why : AccountFault) → is_open (known call (reverse account.history)) ≡ open_yet
     → (is_open (known call (reverse account.history)) ≡ true → why ≡ fault.GateClosed) → (why ≡ fault.GateClosed) ⊎ IsRefusal account (Returns call) why

@@ -7,7 +7,7 @@ use lib.ListN.{get_elem?}
 use Rattle.atomic_table.proofs.Lists.{at_longer, at_set, set_else, set_here}
 use Rattle.account_core.specs.Ledger.{Ledger}
 use Rattle.turn_account.specs.Ended.{HaveEnded}
-use Rattle.shared_account.specs.Prefixes.{IsPrefix}
+use Rattle.account_core.specs.Prefixes.{IsPrefix}
 use Rattle.turn_account.specs.Turns.{BoardState, AllApart, AreApart, HasTurn, IsNumbered, IsOut, IsTakenUp, Knows, AccountLiesAt}
 use Rattle.turn_account.specs.Views.{IsSeat, seats_at, ticket_of, tickets_at, total}
 use Rattle.turn_account.specs.declared.board.Stage.{Stage}

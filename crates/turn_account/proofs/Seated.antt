@@ -6,9 +6,9 @@ use Rattle.std.proofs.lemmas.List.{length-map, map-append}
 use Rattle.std.proofs.lemmas.List.Elements.{All-nil, All-push}
 use Rattle.atomic_table.specs.Seated.{TableId}
 use Rattle.account_core.specs.Ledger.{Ledger}
-use Rattle.shared_account.specs.Seats.{are_all, are_numbered}
+use Rattle.account_core.specs.Seats.{are_all, are_numbered}
 use Rattle.turn_account.specs.TurnViews.{TurnSeatView, fresh_turn_seats}
-use Rattle.shared_account.proofs.Numbering.{numbered_push}
+use Rattle.account_core.proofs.Numbering.{numbered_push}
 
 module _ (table : TableId) (view : Ledger) where
   abbrev fresh : ℕ → TurnSeatView

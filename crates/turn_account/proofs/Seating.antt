@@ -11,14 +11,14 @@ use Rattle.atomic_table.proofs.Lists.{at_set, set_else}
 use Rattle.account_core.specs.Entries.{EntryData}
 use Rattle.account_core.specs.Ledger.{Ledger}
 use Rattle.turn_account.specs.Ended.{HasEnded, IsClosedAs}
-use Rattle.shared_account.specs.Own.{own}
-use Rattle.shared_account.specs.Prefixes.{IsPrefix}
+use Rattle.account_core.specs.Own.{own}
+use Rattle.account_core.specs.Prefixes.{IsPrefix}
 use Rattle.turn_account.specs.Turns.{BoardState, AccountLiesAt, AreApart, IsNumbered, Kept, Knows}
 use Rattle.turn_account.specs.Views.{IsSeat, first_view, next_seat, one_seat_more, seats_at, spent_note, taking_in, ticket_of, tickets_at}
 use Rattle.turn_account.specs.declared.board.Stage.TheVariants.{Idles, Serves}
 use Rattle.turn_account.specs.declared.board.Start.{Start}
 use Rattle.turn_account.specs.declared.board.View.{View}
-use Rattle.shared_account.proofs.Beginnings.{begins_any, begins_within, own_begins}
+use Rattle.account_core.proofs.Beginnings.{begins_any, begins_within, own_begins}
 use Rattle.turn_account.proofs.Ended.{all_below, one_ended}
 use Rattle.turn_account.proofs.Rosters.{apart_alike, apart_end, apart_set, knows_again, lies_end, lies_set, note_apart, total_end, total_kept, total_set, views_grow, views_stay}
 use Rattle.turn_account.proofs.Keeping.{Table}

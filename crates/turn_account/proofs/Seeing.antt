@@ -9,15 +9,15 @@ use Rattle.account_core.specs.Places.{IsOwed}
 use Rattle.account_core.specs.declared.entry.Reply.{Reply}
 use Rattle.account_core.specs.declared.fault.AccountFault.{AccountFault}
 use Rattle.account_core.specs.declared.fault.AccountFault.TheVariants as fault
-use Rattle.shared_account.specs.Closed.{Closed}
-use Rattle.shared_account.specs.Own.{asks_of_call, of_call, own}
-use Rattle.shared_account.specs.Prefixes.{IsPrefix}
-use Rattle.shared_account.specs.Refusals.{IsAlone, Refusal}
-use Rattle.shared_account.specs.declared.fault.CloseFault.{CloseFault}
+use Rattle.account_core.specs.Closed.{Closed}
+use Rattle.account_core.specs.Own.{asks_of_call, of_call, own}
+use Rattle.account_core.specs.Prefixes.{IsPrefix}
+use Rattle.account_core.specs.Refusals.{IsAlone, Refusal}
+use Rattle.account_core.specs.declared.close_fault.CloseFault.{CloseFault}
 use Rattle.turn_account.specs.Seen.{CallsOfOneSeatAreAlone, HasSeen, IsOpenedAs, StoodIn}
 use Rattle.turn_account.specs.TurnViews.{TurnSeatView, own_of}
-use Rattle.shared_account.proofs.Beginnings.{begins_further, begins_itself}
-use Rattle.shared_account.proofs.Owning.{owed_alike}
+use Rattle.account_core.proofs.Beginnings.{begins_further, begins_itself}
+use Rattle.account_core.proofs.Owning.{owed_alike}
 
 -- what a call that is the seat's alone is owed by its own entries, it is owed in the account that it has seen
 pub owed_alone : (seat : TurnSeatView) (mine : List EntryData) (entry : Reply → EntryData) (asked : Asked) (response : Result Reply AccountFault)

@@ -13,15 +13,15 @@ use Rattle.account_core.specs.Entries.{EntryData}
 use Rattle.account_core.specs.Ledger.{Ledger, answer_of, refusal_of}
 use Rattle.account_core.specs.SharingLaws.{EachIsOwedItsShare}
 use Rattle.turn_account.specs.Ended.{HaveEnded}
-use Rattle.shared_account.specs.Own.{own}
+use Rattle.account_core.specs.Own.{own}
 use Rattle.turn_account.specs.Plays.{IsLater, Sitter, appended, issued, handed, looked, with_entry}
-use Rattle.shared_account.specs.Prefixes.{IsPrefix}
+use Rattle.account_core.specs.Prefixes.{IsPrefix}
 use Rattle.turn_account.specs.Turns.{BoardState, AllApart, AllKnow, AreWords, IsOut, IsTakenUp, Kept, Knows, AccountLiesAt}
 use Rattle.turn_account.specs.Views.{IsSeat, IsServing, at_stage, its_ticket, seats_at, seeing, ticket_of, tickets_at}
 use Rattle.turn_account.specs.declared.board.Stage.TheVariants.{Idles, Serves, Waits}
 use Rattle.turn_account.specs.declared.board.Start.{Start}
 use Rattle.turn_account.specs.declared.board.View.{View}
-use Rattle.shared_account.proofs.Beginnings.{begins_further, begins_itself, begins_longer, own_other}
+use Rattle.account_core.proofs.Beginnings.{begins_further, begins_itself, begins_longer, own_other}
 use Rattle.turn_account.proofs.Ended.{ended_longer}
 use Rattle.turn_account.proofs.Longer.{legal_with, short_with}
 use Rattle.turn_account.proofs.Rosters.{apart_alike, apart_set, knows_again, lies_set, tickets_fewer, total_kept, total_set, views_stay, within_views}

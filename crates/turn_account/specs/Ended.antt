@@ -2,8 +2,8 @@
 use Rattle.std.specs.Prelude.{◌≡◌, ◌≤◌, ◌<◌, ◌+◌, ℕ, List, [], ◌∷◌, length, All}
 use Rattle.account_core.specs.Answers.{IsLegal}
 use Rattle.account_core.specs.Ledger.{Ledger}
-use Rattle.shared_account.specs.Own.{own}
-use Rattle.shared_account.specs.Prefixes.{IsPrefix}
+use Rattle.account_core.specs.Own.{own}
+use Rattle.account_core.specs.Prefixes.{IsPrefix}
 use Rattle.turn_account.specs.declared.board.Start.{Start}
 
 -- a seat that has ended has seen the account as it was opened, and all entries of its own

@@ -4,8 +4,8 @@ use Rattle.atomic_table.specs.Table.{Me, Step, rest}
 use Rattle.account_core.specs.Answers.{IsLegal}
 use Rattle.account_core.specs.Entries.{EntryData}
 use Rattle.account_core.specs.Ledger.{Ledger}
-use Rattle.shared_account.specs.Own.{own}
-use Rattle.shared_account.specs.Prefixes.{IsPrefix}
+use Rattle.account_core.specs.Own.{own}
+use Rattle.account_core.specs.Prefixes.{IsPrefix}
 use Rattle.turn_account.specs.Views.{at_stage, its_ticket, seeing}
 use Rattle.turn_account.specs.declared.board.Stage.TheVariants.{Idles, Serves, Waits}
 use Rattle.turn_account.specs.declared.board.View.{View}

@@ -2,10 +2,10 @@
 use Rattle.std.specs.Prelude.{◌≡◌, ℕ, List, true, All}
 use Rattle.account_core.specs.Entries.{EntryData}
 use Rattle.account_core.specs.Ledger.{Ledger}
-use Rattle.shared_account.specs.Closed.{Closed}
-use Rattle.shared_account.specs.Own.{asks_of_call, own}
-use Rattle.shared_account.specs.Prefixes.{IsPrefix}
-use Rattle.shared_account.specs.Refusals.{IsAlone, Refusal}
+use Rattle.account_core.specs.Closed.{Closed}
+use Rattle.account_core.specs.Own.{asks_of_call, own}
+use Rattle.account_core.specs.Prefixes.{IsPrefix}
+use Rattle.account_core.specs.Refusals.{IsAlone, Refusal}
 use Rattle.turn_account.specs.TurnViews.{TurnSeatView}
 
 -- when the seat's own entries were these, the account that refused it was this: it was opened as the seat's view says, and its history begins what the seat has seen

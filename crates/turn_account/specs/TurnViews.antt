@@ -4,8 +4,8 @@ use Rattle.std.proofs.Common.{zero, suc}
 use Rattle.atomic_table.specs.Seated.{TableId}
 use Rattle.account_core.specs.Entries.{EntryData}
 use Rattle.account_core.specs.Ledger.{Ledger}
-use Rattle.shared_account.specs.Own.{own}
-use Rattle.shared_account.specs.Terms.{Terms}
+use Rattle.account_core.specs.Own.{own}
+use Rattle.account_core.specs.Terms.{Terms}
 
 -- which account it is, which no other shares, and what it was made with
 pub record TurnView : Type 0 where

@@ -7,8 +7,8 @@ use Rattle.atomic_table.specs.Table.{State}
 use Rattle.account_core.specs.Answers.{IsLegal}
 use Rattle.account_core.specs.Ledger.{Ledger}
 use Rattle.turn_account.specs.Ended.{HaveEnded}
-use Rattle.shared_account.specs.Own.{own}
-use Rattle.shared_account.specs.Prefixes.{IsPrefix}
+use Rattle.account_core.specs.Own.{own}
+use Rattle.account_core.specs.Prefixes.{IsPrefix}
 use Rattle.turn_account.specs.Views.{IsSeat, seats_at, ticket_of, tickets_at, total}
 use Rattle.turn_account.specs.declared.board.Stage.TheVariants.{Serves}
 use Rattle.turn_account.specs.declared.board.Start.{Start}

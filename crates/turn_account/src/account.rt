@@ -1,12 +1,12 @@
 //! The account that is handed on by turns.
 
 ghost use Rattle.std.specs.Prelude.{◌≡◌, ◌≤◌, ◌↔◌, ◌⊎◌, ◌++◌, ◌∷◌, List, [], Some, false, map, reverse, All, MatchResult, OnErr, IfOk, IfErr};
-ghost use Rattle.shared_account.specs.Closed.{IsBookOf};
-ghost use Rattle.shared_account.specs.Refusals.{Refusal};
-ghost use Rattle.shared_account.specs.Seats.{are_all};
+ghost use Rattle.account_core.specs.Closed.{IsBookOf};
+ghost use Rattle.account_core.specs.Refusals.{Refusal};
+ghost use Rattle.account_core.specs.Seats.{are_all};
 ghost use Rattle.turn_account.specs.Seen.{IsOpenedAs};
 ghost use Rattle.turn_account.specs.Plays.{with_entry};
-ghost use Rattle.shared_account.specs.Prefixes.{EndsWithEntry, IsPrefix};
+ghost use Rattle.account_core.specs.Prefixes.{EndsWithEntry, IsPrefix};
 ghost use Rattle.turn_account.specs.TurnViews.{IsSameSeat, fresh_turn_seats, own_of, unused};
 ghost use Rattle.turn_account.specs.Boards.{IsAt};
 ghost use Rattle.turn_account.specs.Views.{IsServing, seeing};
@@ -14,7 +14,7 @@ ghost use Rattle.account_core.specs.Answers.{IsLegal};
 ghost use Rattle.account_core.specs.Entries.{EntryData, asked_of};
 ghost use Rattle.account_core.specs.Ledger.{IsRefusal, entry_by};
 ghost use Rattle.account_core.specs.Places.{IsOwed};
-ghost use Rattle.shared_account.specs.declared.fault.CloseFault.TheVariants as close;
+ghost use Rattle.account_core.specs.declared.close_fault.CloseFault.TheVariants as close;
 
 use crate::closing::close_board;
 use crate::seat::make_seats;
@@ -22,9 +22,8 @@ use crate::{
     Board, Chair, Start, TurnSeat, append, ask_in_turn, compare_views, hand_on, hear, lay_board,
     take_turn,
 };
-use account_core::{AccountFault, Entry, Op, Reply};
+use account_core::{AccountFault, Book, CloseFault, Entry, Gate, Op, Reply, Shared};
 use price_core::MAX_MONEY;
-use shared_account::{Book, CloseFault, Gate, Shared};
 use std::alloc::Global;
 use std::marker::Model;
 use std::sync::{Mutex, Wait};

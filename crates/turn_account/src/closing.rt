@@ -1,18 +1,18 @@
 //! The close of a turn account.
 
 ghost use Rattle.std.specs.Prelude.{◌≡◌, ◌+◌, ◌↔◌, ◌≤◌, ◌<◌, ◌++◌, ◌∷◌, [], true, false, length, map, All, IfOk, IfErr};
-ghost use Rattle.shared_account.specs.Closed.{IsBookOf};
-ghost use Rattle.shared_account.specs.Prefixes.{IsPrefix};
-ghost use Rattle.shared_account.specs.Seats.{are_all, are_numbered};
+ghost use Rattle.account_core.specs.Closed.{IsBookOf};
+ghost use Rattle.account_core.specs.Prefixes.{IsPrefix};
+ghost use Rattle.account_core.specs.Seats.{are_all, are_numbered};
 ghost use Rattle.turn_account.specs.Seen.{IsOpenedAs};
 ghost use Rattle.turn_account.specs.Sitting.{IsBoard};
 ghost use Rattle.turn_account.specs.Boards.{IsAt};
 ghost use Rattle.turn_account.specs.TurnViews.{own_of};
 ghost use Rattle.turn_account.specs.declared.board.Stage.TheVariants.{Idles};
-ghost use Rattle.shared_account.specs.declared.fault.CloseFault.TheVariants as close;
+ghost use Rattle.account_core.specs.declared.close_fault.CloseFault.TheVariants as close;
 
 use crate::{Board, Chair, TurnSeat, clear_board, take_in};
-use shared_account::{Book, CloseFault};
+use account_core::{Book, CloseFault};
 
 /// The book of an account whose seats were all handed in, in order. One takes in the others.
 pub(crate) fn close_board(

@@ -1,6 +1,6 @@
 //! A gate at which two calls, or two accounts, wait for each other.
 
-use shared_account::Gate;
+use account_core::Gate;
 use std::sync::atomic::{AtomicBool, Ordering};
 use std::thread;
 

@@ -1,7 +1,7 @@
 //! Gates that shut.
 
 use super::meeting::is_soon;
-use shared_account::Gate;
+use account_core::Gate;
 use std::sync::atomic::{AtomicBool, AtomicU32, Ordering};
 use std::thread;
 

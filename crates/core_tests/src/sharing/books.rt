@@ -6,10 +6,9 @@ use super::forms::{Ask, close, entries_of_each, op_of, says, two_seats, two_seat
 use super::histories::{RUNS, Row, Run};
 use crate::answers::{Answer, Want};
 use crate::looking::{gives, prints};
-use account_core::{Op, Port};
+use account_core::{Book, CloseFault, Gate, Op, OpenGate, Port, Shared, SharedPort};
 use locked_account::SharedAccount;
 use price_core::MAX_MONEY;
-use shared_account::{Book, CloseFault, Gate, OpenGate, Shared, SharedPort};
 use std::alloc::Global;
 use std::process::Abort;
 use std::sync::Wait;

@@ -5,9 +5,8 @@ ghost use Rattle.std.specs.Prelude.{◌≡◌, ◌≤◌};
 use crate::answers::{Answer, Want, answer_of};
 use crate::looking::gives;
 use crate::plans::CHEAPER;
-use account_core::Op;
+use account_core::{Book, CloseFault, Op, Shared};
 use price_core::{MAX_MONEY, TimeInfo};
-use shared_account::{Book, CloseFault, Shared};
 use std::alloc::Global;
 use std::process::Abort;
 

@@ -3,7 +3,7 @@
 use super::forms::{Ask, close, entries_of_each, op_of, says, two_seats};
 use crate::answers::Want;
 use crate::looking::gives;
-use shared_account::{Book, OpenGate};
+use account_core::{Book, OpenGate};
 use std::alloc::Global;
 use std::process::Abort;
 use std::sync::Wait;

@@ -5,7 +5,7 @@ use Rattle.std.specs.BTreeMap.{is_at}
 use Rattle.std.specs.Ordering.{nat_cmp}
 use Rattle.account_core.specs.Entries.{entry_data}
 use Rattle.book_texts.proofs.CheckLemmas.{checks_set, found, heard_by, is_found, not_found}
-use Rattle.rising_map.proofs.RisingLemmas.{absent, present, set_there}
+use Rattle.account_core.proofs.RisingLemmas.{absent, present, set_there}
 use Rattle.book_texts.proofs.account_checks.hear_list.Goals as goal
 
 pub returns-in_default-clause-comes : goal.returns-in_default-clause-comes

@@ -1,6 +1,6 @@
 use Rattle.std.proofs.Common.{◌++◌, ap, sym, ◌∙◌}
 use Rattle.std.specs.Vec.Iter.{into_iter_items}
-use Rattle.rising_map.proofs.RisingLemmas.{mapped_more}
+use Rattle.account_core.proofs.RisingLemmas.{mapped_more}
 use Rattle.book_texts.proofs.account_checks.mapped.Goals as goal
 
 pub loop-account-preserved-in_ok-insert : goal.loop-account-preserved-in_ok-insert

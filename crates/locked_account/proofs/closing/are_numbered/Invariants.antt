@@ -1,5 +1,5 @@
 use Rattle.std.proofs.Common.{◌≡◌, drop, map}
-use Rattle.shared_account.specs.Seats.{are_numbered}
+use Rattle.account_core.specs.Seats.{are_numbered}
 use Rattle.locked_account.proofs.closing.are_numbered.Given as goal
 
 abbrev pub invariant-loop-at : goal.invariant-loop-at

@@ -1,7 +1,7 @@
 use Rattle.std.proofs.Common.{◌≡◌, take, map}
 use Rattle.std.specs.Prelude.{All}
 use Rattle.account_core.specs.Entries.{entry_data}
-use Rattle.shared_account.specs.Own.{own}
+use Rattle.account_core.specs.Own.{own}
 use Rattle.locked_account.proofs.closing.have_own.Given as goal
 
 abbrev pub invariant-loop-seat : goal.invariant-loop-seat

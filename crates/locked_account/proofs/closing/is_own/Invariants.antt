@@ -1,6 +1,6 @@
 use Rattle.std.proofs.Common.{◌≡◌, ◌≤◌, take, map, length}
 use Rattle.account_core.specs.Entries.{entry_data}
-use Rattle.shared_account.specs.Own.{own}
+use Rattle.account_core.specs.Own.{own}
 use Rattle.locked_account.proofs.closing.is_own.Given as goal
 
 abbrev pub invariant-loop-entry : goal.invariant-loop-entry

@@ -3,7 +3,7 @@ use Rattle.std.specs.BTreeMap.{is_at}
 use Rattle.std.specs.Map.{lookup}
 use Rattle.std.specs.Ordering.{nat_cmp}
 use Rattle.account_core.specs.declared.call_stage.CallStage.TheVariants.{Fresh}
-use Rattle.rising_map.proofs.RisingLemmas.{kept_there}
+use Rattle.account_core.proofs.RisingLemmas.{kept_there}
 use Rattle.locked_account.proofs.Roominess.{fresh_put}
 use Rattle.locked_account.proofs.seat.kept_stage.Goals as goal
 

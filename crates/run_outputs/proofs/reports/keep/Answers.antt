@@ -1,6 +1,6 @@
 use Rattle.std.proofs.Common.{[]}
 use Rattle.std.proofs.lemmas.Result.{on_ok_weaker}
-use Rattle.rising_map.proofs.RisingLemmas.{kept_of}
+use Rattle.account_core.proofs.RisingLemmas.{kept_of}
 use Rattle.run_outputs.specs.Calls.{call_reports_of}
 use Rattle.run_outputs.proofs.reports.keep.Goals as goal
 

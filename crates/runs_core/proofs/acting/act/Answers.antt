@@ -10,7 +10,7 @@ use Rattle.runs_core.specs.Workers.{standings_in}
 use Rattle.runs_core.proofs.CaseLemmas.{as_many, grown_at, mine_at, numbered_at, on_ok, own_account, recharged_by, same_seats, stands_now, talked_by, was_at, was_there}
 use Rattle.runs_core.proofs.Talking.{calls_for, fault_answer, right_known, rights_known, so_ended, spoken, spoken_out}
 use Rattle.runs_core.specs.Refusals.{WasAt}
-use Rattle.shared_account.specs.Refusals.{IsRefusedAt}
+use Rattle.account_core.specs.Refusals.{IsRefusedAt}
 use Rattle.std.specs.Prelude.{slice_index_or, slice_set}
 use Rattle.runs_core.proofs.acting.act.Goals as goal
 

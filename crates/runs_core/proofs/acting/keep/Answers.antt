@@ -1,4 +1,4 @@
-use Rattle.rising_map.proofs.RisingLemmas.{looked_up_at}
+use Rattle.account_core.proofs.RisingLemmas.{looked_up_at}
 use Rattle.runs_core.proofs.acting.keep.Goals as goal
 
 pub returns : goal.returns

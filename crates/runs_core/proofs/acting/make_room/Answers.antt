@@ -1,4 +1,4 @@
-use Rattle.rising_map.proofs.RisingLemmas.{kept_there, looked_up_at}
+use Rattle.account_core.proofs.RisingLemmas.{kept_there, looked_up_at}
 use Rattle.runs_core.proofs.CaseLemmas.{stands_now}
 use Rattle.runs_core.proofs.acting.make_room.Goals as goal
 

@@ -2,10 +2,10 @@ use Rattle.std.proofs.Common.{◌≡◌, List, length, map, sym, ◌∙◌, subs
 use Rattle.std.specs.Prelude.{◌<◌, ◌≤◌, ◌==◌, All}
 use Rattle.std.proofs.lemmas.Bool.{and_parts}
 use Rattle.account_core.specs.Ledger.{Ledger}
-use Rattle.shared_account.specs.Closed.{Closed, IsBookOf}
+use Rattle.account_core.specs.Closed.{Closed, IsBookOf}
 use Rattle.turn_account.specs.Ended.{HaveEnded}
-use Rattle.shared_account.specs.Prefixes.{IsPrefix}
-use Rattle.shared_account.specs.Seats.{are_all, are_numbered}
+use Rattle.account_core.specs.Prefixes.{IsPrefix}
+use Rattle.account_core.specs.Seats.{are_all, are_numbered}
 use Rattle.turn_account.specs.Seen.{IsOpenedAs}
 use Rattle.turn_account.specs.TurnViews.{TurnSeatView, own_of}
 use Rattle.turn_account.specs.Views.{unopened}

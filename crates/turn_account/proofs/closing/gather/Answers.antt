@@ -1,6 +1,6 @@
 use Rattle.std.proofs.Common.{◌≡◌, ◌∷◌, ◌++◌, [], List, length, map, ap, arith, subst, true, rules}
 use Rattle.std.proofs.lemmas.List.{length-map}
-use Rattle.shared_account.specs.Seats.{are_numbered}
+use Rattle.account_core.specs.Seats.{are_numbered}
 use Rattle.turn_account.specs.TurnViews.{TurnSeatView}
 use Rattle.turn_account.specs.declared.board.View.{View}
 use Rattle.turn_account.proofs.Ending.{numbered_last}

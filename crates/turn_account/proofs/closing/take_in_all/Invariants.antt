@@ -1,7 +1,7 @@
 use Rattle.std.proofs.Common.{◌≡◌, ◌++◌, length, map, true}
 use Rattle.std.specs.Prelude.{All}
 use Rattle.std.specs.Vec.Iter.{into_iter_items}
-use Rattle.shared_account.specs.Seats.{are_numbered}
+use Rattle.account_core.specs.Seats.{are_numbered}
 use Rattle.turn_account.proofs.closing.take_in_all.Given as goal
 
 abbrev pub invariant-loop-seat : goal.invariant-loop-seat

@@ -1,7 +1,7 @@
 use Rattle.std.proofs.Common.{ap, sym, ◌∙◌}
 use Rattle.std.proofs.lemmas.Result.{IfOk-weaker}
-use Rattle.rising_map.specs.Listings.{listed}
-use Rattle.rising_map.proofs.RisingLemmas.{sorted}
+use Rattle.account_core.specs.Listings.{listed}
+use Rattle.account_core.proofs.RisingLemmas.{sorted}
 use Rattle.account_core.proofs.SumLemmas.{listed_sums}
 use Rattle.account_core.proofs.call_states.CallStates.sums.Goals as goal
 

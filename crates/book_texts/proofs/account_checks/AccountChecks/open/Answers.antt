@@ -2,7 +2,7 @@ use Rattle.std.proofs.Common.{[]}
 use Rattle.std.specs.BTreeMap.{is_at}
 use Rattle.std.specs.Ordering.{nat_cmp}
 use Rattle.book_texts.proofs.CheckLemmas.{checks_inserted, found, not_found}
-use Rattle.rising_map.proofs.RisingLemmas.{absent, below_other, inserted_last, rising_more}
+use Rattle.account_core.proofs.RisingLemmas.{absent, below_other, inserted_last, rising_more}
 use Rattle.book_texts.specs.Books.{Booked}
 use Rattle.book_texts.proofs.account_checks.AccountChecks.open.Goals as goal
 

@@ -1,6 +1,6 @@
 use Rattle.std.proofs.Common.{◌++◌, List, sym, subst}
 use Rattle.std.proofs.lemmas.List.{append-nil, take_all}
-use Rattle.shared_account.specs.Closed.{Closed}
+use Rattle.account_core.specs.Closed.{Closed}
 use Rattle.book_texts.proofs.LineLemmas.{next_lines}
 use Rattle.book_texts.specs.RunTexts.{AreLinesOf}
 use Rattle.book_texts.proofs.lines.RunLines.add.Goals as goal

@@ -1,5 +1,5 @@
 use Rattle.std.proofs.Common.{◌++◌, List, take}
-use Rattle.shared_account.specs.Closed.{Closed}
+use Rattle.account_core.specs.Closed.{Closed}
 use Rattle.book_texts.specs.RunTexts.{AreLinesOf}
 use Rattle.book_texts.proofs.lines.RunLines.add.Given as goal
 

@@ -1,7 +1,7 @@
 use Rattle.std.proofs.Common.{◌≡◌, [], List, map, true, refl, sym, ap, subst}
 use Rattle.std.proofs.lemmas.List.Elements.{All-same}
 use Rattle.std.proofs.lemmas.Result.{IfOk-weaker}
-use Rattle.shared_account.specs.Seats.{are_all}
+use Rattle.account_core.specs.Seats.{are_all}
 use Rattle.locked_account.specs.Seats.{SeatView}
 use Rattle.locked_account.proofs.Numbering.{both_ok, fresh_are_all, fresh_each}
 use Rattle.locked_account.proofs.account.SharedAccountShared.new.Goals as goal

@@ -4,7 +4,7 @@ use Rattle.std.specs.Prelude.{IfErr, IfOk, IsOk}
 use Rattle.account_core.specs.Entries.{asked_of}
 use Rattle.account_core.specs.Ledger.{IsRefusal, answer_of}
 use Rattle.account_core.specs.Places.{IsOwed}
-use Rattle.shared_account.proofs.Owning.{owed_alike}
+use Rattle.account_core.proofs.Owning.{owed_alike}
 use Rattle.locked_account.proofs.Returning.{fits_of, returning_of}
 use Rattle.locked_account.proofs.seat.Seat.apply_to.Goals as goal
 

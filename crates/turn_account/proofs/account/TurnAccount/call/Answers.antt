@@ -2,9 +2,9 @@ use Rattle.std.proofs.Common.{◌≡◌, ℕ, ◌∷◌, ◌++◌, [], List, ap,
 use Rattle.std.specs.Prelude.{IfOk, MatchResult}
 use Rattle.account_core.specs.Entries.{EntryData, asked_of}
 use Rattle.account_core.specs.Ledger.{entry_by}
-use Rattle.shared_account.specs.Own.{own}
+use Rattle.account_core.specs.Own.{own}
 use Rattle.turn_account.specs.Plays.{Sitter}
-use Rattle.shared_account.specs.Prefixes.{EndsWithEntry, IsPrefix}
+use Rattle.account_core.specs.Prefixes.{EndsWithEntry, IsPrefix}
 use Rattle.turn_account.specs.TurnViews.{TurnSeatView, own_of}
 use Rattle.turn_account.proofs.Calls.{HasGone, ends, gone, owns, sits}
 use Rattle.turn_account.proofs.account.TurnAccount.call.Given.{Over}

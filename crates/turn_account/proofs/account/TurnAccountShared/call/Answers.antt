@@ -1,5 +1,5 @@
 use Rattle.std.proofs.Common.{sym, ◌∙◌}
-use Rattle.shared_account.proofs.Beginnings.{begins_further}
+use Rattle.account_core.proofs.Beginnings.{begins_further}
 use Rattle.account_core.specs.Entries.{asked_of}
 use Rattle.turn_account.proofs.Calls.{ends_kindly}
 use Rattle.account_core.specs.Ledger.{entry_by}

@@ -1,7 +1,7 @@
 use Rattle.std.proofs.Common.{◌≡◌, [], List, map, refl, sym, subst, true}
 use Rattle.std.proofs.lemmas.List.Elements.{All-same}
 use Rattle.std.proofs.lemmas.Result.{IfOk-weaker}
-use Rattle.shared_account.specs.Seats.{are_all}
+use Rattle.account_core.specs.Seats.{are_all}
 use Rattle.turn_account.specs.TurnViews.{TurnSeatView, own_of, unused}
 use Rattle.turn_account.proofs.Seated.{sights_are_all, sights_each}
 use Rattle.turn_account.proofs.account.TurnAccountShared.new.Goals as goal

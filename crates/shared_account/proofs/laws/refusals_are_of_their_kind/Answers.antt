@@ -1,5 +1,0 @@
-use Rattle.shared_account.proofs.Refusing.{of_their_kind}
-use Rattle.shared_account.proofs.laws.refusals_are_of_their_kind.Goals as goal
-
-pub returns : goal.returns
-returns c = of_their_kind c.accounts_have_no_gate.ensures
