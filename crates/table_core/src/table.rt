@@ -10,7 +10,7 @@ ghost use Rattle.table_core.specs.declared.fault.TableFault.TheVariants as out;
 ghost use Rattle.table_core.specs.declared.table.TheConstants.{MAX_TABLE_ROWS};
 
 use crate::{RowFault, RowKind, TableFault, has_word};
-use csv::{ByteRecord, ErrorKind, Reader, ReaderBuilder};
+use csv::{ByteRecord, Reader, ReaderBuilder};
 use std::alloc::Global;
 use std::io::Read;
 
@@ -225,10 +225,8 @@ impl<R: Read + Drop> Rows<R> {
     {
         match self.reader.read_byte_record(&mut self.row) {
             Ok(found) => Ok(found),
-            Err(error) => match error.kind() {
-                ErrorKind::Io(_) => Err(TableFault::Device),
-                _ => Err(TableFault::OutOfMemory),
-            },
+            Err(error) if error.is_io_error() => Err(TableFault::Device),
+            Err(_) => Err(TableFault::OutOfMemory),
         }
     }
 
