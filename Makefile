@@ -3,6 +3,8 @@ SHELL := bash
 PREFIX ?= /usr/local
 # How many processors prove.
 JOBS = $(shell nproc)
+# What a process of the toolchain has freed it keeps for itself, as it ends soon: a fifth fewer page faults.
+export MIMALLOC_PURGE_DELAY ?= -1
 SOURCES := crates.txt $(shell find crates -path '*/out' -prune -o -name '*.rt' -print -o -name '*.antt' -print)
 # The program that `rt ci` builds, and what of it has a test of its own.
 BUILT := crates/prepaid/out/prepaid
