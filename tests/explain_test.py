@@ -272,20 +272,21 @@ def failing(program, words, text, output):
 
 
 # How long a process that is paused now and then runs, and how long it doesn't, in seconds.
-AT_WORK, PAUSED = 0.05, 0.55
+AT_WORK, PAUSED = 0.025, 0.4
 
 
-def pause(process):
-    """Pauses a process now and then until it ends, so that a short run takes long."""
+def pause(process, threads):
+    """Pauses a process now and then until it ends, so that a short run takes long, however many threads share it."""
     while process.poll() is None:
-        time.sleep(AT_WORK)
+        time.sleep(AT_WORK / threads)
         process.send_signal(signal.SIGSTOP)
         time.sleep(PAUSED)
         process.send_signal(signal.SIGCONT)
 
 
-def on_terminal(program, words, text=None, pauses=False, environment=None):
-    """What a terminal shows of the error writer, where the input is a text, or else what is typed there: one Ctrl-D."""
+def on_terminal(program, words, text=None, threads=0, environment=None):
+    """What a terminal shows of the error writer, where the input is a text, or else what is typed there: one Ctrl-D. Where it is
+    said how many threads the process has, it is paused now and then."""
     outer, inner = pty.openpty()
     shown = []
 
@@ -301,8 +302,8 @@ def on_terminal(program, words, text=None, pauses=False, environment=None):
         os.close(inner)
         reader = threading.Thread(target=read)
         reader.start()
-        if pauses:
-            threading.Thread(target=pause, args=[it]).start()
+        if threads:
+            threading.Thread(target=pause, args=[it, threads]).start()
         if text is None:
             os.write(outer, b"\x04")
             output = it.stdout.read()
@@ -342,15 +343,15 @@ SHOWN = re.compile(r"\r(?:moment (\d+), row (\d+) of (\d+)|part (\d+) of (\d+), 
 TAKEN = "\r\x1b[K"
 # What is said of a long run: the call that no subscriber makes, and the events that had no place, if any had none.
 SAID = re.compile(r"1 call of a number that no subscriber has: 1000000\n(?:\d+ events? that had no place: call [^\n]*\n)?")
-# Runs, how many parts they have, and whether their parts come one after another. All but those of two workers print the same.
 # How many inputs are tried until a run takes long enough.
 TRIES = 5
-LONG_RUNS = [("run --workers 1", 1, True), ("run --parts 4", 4, True), ("run --parts 16 --threads 2", 16, False), ("run --workers 2", 1, True)]
+# Runs, how many parts they have, and how many threads play these. All but those of two workers print the same.
+LONG_RUNS = [("run --workers 1", 1, 1), ("run --parts 4", 4, 1), ("run --parts 16 --threads 2", 16, 2), ("run --workers 2", 1, 1)]
 
 
 def long_input(program):
-    """An input whose run takes a processor half a second or so, and with pauses some five seconds, with a call of a number that
-    no subscriber has, its lines, and what is said of it."""
+    """An input whose run takes a processor 0.6 seconds or more, and with pauses some ten, so that half as much would do, with a
+    call of a number that no subscriber has, its lines, and what is said of it."""
     calls = 4000
     for _ in range(TRIES):
         words = [sys.executable, f"{ROOT}/examples/generate.py", "--calls", str(calls), "--rate", "60000", "--hold", "1200"]
@@ -362,10 +363,10 @@ def long_input(program):
             sys.exit(f"explain: a long run: {said[:300]!r} {status}")
         after = os.times()
         taken = after.children_user + after.children_system - before.children_user - before.children_system
-        if taken > 0.4:
+        if taken > 0.6:
             return text, lines, said
-        calls = int(calls * 0.55 / max(taken, 0.05))
-    sys.exit("explain: no input takes half a second")
+        calls = int(calls * 0.75 / max(taken, 0.05))
+    sys.exit("explain: no input takes 0.6 seconds")
 
 
 def progress(program):
@@ -373,8 +374,8 @@ def progress(program):
     it. The output is what it is without a terminal."""
     text, lines, said = long_input(program)
     script = text.split("%%\n")[2].splitlines()
-    for words, parts_of_all, in_order in LONG_RUNS:
-        shown, output, status = on_terminal(program, words, text, pauses=True)
+    for words, parts_of_all, threads in LONG_RUNS:
+        shown, output, status = on_terminal(program, words, text, threads)
         if status or words != "run --workers 2" and output != lines or not output:
             return f"{words} on a terminal: another output, status {status}"
         *steps, end = shown.split(TAKEN)
@@ -389,9 +390,9 @@ def progress(program):
             if parts_of_all == 1 and (int(last or 0) != len(script) or script[int(row) - 1].split(",")[0] != moment):
                 return f"{words} shows moment {moment}, row {row} of {last}"
             rows.append(int(part or row))
-        if in_order and rows != sorted(rows) or len(rows) < 3:
+        if threads == 1 and rows != sorted(rows) or len(rows) < 3:
             return f"{words} shows {rows}"
-    if (found := on_terminal(program, "--plain run --workers 1", text, pauses=True)) != ("", lines, 0):
+    if (found := on_terminal(program, "--plain run --workers 1", text, threads=1)) != ("", lines, 0):
         return f"--plain run on a terminal: {found[0]!r} {found[2]}"
     return None
 
