@@ -3,7 +3,7 @@ SHELL := bash
 PREFIX ?= /usr/local
 # How many processors prove.
 JOBS = $(shell nproc)
-# The toolchain's processes keep memory that they have freed, since they end soon: a quarter to a half of the page faults go.
+# The toolchain's processes keep memory that they have freed, since they end soon: a fifth to a half of the page faults go.
 export MIMALLOC_PURGE_DELAY ?= -1
 SOURCES := crates.txt $(shell find crates -path '*/out' -prune -o -name '*.rt' -print -o -name '*.antt' -print)
 # The program that `rt ci` builds, and what of it has a test of its own.
@@ -14,7 +14,8 @@ HELD := serve devices growths dist docs explain words report pipe into divide pr
 .PHONY: test-edits test-tries test-prove test-random $(HELD:%=test-%)
 
 # Proves what is below the program, several crates at once, and builds bin/prepaid; out/proved/prepaid says by which
-# toolchain. A process takes 0.7 to 3.5 GB; with four processors it took 7 GB in all, and 10 with huge pages.
+# toolchain. While freed memory was returned, a process took 0.7 to 3.5 GB, and four processors 7 GB in all; now they take
+# up to 10 GB, with huge pages.
 all: bin/prepaid
 
 bin/prepaid: $(SOURCES)
