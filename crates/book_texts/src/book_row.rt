@@ -16,7 +16,7 @@ use crate::words::{read_op_word, read_reply_word};
 use account_core::Entry;
 use csv::ByteRecord;
 use price_core::MAX_MONEY;
-use table_core::{RowKind, has_word, is_blank, number};
+use table_core::{RowKind, has_word, is_blank, number, when_blank};
 
 /// Where the columns are, and where those of the operation begin.
 const ACCOUNT: usize = 0;
@@ -70,14 +70,12 @@ fn read_opening(row: &ByteRecord, version: Version) -> Result<BookRow, RowKind>
     let account = read_account(row)?;
     let opening = number(row, OPENING, MAX_MONEY)?;
     let until = read_until(row, OP, version)?;
-    if !is_opening_blank(row, version) {
-        return Err(RowKind::Empty);
-    }
-    Ok(BookRow::Opening {
+    let row_said = BookRow::Opening {
         account,
         opening,
         until,
-    })
+    };
+    when_blank(is_opening_blank(row, version), row_said)
 }
 
 #[tactic(auto, unfolding(crate::specs::BookRows::entry_in))]
@@ -93,11 +91,9 @@ fn read_entry(row: &ByteRecord, version: Version) -> Result<BookRow, RowKind>
     let seat = read_seat(row, SEAT)?;
     let op = read_op(row, OP, version, op_word)?;
     let reply = read_reply(row, reply_at, reply_word)?;
-    if !is_op_blank(row, OP, version, op_word) || !is_reply_blank(row, reply_at, reply_word) {
-        return Err(RowKind::Empty);
-    }
+    let blank = is_op_blank(row, OP, version, op_word) && is_reply_blank(row, reply_at, reply_word);
     let entry = Entry { seat, op, reply };
-    Ok(BookRow::Entry { account, entry })
+    when_blank(blank, BookRow::Entry { account, entry })
 }
 
 fn read_account(row: &ByteRecord) -> Result<u32, RowKind>

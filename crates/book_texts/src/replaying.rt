@@ -21,7 +21,7 @@ use csv::ByteRecord;
 use price_core::MAX_MONEY;
 use std::alloc::Global;
 use std::io::Read;
-use table_core::{RowKind, TableFault, TakeFault, TakeRow, take_table};
+use table_core::{RowKind, TableFault, TakeFault, TakeRow, take_table, when_blank};
 
 /// The most rows of a table of operations, its header not counted.
 const MAX_OPERATIONS: u32 = 10_000;
@@ -126,8 +126,5 @@ fn read_ask(row: &ByteRecord, version: Version) -> Result<Ask, RowKind>
     let word = read_op_word(row, OP)?;
     let seat = read_seat(row, SEAT)?;
     let op = read_op(row, OP, version, word)?;
-    if !is_op_blank(row, OP, version, word) {
-        return Err(RowKind::Empty);
-    }
-    Ok(Ask { seat, op })
+    when_blank(is_op_blank(row, OP, version, word), Ask { seat, op })
 }

@@ -4,7 +4,6 @@ ghost use Rattle.std.specs.Prelude.{◌≡◌, ◌≤◌, true, IfOk};
 ghost use Rattle.std.specs.Result.{result_map_both};
 ghost use Rattle.run_texts.specs.Setups.{account_in_field, amount_in_field, party_in_field, until_in_field};
 ghost use Rattle.cap_values.specs.NumberDigits.{digits_of_number};
-ghost use Rattle.table_core.specs.Fields.{when_blank};
 ghost use Rattle.tariff_core.specs.Fields.{moment_in_field};
 ghost use Rattle.run_values.specs.Openings.{expires_in_time};
 
@@ -64,11 +63,4 @@ pub(crate) fn party(field: &[u8]) -> Result<Number, RowKind>
         Ok(party) => Ok(party),
         Err(_) => Err(RowKind::Number),
     }
-}
-
-/// What was read, where the fields that must be empty are; else the row's kind `Empty`.
-pub(crate) fn when_blank<T: Copy>(blank: bool, read: T) -> Result<T, RowKind>
-    ensures { result ≡ when_blank blank read }
-{
-    if blank { Ok(read) } else { Err(RowKind::Empty) }
 }

@@ -6,13 +6,13 @@ ghost use Rattle.run_texts.specs.Messages.{message_call_in, charging_report_in, 
 ghost use Rattle.run_texts.specs.MessageViews.{leg_number_of, view_of};
 ghost use Rattle.csv.specs.Records.{fields_of};
 
-use crate::fields::{account, amount, moment_field, party, until, when_blank};
+use crate::fields::{account, amount, moment_field, party, until};
 use crate::words::{Word, read_word};
 use cap_values::{Event, Leg, Mode, SsfMsg};
 use csv::ByteRecord;
 use price_core::{DAY, HORIZON, TimeInfo};
 use run_values::Body;
-use table_core::{RowKind, field, is_blank, number, optional};
+use table_core::{RowKind, field, is_blank, number, optional, when_blank};
 
 /// A message of the switch of a call, or a recharge by the operator, and when.
 #[derive(Clone, Copy, Debug, PartialEq, Eq)]

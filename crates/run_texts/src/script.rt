@@ -10,7 +10,7 @@ ghost use Rattle.csv.specs.Records.{fields_of};
 ghost use Rattle.table_core.specs.Faults.{GivesTable};
 ghost use Rattle.table_core.specs.Rows.{rows_of};
 
-use crate::fields::{account, amount, moment_field, party, until, when_blank};
+use crate::fields::{account, amount, moment_field, party, until};
 use cap_values::{Leg, Number};
 use csv::ByteRecord;
 use price_core::MAX_MOMENT;
@@ -21,6 +21,7 @@ use std::collections::BTreeSet;
 use std::io::Read;
 use table_core::{
     RowKind, TableFault, TakeFault, TakeRow, field, has_word, is_blank, number, take_table,
+    when_blank,
 };
 
 /// The most rows of a script, its header not counted.

@@ -6,7 +6,7 @@ ghost use Rattle.std.specs.List.{list_all};
 ghost use Rattle.std.specs.Str.{bytes_eq};
 ghost use Rattle.std.specs.Str.Parse.{digits_value};
 ghost use Rattle.std.specs.Fmt.{decimal};
-ghost use Rattle.table_core.specs.Fields.{field_in, has_word, is_blank, number_in, optional_in};
+ghost use Rattle.table_core.specs.Fields.{field_in, has_word, is_blank, number_in, optional_in, when_blank};
 ghost use Rattle.table_core.specs.Decimals.{decimal_of, digits_of, is_decimal, digits_text};
 ghost use Rattle.csv.specs.Records.{fields_of};
 
@@ -62,6 +62,13 @@ pub fn optional(row: &ByteRecord, place: usize, most: u64) -> Result<Option<u64>
         return Ok(None);
     }
     Ok(Some(number(row, place, most)?))
+}
+
+/// What was read of a row, where the fields that must be empty are; else the row's kind `Empty`.
+pub fn when_blank<T: Copy>(blank: bool, read: T) -> Result<T, RowKind>
+    ensures { result ≡ when_blank blank read }
+{
+    if blank { Ok(read) } else { Err(RowKind::Empty) }
 }
 
 /// The number that a text of 1 to 20 ASCII digits writes, or none where the text is anything else

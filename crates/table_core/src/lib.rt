@@ -19,7 +19,7 @@ mod writing;
 pub use fault::{RowFault, RowKind, TableFault};
 pub use fields::{
     are_digits, decimal, field, has_word, is_blank, is_decimal, is_word, number, optional,
-    write_digits,
+    when_blank, write_digits,
 };
 pub use laws::limits_in_numbers;
 pub use optional_field::Field;
