@@ -99,13 +99,5 @@ fn hear(marks: &mut RisingMap<CallMarks>, entry: Entry) -> Result<(), AllocError
 {
     let call = entry.op.call();
     let after = marks_of(marks, call).after(entry);
-    keep(marks, call, after)
-}
-
-/// Keeps what entries say of a call now.
-fn keep(marks: &mut RisingMap<CallMarks>, call: u64, after: CallMarks) -> Result<(), AllocError>
-    ensures { OnOk result ((other : ℕ) → marks_in marks.new other
-        ≡ (if call == other then after else marks_in marks.old other)) }
-{
     marks.insert(call, after)
 }

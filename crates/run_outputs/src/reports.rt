@@ -125,20 +125,8 @@ fn hear(reports: &mut RisingMap<CallReports>, at: u64, body: Body) -> Result<(),
     match body {
         Body::Ssf { call, msg } => {
             let after = reports_of(reports, call).after(at, msg);
-            keep(reports, call, after)
+            reports.insert(call, after)
         }
         Body::Recharge { .. } => Ok(()),
     }
-}
-
-/// Keeps what is reported of a call now.
-fn keep(
-    reports: &mut RisingMap<CallReports>,
-    call: u64,
-    after: CallReports,
-) -> Result<(), AllocError>
-    ensures { OnOk result ((other : ℕ) → reports_in reports.new other
-        ≡ (if call == other then after else reports_in reports.old other)) }
-{
-    reports.insert(call, after)
 }
