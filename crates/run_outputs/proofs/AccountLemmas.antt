@@ -1,6 +1,5 @@
 -- One book and one sum more.
-use Rattle.std.proofs.Common.{◌≡◌, ◌==◌, ◌+◌, ◌<◌, is_eq, length, get_or, nat_cmp, take, ℕ, Bool, true, false, true≢false, cond, reverse, Option, Some, None, List, [], ◌∷◌, ◌++◌, refl, sym, ap, ◌∙◌, arith}
-use Rattle.std.proofs.lemmas.Bool.Decides.{nat_tests}
+use Rattle.std.proofs.Common.{◌≡◌, ◌==◌, ◌+◌, ◌<◌, length, get_or, take, ℕ, Bool, true, false, true≢false, cond, reverse, Option, Some, None, List, [], ◌∷◌, ◌++◌, refl, sym, ap, ◌∙◌}
 use Rattle.std.proofs.lemmas.List.{get_or_default}
 use Rattle.std.specs.Option.{option_map, option_or}
 use Rattle.std.specs.Prelude.{if◌then◌else◌, is_some}
@@ -53,9 +52,6 @@ calls_stay None None false book known are = tt
 calls_stay None (Some found) passes book known are = absurd are
 calls_stay (Some calls) None passes book known are = absurd are
 calls_stay (Some calls) (Some found) passes book known are = are
-
-pub same_number : (number other : ℕ) → is_eq (nat_cmp number other) ≡ (number == other)
-same_number number other = grind (arith, nat_tests)
 
 -- one that has none gets those of the book
 pub calls_opened : (kept : Option AccountCalls) (found : Option Closed) (passes : Bool) (book : Closed) (calls : AccountCalls) → (passes ≡ true → is_some kept ≡ false)

@@ -2,12 +2,13 @@
 use Rattle.std.proofs.Common.{◌≡◌, ◌==◌, ◌≤◌, ℕ, Bool, true, false, List, [], ◌∷◌, ◌++◌, refl, reverse, sym, arith}
 use Rattle.std.specs.Prelude.{◌||◌, cond, map, nat_le}
 use Rattle.std.specs.BTreeSet.{BTreeSet, IsEmpty, contains}
-use Rattle.std.specs.Ordering.{is_eq, nat_cmp}
+use Rattle.std.specs.Ordering.{nat_cmp}
 use Rattle.std.proofs.lemmas.Bool.Decides.{nat_tests}
 use Rattle.std.proofs.lemmas.List.Elements.{All-push}
 use Rattle.std.proofs.lemmas.List.{map-append, reverse-append, reverse-reverse}
 use Rattle.std.proofs.lemmas.Bool.{and_parts, and_from}
 use Rattle.price_core.specs.declared.times.TheConstants.{MAX_MOMENT}
+use Rattle.tariff_core.proofs.IndexLemmas.{is_eq-nat_cmp}
 use Rattle.run_texts.specs.Happenings.{RowData, Happens, Meets, Recharges, Starts, is_in_time}
 use Rattle.run_texts.specs.Scripts.{is_started, starts}
 use Rattle.run_texts.specs.ScriptsRead.{AreRowsOf, last_moment_of}
@@ -16,9 +17,6 @@ use Rattle.run_texts.specs.Views.{happens_of, rows_are_in_order, row_data}
 use Rattle.run_texts.specs.declared.script.ScriptRow.{ScriptRow}
 
 -- ---- the sets
-
-is_eq-nat_cmp : (s t : ℕ) → is_eq (nat_cmp s t) ≡ (s == t)
-is_eq-nat_cmp s t = grind (arith, nat_tests)
 
 one_more : (new old : Bool) → cond new true old ≡ (old || new)
 one_more true true = refl

@@ -24,7 +24,7 @@ use Rattle.tariff_core.proofs.WeekdayLemmas.{no_weekday, three}
 
 -- ---- the order of keys
 
-is_eq-nat_cmp : (s t : ℕ) → is_eq (nat_cmp s t) ≡ (s == t)
+pub is_eq-nat_cmp : (s t : ℕ) → is_eq (nat_cmp s t) ≡ (s == t)
 is_eq-nat_cmp s t = grind (arith, nat_tests)
 
 is_eq-then : (o p : Ordering) → is_eq (ordering_then o p) ≡ (is_eq o && is_eq p)
