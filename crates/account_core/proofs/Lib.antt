@@ -22,7 +22,6 @@ pub mod RisingLemmas
 pub mod Beginnings
 pub mod Knowing
 pub mod Numbering
-pub mod OwnData
 pub mod Owning
 pub mod Refusing
 pub mod ReplyKinds

@@ -141,15 +141,6 @@ impl Account {
         Ok(entry.reply)
     }
 
-    /// Why an operation would be refused now, if it would be for any reason but `OutOfMemory`. One
-    /// that a call is owed, a Return or the first Settle since its last grant, never is.
-    pub fn refusal(&self, op: &Op) -> Option<AccountFault>
-        ensures value { result ≡ refusal_of self.now (asked_of op.now) }
-        ensures owed { IsOwed (reverse self.now.history) (asked_of op.now) → result ≡ None }
-    {
-        self.teller.judge(op, &self.teller.asked_state(op))
-    }
-
     /// The entries, oldest first. They are a legal history.
     pub fn history(&self) -> &[Entry]
         ensures value { map entry_data result.now ≡ self.now.history }

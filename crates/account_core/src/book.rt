@@ -1,13 +1,12 @@
 //! Books of accounts that were closed.
 
 ghost use Rattle.std.specs.Prelude.{◌≡◌, ◌≤◌, map, reverse, length, IfOk};
-ghost use Rattle.account_core.specs.Own.{own};
 ghost use Rattle.account_core.specs.Answers.{IsLegal};
 ghost use Rattle.account_core.specs.Available.{available};
 ghost use Rattle.account_core.specs.Entries.{entry_data};
 ghost use Rattle.account_core.specs.Sums.{AreSums};
 
-use crate::{Account, CallSum, Entry, OwnEntries};
+use crate::{Account, CallSum, Entry};
 use price_core::MAX_MONEY;
 use std::alloc::{AllocError, Global};
 use std::marker::Model;
@@ -99,13 +98,6 @@ impl Book {
         ensures within_limit { length self.now.history ≤ self.now.limit }
     {
         self.account.history()
-    }
-
-    /// What the seat with this number has entered, oldest first.
-    pub fn own(&self, seat: u32) -> OwnEntries<'_>
-        ensures { map entry_data result ≡ own seat self.now.history }
-    {
-        OwnEntries::new(self.history(), seat)
     }
 
     /// What the account came to, and each call that it granted anything.

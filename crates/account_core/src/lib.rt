@@ -1,10 +1,10 @@
 //! The account of prepaid calls: what is credited, reserved for a call, settled as it is reported,
-//! and given back when the call ends. And what every form of an account promises that several
-//! threads ask, each from a seat of its own, with its gates, and the book that it is closed with.
+//! and given back when the call ends. What every form of an account promises that several threads
+//! ask, each from a seat of its own, with its gates, and the book that it is closed with. And maps
+//! by number, such as those of an account's calls.
 #![tactic(auto)]
 
 mod account;
-mod account_port;
 mod account_sum;
 mod admitted;
 mod book;
@@ -21,15 +21,12 @@ mod history_check;
 mod kept_plan;
 mod laws;
 mod limits;
-mod own_entries;
 mod rising_map;
 mod shared;
-mod shared_port;
 mod tally;
 mod teller;
 
 pub use account::Account;
-pub use account_port::{AccountPort, Port};
 pub use account_sum::AccountSum;
 pub use admitted::Admitted;
 pub use book::{Book, Summary};
@@ -46,8 +43,6 @@ pub use laws::{
     places_go_with_entries, refusals_are_of_their_kind, settles_keep_the_credit, tariff_laws,
 };
 pub use limits::{MAX_LIMIT, MIN_LIMIT};
-pub use own_entries::OwnEntries;
 pub use rising_map::{Listing, RisingMap, is_above, place_of};
 pub use shared::Shared;
-pub use shared_port::SharedPort;
 pub use teller::Teller;

@@ -6,8 +6,9 @@ ghost use Rattle.dialogue_core.specs.Views.{phase_of, says_of};
 ghost use Rattle.ssf_core.specs.Meters.{Meter};
 ghost use Rattle.one_call.specs.Covered.{IsAtRest, IsReadyCall};
 
+use crate::Port;
 use crate::counts::Counts;
-use account_core::{AccountFault, Op, Port, Reply};
+use account_core::{AccountFault, Op, Reply};
 use cap_values::Instructions;
 use dialogue_core::{Asker, Dialogue, Turn};
 use std::convert::Infallible;

@@ -8,8 +8,7 @@ ghost use Rattle.one_call.specs.Scripts.{events_are_in_order};
 
 use crate::rounds::play;
 use crate::script::are_in_order;
-use crate::{CallEnd, DriveFault};
-use account_core::Port;
+use crate::{CallEnd, DriveFault, Port};
 use cap_values::Number;
 use dialogue_core::ServiceConfig;
 use price_core::{DAY, MAX_MOMENT, Route};

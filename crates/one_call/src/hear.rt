@@ -8,10 +8,9 @@ ghost use Rattle.ssf_core.specs.declared.item.Item.TheVariants as sent;
 ghost use Rattle.one_call.specs.Covered.{IsAtRest};
 ghost use Rattle.one_call.specs.Deliveries.{AreSent, queued_in};
 
-use crate::DriveFault;
 use crate::converse::converse;
 use crate::counts::Counts;
-use account_core::Port;
+use crate::{DriveFault, Port};
 use cap_values::{Instructions, SsfMsg};
 use dialogue_core::Dialogue;
 use ssf_core::{Delivery, Item, Moment, Out, send};

@@ -2,6 +2,7 @@
 //! gsmSSF and the service, to the account that pays for it.
 #![tactic(auto)]
 
+mod account_port;
 mod call_end;
 mod converse;
 mod counts;
@@ -11,8 +12,11 @@ mod hear;
 mod moments;
 mod rounds;
 mod script;
+mod shared_port;
 mod step;
 
+pub use account_port::{AccountPort, Port};
 pub use call_end::CallEnd;
 pub use driving::drive_call;
 pub use fault::DriveFault;
+pub use shared_port::SharedPort;

@@ -3,7 +3,8 @@
 use crate::asks::{Account as Looks, LIMIT, OPENING, Seen, Watched, are_all, ask_all, counted};
 use crate::closing;
 use crate::outcome::{Course, Outcome, expect};
-use account_core::{Account, AccountPort, Entry};
+use account_core::{Account, Entry};
+use one_call::AccountPort;
 use std::alloc::{AllocError, Global};
 
 /// The account of each call here.

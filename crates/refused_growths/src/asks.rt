@@ -1,7 +1,8 @@
 //! What an account is asked in turn, and asked again where it found no memory.
 
 use crate::outcome::{Course, Outcome, worse_of};
-use account_core::{AccountFault, Entry, Op, Port, Reply};
+use account_core::{AccountFault, Entry, Op, Reply};
+use one_call::Port;
 use price_core::{Plan, TimeInfo};
 
 /// The credit that each account is opened with.

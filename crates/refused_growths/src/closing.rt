@@ -5,7 +5,8 @@ ghost use Rattle.refused_growths.specs.declared.closing.TheConstants.{CREDITS};
 
 use crate::asks::{reserve, settle};
 use crate::outcome::{Course, Outcome, expect};
-use account_core::{AccountFault, Op, Port, Reply};
+use account_core::{AccountFault, Op, Reply};
+use one_call::Port;
 
 /// How many credits are asked for at most before the call is closed: more than there is room for
 /// without memory.

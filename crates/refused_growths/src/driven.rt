@@ -2,10 +2,10 @@
 
 use crate::accounts::account;
 use crate::outcome::{Course, Outcome, expect};
-use account_core::{Account, AccountPort};
+use account_core::Account;
 use cap_values::Number;
 use dialogue_core::ServiceConfig;
-use one_call::{CallEnd, drive_call};
+use one_call::{AccountPort, CallEnd, drive_call};
 use price_core::{Plan, Route, TimeInfo};
 use ssf_core::{BcsmEvent, DefaultHandling, SsfConfig, State};
 use std::alloc::Global;

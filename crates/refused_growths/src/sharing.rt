@@ -5,8 +5,9 @@ ghost use Rattle.std.specs.Prelude.{◌≡◌, IfOk};
 use crate::asks::{LIMIT, OPENING, Seen, Watched, are_all, ask_all, counted};
 use crate::closing;
 use crate::outcome::{Course, Outcome, expect};
-use account_core::{AccountFault, Book, Op, OpenGate, Port, Reply};
+use account_core::{AccountFault, Book, Op, OpenGate, Reply};
 use locked_account::{Seat, SharedAccount};
+use one_call::Port;
 use std::alloc::Global;
 use std::sync::Wait;
 

@@ -5,9 +5,9 @@ ghost use Rattle.std.specs.Prelude.{◌≤◌, All};
 
 use crate::looking::gives;
 use crate::making::number;
-use account_core::{Account, AccountFault, AccountPort, Op, Port, Reply};
+use account_core::{Account, AccountFault, Op, Reply};
 use dialogue_core::ServiceConfig;
-use one_call::{CallEnd, DriveFault, drive_call};
+use one_call::{AccountPort, CallEnd, DriveFault, Port, drive_call};
 use price_core::{MAX_MONEY, Plan, Route, TimeInfo};
 use ssf_core::{BcsmEvent, DefaultHandling, Moment, SsfConfig, State};
 use std::process::Abort;

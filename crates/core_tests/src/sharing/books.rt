@@ -6,8 +6,9 @@ use super::forms::{Ask, close, entries_of_each, op_of, says, two_seats, two_seat
 use super::histories::{RUNS, Row, Run};
 use crate::answers::{Answer, Want};
 use crate::looking::{gives, prints};
-use account_core::{Book, CloseFault, Gate, Op, OpenGate, Port, Shared, SharedPort};
+use account_core::{Book, CloseFault, Gate, Op, OpenGate, Shared};
 use locked_account::SharedAccount;
+use one_call::{Port, SharedPort};
 use price_core::MAX_MONEY;
 use std::alloc::Global;
 use std::process::Abort;

@@ -70,8 +70,10 @@ pub(crate) fn entries_of_each(book: &Book) -> (usize, usize) {
 /// How many entries of a book a seat has made.
 fn entries_of(book: &Book, seat: u32) -> usize {
     let mut count = 0usize;
-    for _entry in book.own(seat) {
-        count = count.saturating_add(1);
+    for entry in book.history() {
+        if entry.seat == seat {
+            count = count.saturating_add(1);
+        }
     }
     count
 }

@@ -7,8 +7,7 @@ ghost use Rattle.account_core.specs.Standing.{MovesCall};
 ghost use Rattle.account_core.specs.Ledger.{IsRefusal, answer_of, entry_by, refusal_of};
 ghost use Rattle.account_core.specs.Places.{IsOwed};
 
-use crate::laws::answers_fit_their_operations;
-use crate::{Account, AccountFault, Op, Reply};
+use account_core::{Account, AccountFault, Op, Reply, answers_fit_their_operations};
 
 /// Takes the operations of calls, for an account that is behind it.
 ///

@@ -1,6 +1,6 @@
 use Rattle.account_core.specs.Entries.{asked_of}
 use Rattle.account_core.proofs.FittingAnswers.{account_moves}
-use Rattle.account_core.proofs.account_port.AccountPortPort.ask.Goals as goal
+use Rattle.one_call.proofs.account_port.AccountPortPort.ask.Goals as goal
 
 pub returns-clause-moves : goal.returns-clause-moves
 returns-clause-moves c = λ call.

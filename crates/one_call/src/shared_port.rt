@@ -8,7 +8,8 @@ ghost use Rattle.account_core.specs.Kinds.{IsReplyTo, IsReturn};
 ghost use Rattle.account_core.specs.Refusals.{IsRefusedAt};
 ghost use Rattle.std.specs.Coded.{Coded-set};
 
-use crate::{AccountFault, Gate, Op, Port, Reply, Shared};
+use crate::Port;
+use account_core::{AccountFault, Gate, Op, Reply, Shared};
 use std::sync::Wait;
 
 /// The port of a shared account: it asks from a seat, past a gate.
