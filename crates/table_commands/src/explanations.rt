@@ -13,6 +13,7 @@ mod midnight;
 mod open_quote;
 mod reasons;
 mod row_line;
+mod said;
 mod sections;
 mod slip;
 mod starts;

@@ -1,6 +1,8 @@
 //! The lines that divide an input.
 
+use crate::explanations::said::Said;
 use std::alloc::{AllocError, Global};
+use std::fmt::Write;
 
 /// The most lines whose numbers are said.
 const MOST_NUMBERS: usize = 5;
@@ -11,9 +13,9 @@ pub(crate) fn explain_dividers(
     input: &[u8],
     wanted: u32,
 ) -> Result<String, AllocError> {
-    let mut text = String::new(alloc);
-    push_dividers(&mut text, dividers_of(input), wanted)?;
-    Ok(text)
+    let mut said = Said::new(alloc);
+    push_dividers(&mut said, dividers_of(input), wanted);
+    said.into_text()
 }
 
 /// The lines that divide an input, and those that look as if they did.
@@ -59,37 +61,35 @@ impl Dividers {
 }
 
 /// Adds what is said of the lines that divide an input, of which so many are wanted.
-fn push_dividers(text: &mut String, dividers: Dividers, wanted: u32) -> Result<(), AllocError> {
+fn push_dividers(said: &mut Said, dividers: Dividers, wanted: u32) {
     let told = dividers.found.min(MOST_NUMBERS);
-    push_found(text, dividers.found)?;
-    push_numbers(text, &dividers.numbers[..told])?;
-    push_wanted(text, wanted, dividers.near)
+    push_found(said, dividers.found);
+    push_numbers(said, &dividers.numbers[..told]);
+    push_wanted(said, wanted, dividers.near);
 }
 
 /// Adds how many lines divide an input.
-fn push_found(text: &mut String, found: usize) -> Result<(), AllocError> {
+fn push_found(said: &mut Said, found: usize) {
     let lines = if found == 1 {
         "line that is"
     } else {
         "lines that are"
     };
-    write!(text, "{found} {lines} %% alone")
+    let _ = write!(said, "{found} {lines} %% alone");
 }
 
 /// Adds the numbers of lines.
-fn push_numbers(text: &mut String, numbers: &[u64]) -> Result<(), AllocError> {
+fn push_numbers(said: &mut Said, numbers: &[u64]) {
     for line in numbers {
-        write!(text, ", in line {line}")?;
+        let _ = write!(said, ", in line {line}");
     }
-    Ok(())
 }
 
 /// Adds how many are wanted, and the line that nearly is one.
-fn push_wanted(text: &mut String, wanted: u32, near: Option<u64>) -> Result<(), AllocError> {
-    writeln!(text, "; wanted {wanted}")?;
-    match near {
-        Some(line) => writeln!(text, "line {line} is %% with a blank at it"),
-        None => Ok(()),
+fn push_wanted(said: &mut Said, wanted: u32, near: Option<u64>) {
+    let _ = writeln!(said, "; wanted {wanted}");
+    if let Some(line) = near {
+        let _ = writeln!(said, "line {line} is %% with a blank at it");
     }
 }
 

@@ -4,86 +4,61 @@ use crate::explanations::Slip;
 use crate::explanations::found_rows::{Sought, find_above, shown_at, take_rows};
 use crate::explanations::reasons::{Faulty, push_fields};
 use crate::explanations::row_line::Shown;
+use crate::explanations::said::Said;
 use csv::ByteRecord;
-use std::alloc::{AllocError, Global};
+use std::alloc::Global;
+use std::fmt::Write;
 use table_core::{Rows, field, has_word};
 
 /// Adds why a row may not come behind the one above it.
-pub(crate) fn push_order(
-    text: &mut String,
-    alloc: Global,
-    table: Faulty<'_>,
-    row: &ByteRecord,
-) -> Result<(), AllocError> {
+pub(crate) fn push_order(said: &mut Said, alloc: Global, table: Faulty<'_>, row: &ByteRecord) {
     let number = table.row.saturating_sub(1);
     let mut rows = Rows::new(alloc, table.text);
-    if !take_rows(&mut rows, number)? {
-        return Ok(());
-    }
-    match table.slip {
-        Slip::Script(_) => push_moments(text, row, rows.row(), number),
-        _ => push_times(text, row, rows.row(), number),
+    if take_rows(said, &mut rows, number) {
+        match table.slip {
+            Slip::Script(_) => push_moments(said, row, rows.row(), number),
+            _ => push_times(said, row, rows.row(), number),
+        }
     }
 }
 
 /// Adds which moment lies below that of the row above it.
-fn push_moments(
-    text: &mut String,
-    row: &ByteRecord,
-    above: &ByteRecord,
-    number: u32,
-) -> Result<(), AllocError> {
+fn push_moments(said: &mut Said, row: &ByteRecord, above: &ByteRecord, number: u32) {
     let moment = shown_at(row, 0);
     let earlier = shown_at(above, 0);
-    writeln!(text, "moment {moment} lies below {earlier} in row {number}")
+    let _ = writeln!(said, "moment {moment} lies below {earlier} in row {number}");
 }
 
 /// Adds which times, the fields of a row, may not follow those of the row above it.
-fn push_times(
-    text: &mut String,
-    row: &ByteRecord,
-    above: &ByteRecord,
-    number: u32,
-) -> Result<(), AllocError> {
-    text.push_str("times ")?;
-    push_fields(text, row)?;
+fn push_times(said: &mut Said, row: &ByteRecord, above: &ByteRecord, number: u32) {
+    said.push("times ");
+    push_fields(said, row);
     if number < 2 {
-        return text.push_str(" may not come first\n");
+        said.push(" may not come first\n");
+    } else {
+        said.push(" may not follow ");
+        push_fields(said, above);
+        let _ = writeln!(said, " in row {number}");
     }
-    text.push_str(" may not follow ")?;
-    push_fields(text, above)?;
-    writeln!(text, " in row {number}")
 }
 
 /// Adds what a row names, and the row above that names it already.
-pub(crate) fn push_repeated(
-    text: &mut String,
-    alloc: Global,
-    table: Faulty<'_>,
-    row: &ByteRecord,
-) -> Result<(), AllocError> {
+pub(crate) fn push_repeated(said: &mut Said, alloc: Global, table: Faulty<'_>, row: &ByteRecord) {
     let (word, key, name) = match table.slip {
         Slip::Script(_) => (2, 1, "call".as_bytes()),
         Slip::Setup(_) => (0, 1, field(row, 0)),
         _ => (2, 0, "account".as_bytes()),
     };
     let sought = Sought::Named { row, word, key };
-    match find_above(alloc, table.text, table.row, sought)? {
-        Some(number) => {
-            let name = Shown(name);
-            let key = shown_at(row, key);
-            writeln!(text, "{name} {key} is in row {number} already")
-        }
-        None => Ok(()),
+    if let Some(number) = find_above(said, alloc, table, sought) {
+        let name = Shown(name);
+        let key = shown_at(row, key);
+        let _ = writeln!(said, "{name} {key} is in row {number} already");
     }
 }
 
 /// Adds what a row names that no earlier row does.
-pub(crate) fn push_unknown(
-    text: &mut String,
-    slip: Slip,
-    row: &ByteRecord,
-) -> Result<(), AllocError> {
+pub(crate) fn push_unknown(said: &mut Said, slip: Slip, row: &ByteRecord) {
     let (name, place, why) = match slip {
         Slip::Script(_) if has_word(row, 2, "recharge") => ("account", 3, "isn't in the setup"),
         Slip::Script(_) => ("call", 1, "isn't started in an earlier row"),
@@ -91,5 +66,5 @@ pub(crate) fn push_unknown(
         _ => ("account", 0, "isn't opened in an earlier row"),
     };
     let field = shown_at(row, place);
-    writeln!(text, "{name} {field} {why}")
+    let _ = writeln!(said, "{name} {field} {why}");
 }

@@ -3,28 +3,21 @@
 use crate::explanations::Slip;
 use crate::explanations::forms::{Part, parts_of};
 use crate::explanations::found_rows::{push_column, shown_at};
+use crate::explanations::said::Said;
 use csv::ByteRecord;
-use std::alloc::AllocError;
+use std::fmt::Write;
 use table_core::is_blank;
 
 /// Adds which field of a row must be empty, and for what.
-pub(crate) fn push_not_empty(
-    text: &mut String,
-    slip: Slip,
-    names: &ByteRecord,
-    row: &ByteRecord,
-) -> Result<(), AllocError> {
+pub(crate) fn push_not_empty(said: &mut Said, slip: Slip, names: &ByteRecord, row: &ByteRecord) {
     let [first, second, third] = parts_of(slip, row);
     let found = not_empty(row, first)
         .or(not_empty(row, second))
         .or(not_empty(row, third));
-    match found {
-        Some((place, word)) => {
-            push_column(text, names, row, place)?;
-            let word = shown_at(row, word);
-            writeln!(text, ", where {word} takes nothing")
-        }
-        None => Ok(()),
+    if let Some((place, word)) = found {
+        push_column(said, names, row, place);
+        let word = shown_at(row, word);
+        let _ = writeln!(said, ", where {word} takes nothing");
     }
 }
 

@@ -7,9 +7,11 @@ use crate::explanations::Slip;
 use crate::explanations::open_quote::open_quote;
 use crate::explanations::reasons::{Faulty, push_reason};
 use crate::explanations::row_line::push_row_line;
+use crate::explanations::said::Said;
 use crate::explanations::sections::find_section;
 use crate::explanations::starts::row_start;
 use std::alloc::{AllocError, Global};
+use std::fmt::Write;
 
 /// The lines that explain a fault of the input, each with LF at its end: the line of the input in
 /// which the row begins, and what is wrong there.
@@ -63,12 +65,12 @@ fn more_of(alloc: Global, before: &[u8], table: &[u8], slip: Slip) -> Result<Str
         slip,
         row,
     };
-    let mut text = String::new(alloc);
-    push_reason(&mut text, alloc, faulty)?;
+    let mut said = Said::new(alloc);
+    push_reason(&mut said, alloc, faulty);
     if let Some(start) = row_start(table, row) {
         if let Some(line) = open_quote(before, table, start) {
-            writeln!(text, "a quote is open since line {line}")?;
+            let _ = writeln!(said, "a quote is open since line {line}");
         }
     }
-    Ok(text)
+    said.into_text()
 }

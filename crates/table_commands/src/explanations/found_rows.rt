@@ -1,21 +1,33 @@
 //! The rows of a table that has a fault.
 
 use crate::explanations::midnight::is_repeated;
+use crate::explanations::reasons::Faulty;
 use crate::explanations::row_line::Shown;
+use crate::explanations::said::Said;
 use csv::ByteRecord;
-use std::alloc::{AllocError, Global};
+use std::alloc::Global;
+use std::fmt::Write;
 use table_core::{Rows, decimal, field};
 
-/// Takes the rows of a table up to that of this number. Whether there are so many.
-pub(crate) fn take_rows(rows: &mut Rows<&[u8]>, row: u32) -> Result<bool, AllocError> {
-    for _row in 0..row {
-        match rows.next_row() {
-            Ok(true) => {}
-            Ok(false) => return Ok(false),
-            Err(_) => return Err(AllocError),
+/// Takes the next row of a table. Whether there is one, for which memory is there too.
+pub(crate) fn take_row(said: &mut Said, rows: &mut Rows<&[u8]>) -> bool {
+    match rows.next_row() {
+        Ok(is_there) => is_there,
+        Err(_) => {
+            said.cut();
+            false
         }
     }
-    Ok(true)
+}
+
+/// Takes the rows of a table up to that of this number. Whether there are so many.
+pub(crate) fn take_rows(said: &mut Said, rows: &mut Rows<&[u8]>, row: u32) -> bool {
+    for _row in 0..row {
+        if !take_row(said, rows) {
+            return false;
+        }
+    }
+    true
 }
 
 /// The field of a row at a place, as it is shown.
@@ -24,15 +36,10 @@ pub(crate) fn shown_at(row: &ByteRecord, place: usize) -> Shown<'_> {
 }
 
 /// Adds the name of a column, and the field that a row has in it.
-pub(crate) fn push_column(
-    text: &mut String,
-    names: &ByteRecord,
-    row: &ByteRecord,
-    place: usize,
-) -> Result<(), AllocError> {
+pub(crate) fn push_column(said: &mut Said, names: &ByteRecord, row: &ByteRecord, place: usize) {
     let column = shown_at(names, place);
     let field = shown_at(row, place);
-    write!(text, "column {column}: {field}")
+    let _ = write!(said, "column {column}: {field}");
 }
 
 /// What is looked for in the rows above a row.
@@ -51,26 +58,24 @@ pub(crate) enum Sought<'a> {
     Band(&'a ByteRecord),
 }
 
-/// The first row of these, below the header and above the row of this number, that has what is
+/// The first row of a table, below its header and above the row with the fault, that has what is
 /// looked for.
 pub(crate) fn find_above(
+    said: &mut Said,
     alloc: Global,
-    text: &[u8],
-    row: u32,
+    table: Faulty<'_>,
     sought: Sought<'_>,
-) -> Result<Option<u32>, AllocError> {
-    let mut rows = Rows::new(alloc, text);
-    for number in 1..row {
-        match rows.next_row() {
-            Ok(true) => {}
-            Ok(false) => return Ok(None),
-            Err(_) => return Err(AllocError),
+) -> Option<u32> {
+    let mut rows = Rows::new(alloc, table.text);
+    for number in 1..table.row {
+        if !take_row(said, &mut rows) {
+            return None;
         }
         if number > 1 && has(rows.row(), sought) {
-            return Ok(Some(number));
+            return Some(number);
         }
     }
-    Ok(None)
+    None
 }
 
 /// Whether a row has what is looked for.

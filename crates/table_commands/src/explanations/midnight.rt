@@ -1,27 +1,25 @@
 //! Rows of a tariff that don't go with its other rows.
 
-use crate::explanations::found_rows::{Sought, find_above, shown_at};
+use crate::explanations::found_rows::{Sought, find_above, shown_at, take_row};
 use crate::explanations::reasons::Faulty;
 use crate::explanations::row_line::Shown;
+use crate::explanations::said::Said;
 use csv::ByteRecord;
 use std::alloc::{AllocError, Global};
-use std::fmt;
+use std::fmt::{self, Write};
 use table_core::{Rows, field};
 
 /// Adds the row above that has the prefix and the start of a row, and a day in common with it.
 pub(crate) fn push_repeated_band(
-    text: &mut String,
+    said: &mut Said,
     alloc: Global,
     table: Faulty<'_>,
     row: &ByteRecord,
-) -> Result<(), AllocError> {
-    match find_above(alloc, table.text, table.row, Sought::Band(row))? {
-        Some(number) => {
-            let prefix = Prefix(field(row, 0));
-            let start = shown_at(row, 1);
-            writeln!(text, "{prefix} from {start} is in row {number} already")
-        }
-        None => Ok(()),
+) {
+    if let Some(number) = find_above(said, alloc, table, Sought::Band(row)) {
+        let prefix = Prefix(field(row, 0));
+        let start = shown_at(row, 1);
+        let _ = writeln!(said, "{prefix} from {start} is in row {number} already");
     }
 }
 
@@ -47,66 +45,56 @@ fn have_one_in_common(one: &[u8], other: &[u8]) -> bool {
 
 /// Adds when the prefix of a row counts, and what is to be added to its rows.
 pub(crate) fn push_no_midnight(
-    text: &mut String,
+    said: &mut Said,
     alloc: Global,
     table: Faulty<'_>,
     row: &ByteRecord,
-) -> Result<(), AllocError> {
+) {
     let prefix = Prefix(field(row, 0));
     let mut latest = String::new(alloc);
-    write!(text, "{prefix} counts from ")?;
+    let _ = write!(said, "{prefix} counts from ");
     let mut rows = Rows::new(alloc, table.text);
-    push_starts(text, &mut latest, &mut rows, prefix)?;
-    push_missing(text, latest.as_str(), row)
+    push_starts(said, &mut latest, &mut rows, prefix);
+    push_missing(said, latest.as_str(), row);
 }
 
 /// Adds what is missing of a prefix, whose latest start is known.
-fn push_missing(text: &mut String, latest: &str, row: &ByteRecord) -> Result<(), AllocError> {
+fn push_missing(said: &mut Said, latest: &str, row: &ByteRecord) {
     if latest.is_empty() {
-        return text.push('\n');
+        said.push("\n");
+    } else if row.len() > 7 {
+        said.push(", and not from 00:00 on each day of the week\n");
+    } else {
+        let prefix = shown_at(row, 0);
+        let _ = writeln!(
+            said,
+            ", and nothing from 00:00: add {prefix},00:00,.. with what counts at midnight, \
+             mostly the row of {latest}"
+        );
     }
-    if row.len() > 7 {
-        return text.push_str(", and not from 00:00 on each day of the week\n");
-    }
-    let prefix = shown_at(row, 0);
-    writeln!(
-        text,
-        ", and nothing from 00:00: add {prefix},00:00,.. with what counts at midnight, \
-         mostly the row of {latest}"
-    )
 }
 
 /// Adds the starts of a prefix, and finds the latest.
-fn push_starts(
-    text: &mut String,
-    latest: &mut String,
-    rows: &mut Rows<&[u8]>,
-    prefix: Prefix<'_>,
-) -> Result<(), AllocError> {
+fn push_starts(said: &mut Said, latest: &mut String, rows: &mut Rows<&[u8]>, prefix: Prefix<'_>) {
     for _turn in 0..u64::MAX {
-        match rows.next_row() {
-            Ok(true) => push_start(text, latest, rows.row(), prefix)?,
-            Ok(false) => return Ok(()),
-            Err(_) => return Err(AllocError),
+        if !take_row(said, rows) {
+            return;
         }
+        push_start(said, latest, rows.row(), prefix);
     }
-    Ok(())
 }
 
 /// Adds the start of a row if it has the prefix, and keeps it if no later one is found yet.
-fn push_start(
-    text: &mut String,
-    latest: &mut String,
-    row: &ByteRecord,
-    prefix: Prefix<'_>,
-) -> Result<(), AllocError> {
+fn push_start(said: &mut Said, latest: &mut String, row: &ByteRecord, prefix: Prefix<'_>) {
     if field(row, 0) != prefix.0 {
-        return Ok(());
+        return;
     }
     let and = if latest.is_empty() { "" } else { " and " };
     let start = shown_at(row, 1);
-    write!(text, "{and}{start}")?;
-    keep_later(latest, field(row, 1))
+    let _ = write!(said, "{and}{start}");
+    if keep_later(latest, field(row, 1)).is_err() {
+        said.cut();
+    }
 }
 
 /// Keeps a start in place of the latest one, unless it is earlier.

@@ -6,11 +6,13 @@ use crate::explanations::empties::push_not_empty;
 use crate::explanations::forms::{TIME, headers_of, most_rows_of, parts_of};
 use crate::explanations::found_rows::{shown_at, take_rows};
 use crate::explanations::midnight::{push_no_midnight, push_repeated_band};
+use crate::explanations::said::Said;
 use crate::explanations::unknown_words::push_unknown_word;
 use crate::explanations::wants::{Column, Wants, first_refused, push_refusal};
 use csv::ByteRecord;
 use price_core::DAY;
-use std::alloc::{AllocError, Global};
+use std::alloc::Global;
+use std::fmt::Write;
 use table_core::{RowFault, RowKind, Rows, field};
 use tariff_core::{TariffFault, TariffKind};
 
@@ -26,98 +28,94 @@ pub(crate) struct Faulty<'a> {
 }
 
 /// Adds the lines that say what is wrong with a row.
-pub(crate) fn push_reason(
-    text: &mut String,
-    alloc: Global,
-    table: Faulty<'_>,
-) -> Result<(), AllocError> {
+pub(crate) fn push_reason(said: &mut Said, alloc: Global, table: Faulty<'_>) {
     let mut header = Rows::new(alloc, table.text);
     let mut rows = Rows::new(alloc, table.text);
-    push_reason_among(text, alloc, table, &mut header, &mut rows)
+    push_reason_among(said, alloc, table, &mut header, &mut rows);
 }
 
 /// The same, by two readers of the table: one for its header, one for the row.
 fn push_reason_among(
-    text: &mut String,
+    said: &mut Said,
     alloc: Global,
     table: Faulty<'_>,
     header: &mut Rows<&[u8]>,
     rows: &mut Rows<&[u8]>,
-) -> Result<(), AllocError> {
-    if !take_rows(header, 1)? {
-        push_header(text, table.slip, None)
-    } else if take_rows(rows, table.row)? {
-        push_any_reason(text, alloc, table, header.row(), rows.row())
-    } else {
-        Ok(())
+) {
+    if !take_rows(said, header, 1) {
+        push_header(said, table.slip, None);
+    } else if take_rows(said, rows, table.row) {
+        push_any_reason(said, alloc, table, header.row(), rows.row());
     }
 }
 
 /// Adds what is wrong with a row, by the kind of its table.
 fn push_any_reason(
-    text: &mut String,
+    said: &mut Said,
     alloc: Global,
     table: Faulty<'_>,
     names: &ByteRecord,
     row: &ByteRecord,
-) -> Result<(), AllocError> {
+) {
     match table.slip {
         Slip::Tariff(fault) | Slip::RunTariff(fault) => {
-            push_tariff_reason(text, alloc, table, fault, names, row)
+            push_tariff_reason(said, alloc, table, fault, names, row)
         }
         Slip::Reports(fault)
         | Slip::Ops(fault)
         | Slip::Book(fault)
         | Slip::Setup(fault)
-        | Slip::Script(fault) => push_row_reason(text, alloc, table, fault, names, row),
+        | Slip::Script(fault) => push_row_reason(said, alloc, table, fault, names, row),
     }
 }
 
 /// Adds what is wrong with a row of a table that isn't a tariff.
 fn push_row_reason(
-    text: &mut String,
+    said: &mut Said,
     alloc: Global,
     table: Faulty<'_>,
     fault: RowFault,
     names: &ByteRecord,
     row: &ByteRecord,
-) -> Result<(), AllocError> {
+) {
     match fault.kind {
-        RowKind::Csv => push_csv(text, names, row),
-        RowKind::Header => push_header(text, table.slip, Some(row)),
-        RowKind::TooManyRows => push_most_rows(text, table.slip),
-        RowKind::What => push_unknown_word(text, table.slip, names, row),
-        RowKind::Number => match first_refused(row, parts_of(table.slip, row)) {
-            Some(column) => push_refusal(text, names, row, column),
-            None => Ok(()),
-        },
-        RowKind::Empty => push_not_empty(text, table.slip, names, row),
-        RowKind::Order => push_order(text, alloc, table, row),
-        RowKind::Repeated => push_repeated(text, alloc, table, row),
-        RowKind::Unknown => push_unknown(text, table.slip, row),
+        RowKind::Csv => push_csv(said, names, row),
+        RowKind::Header => push_header(said, table.slip, Some(row)),
+        RowKind::TooManyRows => push_most_rows(said, table.slip),
+        RowKind::What => push_unknown_word(said, table.slip, names, row),
+        RowKind::Number => {
+            if let Some(column) = first_refused(row, parts_of(table.slip, row)) {
+                push_refusal(said, names, row, column);
+            }
+        }
+        RowKind::Empty => push_not_empty(said, table.slip, names, row),
+        RowKind::Order => push_order(said, alloc, table, row),
+        RowKind::Repeated => push_repeated(said, alloc, table, row),
+        RowKind::Unknown => push_unknown(said, table.slip, row),
     }
 }
 
 /// Adds what is wrong with a row of a tariff.
 fn push_tariff_reason(
-    text: &mut String,
+    said: &mut Said,
     alloc: Global,
     table: Faulty<'_>,
     fault: TariffFault,
     names: &ByteRecord,
     row: &ByteRecord,
-) -> Result<(), AllocError> {
+) {
     match fault.kind {
-        TariffKind::Csv => push_csv(text, names, row),
-        TariffKind::Header => push_header(text, table.slip, Some(row)),
-        TariffKind::TooManyRows => push_most_rows(text, table.slip),
-        TariffKind::Repeated => push_repeated_band(text, alloc, table, row),
-        TariffKind::NoMidnightBand => push_no_midnight(text, alloc, table, row),
-        TariffKind::OutOfMemory | TariffKind::Device => Ok(()),
-        kind => match refused_in_tariff(kind, table.slip, row) {
-            Some(column) => push_refusal(text, names, row, column),
-            None => Ok(()),
-        },
+        TariffKind::Csv => push_csv(said, names, row),
+        TariffKind::Header => push_header(said, table.slip, Some(row)),
+        TariffKind::TooManyRows => push_most_rows(said, table.slip),
+        TariffKind::Repeated => push_repeated_band(said, alloc, table, row),
+        TariffKind::NoMidnightBand => push_no_midnight(said, alloc, table, row),
+        TariffKind::OutOfMemory | TariffKind::Device => {}
+        kind => {
+            if let Some(column) = refused_in_tariff(kind, table.slip, row) {
+                push_refusal(said, names, row, column);
+            }
+        }
     }
 }
 
@@ -136,42 +134,38 @@ fn refused_in_tariff(kind: TariffKind, slip: Slip, row: &ByteRecord) -> Option<C
 }
 
 /// Adds how many fields a row has, and how many its header.
-fn push_csv(text: &mut String, names: &ByteRecord, row: &ByteRecord) -> Result<(), AllocError> {
+fn push_csv(said: &mut Said, names: &ByteRecord, row: &ByteRecord) {
     let found = row.len();
     let wanted = names.len();
     let fields = if found == 1 { "field" } else { "fields" };
-    write!(text, "{found} {fields}, and the header has {wanted}: ")?;
-    push_fields(text, names)?;
-    text.push('\n')
+    let _ = write!(said, "{found} {fields}, and the header has {wanted}: ");
+    push_fields(said, names);
+    said.push("\n");
 }
 
 /// Adds the fields of a row, with commas between them.
-pub(crate) fn push_fields(text: &mut String, row: &ByteRecord) -> Result<(), AllocError> {
+pub(crate) fn push_fields(said: &mut Said, row: &ByteRecord) {
     let mut comma = "";
     for place in 0..row.len() {
         let field = shown_at(row, place);
-        write!(text, "{comma}{field}")?;
+        let _ = write!(said, "{comma}{field}");
         comma = ",";
     }
-    Ok(())
 }
 
 /// Adds the headers that a table may have, the one that it has, and what separates its fields.
-fn push_header(
-    text: &mut String,
-    slip: Slip,
-    found: Option<&ByteRecord>,
-) -> Result<(), AllocError> {
+fn push_header(said: &mut Said, slip: Slip, found: Option<&ByteRecord>) {
     let wanted = headers_of(slip);
-    write!(text, "wanted: {wanted}\nfound: ")?;
+    let _ = write!(said, "wanted: {wanted}\nfound: ");
     let Some(row) = found else {
-        return text.push_str("no row\n");
+        said.push("no row\n");
+        return;
     };
-    push_fields(text, row)?;
+    push_fields(said, row);
     if row.len() == 1 && is_separated(field(row, 0)) {
-        text.push_str("\nthe separator is a comma\n")
+        said.push("\nthe separator is a comma\n");
     } else {
-        text.push('\n')
+        said.push("\n");
     }
 }
 
@@ -181,10 +175,10 @@ fn is_separated(field: &[u8]) -> bool {
 }
 
 /// Adds how many rows a table has at most.
-fn push_most_rows(text: &mut String, slip: Slip) -> Result<(), AllocError> {
+fn push_most_rows(said: &mut Said, slip: Slip) {
     let most_rows = most_rows_of(slip);
-    writeln!(
-        text,
+    let _ = writeln!(
+        said,
         "at most {most_rows}; docs/SCALING.md has larger loads"
-    )
+    );
 }

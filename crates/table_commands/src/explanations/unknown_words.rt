@@ -3,8 +3,9 @@
 use crate::explanations::Slip;
 use crate::explanations::forms::SCRIPT_WORDS;
 use crate::explanations::found_rows::push_column;
+use crate::explanations::said::Said;
 use csv::ByteRecord;
-use std::alloc::AllocError;
+use std::fmt::Write;
 use table_core::{field, has_word, is_word};
 
 const OPERATIONS: &[&str] = &["credit", "reserve", "settle", "return"];
@@ -16,51 +17,42 @@ const REPLIES: &[&str] = &[
 ];
 
 /// Adds which word of a row isn't known, the words that are, and the nearest of them.
-pub(crate) fn push_unknown_word(
-    text: &mut String,
-    slip: Slip,
-    names: &ByteRecord,
-    row: &ByteRecord,
-) -> Result<(), AllocError> {
+pub(crate) fn push_unknown_word(said: &mut Said, slip: Slip, names: &ByteRecord, row: &ByteRecord) {
     match slip {
-        Slip::Script(_) => push_word(text, names, row, 2, SCRIPT_WORDS),
-        Slip::Setup(_) => push_word(text, names, row, 0, &["account", "subscriber"]),
-        Slip::Ops(_) => push_operation_word(text, names, row, 1, OPERATIONS),
-        Slip::Book(_) => push_book_word(text, names, row),
-        _ => Ok(()),
+        Slip::Script(_) => push_word(said, names, row, 2, SCRIPT_WORDS),
+        Slip::Setup(_) => push_word(said, names, row, 0, &["account", "subscriber"]),
+        Slip::Ops(_) => push_operation_word(said, names, row, 1, OPERATIONS),
+        Slip::Book(_) => push_book_word(said, names, row),
+        _ => {}
     }
 }
 
 /// Adds the same of an operation whose columns begin at a place.
 fn push_operation_word(
-    text: &mut String,
+    said: &mut Said,
     names: &ByteRecord,
     row: &ByteRecord,
     op: usize,
     words: &[&str],
-) -> Result<(), AllocError> {
+) {
     if has_word(row, op, "settle") {
-        push_word(text, names, row, op.saturating_add(3), &["n", "s"])
+        push_word(said, names, row, op.saturating_add(3), &["n", "s"]);
     } else {
-        push_word(text, names, row, op, words)
+        push_word(said, names, row, op, words);
     }
 }
 
 /// Adds the same of a row of a book.
-fn push_book_word(
-    text: &mut String,
-    names: &ByteRecord,
-    row: &ByteRecord,
-) -> Result<(), AllocError> {
+fn push_book_word(said: &mut Said, names: &ByteRecord, row: &ByteRecord) {
     let reply = row.len().saturating_sub(4);
     let is_settle = has_word(row, 2, "settle");
     let is_report = is_one_of(field(row, 5), &["n", "s"]);
     if !is_one_of(field(row, 2), BOOK_OPERATIONS) || is_settle && !is_report {
-        push_operation_word(text, names, row, 2, BOOK_OPERATIONS)
+        push_operation_word(said, names, row, 2, BOOK_OPERATIONS);
     } else if is_one_of(field(row, reply), REPLIES) {
-        push_word(text, names, row, reply.saturating_add(2), &["more", "last"])
+        push_word(said, names, row, reply.saturating_add(2), &["more", "last"]);
     } else {
-        push_word(text, names, row, reply, REPLIES)
+        push_word(said, names, row, reply, REPLIES);
     }
 }
 
@@ -75,29 +67,22 @@ fn is_one_of(field: &[u8], words: &[&str]) -> bool {
 }
 
 /// Adds the word in a column, the words that may be there, and the nearest of them.
-fn push_word(
-    text: &mut String,
-    names: &ByteRecord,
-    row: &ByteRecord,
-    place: usize,
-    words: &[&str],
-) -> Result<(), AllocError> {
-    push_column(text, names, row, place)?;
-    push_words(text, words)?;
-    match nearest(field(row, place), words) {
-        Some(word) => writeln!(text, "\nthe nearest is {word}"),
-        None => text.push('\n'),
+fn push_word(said: &mut Said, names: &ByteRecord, row: &ByteRecord, place: usize, words: &[&str]) {
+    push_column(said, names, row, place);
+    push_words(said, words);
+    if let Some(word) = nearest(field(row, place), words) {
+        let _ = write!(said, "\nthe nearest is {word}");
     }
+    said.push("\n");
 }
 
 /// Adds the words that may be there: `; one of` in front of the first, commas between them.
-fn push_words(text: &mut String, words: &[&str]) -> Result<(), AllocError> {
+fn push_words(said: &mut Said, words: &[&str]) {
     let mut start = "; one of ";
     for word in words {
-        write!(text, "{start}{word}")?;
+        let _ = write!(said, "{start}{word}");
         start = ", ";
     }
-    Ok(())
 }
 
 /// The word that begins with the most letters of a field, at least two, in whatever case.

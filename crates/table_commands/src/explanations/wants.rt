@@ -2,8 +2,9 @@
 
 use crate::explanations::forms::Part;
 use crate::explanations::found_rows::push_column;
+use crate::explanations::said::Said;
 use csv::ByteRecord;
-use std::alloc::AllocError;
+use std::fmt::Write;
 use table_core::{are_digits, decimal, field, is_decimal};
 use tariff_core::{moment, time_of_day};
 
@@ -81,51 +82,48 @@ fn is_within(field: &[u8], least: u64, most: u64) -> bool {
 }
 
 /// Adds what is wrong with a field of a row that isn't what its column takes.
-pub(crate) fn push_refusal(
-    text: &mut String,
-    names: &ByteRecord,
-    row: &ByteRecord,
-    column: Column,
-) -> Result<(), AllocError> {
+pub(crate) fn push_refusal(said: &mut Said, names: &ByteRecord, row: &ByteRecord, column: Column) {
     let field = field(row, column.place);
     let is = if field.is_empty() {
         "it is empty, and "
     } else {
         " is "
     };
-    push_column(text, names, row, column.place)?;
-    text.push_str(is)?;
-    push_wanted(text, field, column.wants)?;
-    text.push('\n')
+    push_column(said, names, row, column.place);
+    said.push(is);
+    push_wanted(said, field, column.wants);
+    said.push("\n");
 }
 
 /// Adds what is wanted in place of a field.
-fn push_wanted(text: &mut String, field: &[u8], wants: Wants) -> Result<(), AllocError> {
+fn push_wanted(said: &mut Said, field: &[u8], wants: Wants) {
     match wants {
-        Wants::Word => Ok(()),
+        Wants::Word => {}
         Wants::Number(least, most) | Wants::Optional(least, most) => {
-            push_range(text, field, least, most)
+            push_range(said, field, least, most);
         }
         Wants::Moment(most) | Wants::OptionalMoment(most) => {
             if is_decimal(field) {
-                push_range(text, field, 0, most)
+                push_range(said, field, 0, most);
             } else {
-                text.push_str("no moment: a decimal, or a date and a time like 1970-01-01T18:00:08")
+                said.push("no moment: a decimal, or a date and a time like 1970-01-01T18:00:08");
             }
         }
-        Wants::Digits(least, most) => write!(text, "no {least} to {most} digits"),
-        Wants::TimeOfDay => text.push_str("no time of day from 00:00 to 23:59"),
-        Wants::Days => text.push_str("no days: digits from 1 to 7 in their order, each once"),
+        Wants::Digits(least, most) => {
+            let _ = write!(said, "no {least} to {most} digits");
+        }
+        Wants::TimeOfDay => said.push("no time of day from 00:00 to 23:59"),
+        Wants::Days => said.push("no days: digits from 1 to 7 in their order, each once"),
     }
 }
 
 /// Adds what is wrong with a number.
-fn push_range(text: &mut String, field: &[u8], least: u64, most: u64) -> Result<(), AllocError> {
+fn push_range(said: &mut Said, field: &[u8], least: u64, most: u64) {
     if !is_decimal(field) {
-        text.push_str("no decimal of 1 to 20 digits")
+        said.push("no decimal of 1 to 20 digits");
     } else if decimal(field, most).is_some() {
-        write!(text, "below {least}")
+        let _ = write!(said, "below {least}");
     } else {
-        write!(text, "above {most}")
+        let _ = write!(said, "above {most}");
     }
 }

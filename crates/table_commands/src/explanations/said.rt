@@ -1,0 +1,48 @@
+//! What is said of a fault, piece by piece.
+
+use std::alloc::{AllocError, Global};
+use std::fmt;
+
+/// What is said of a fault. Whether memory reached for each piece is asked once, at the end: so a
+/// piece is added without a look at what comes of it.
+#[derive(Drop)]
+pub(crate) struct Said {
+    text: String,
+    /// Whether memory ran out for a piece.
+    is_cut: bool,
+}
+
+impl Said {
+    /// Nothing yet.
+    pub(crate) fn new(alloc: Global) -> Said {
+        Said {
+            text: String::new(alloc),
+            is_cut: false,
+        }
+    }
+
+    /// Adds a piece.
+    pub(crate) fn push(&mut self, piece: &str) {
+        if self.text.push_str(piece).is_err() {
+            self.cut();
+        }
+    }
+
+    /// Keeps in mind that memory ran out.
+    pub(crate) fn cut(&mut self) {
+        self.is_cut = true;
+    }
+
+    /// All that was said; none where memory ran out for any of it.
+    pub(crate) fn into_text(self) -> Result<String, AllocError> {
+        let Said { text, is_cut } = self;
+        if is_cut { Err(AllocError) } else { Ok(text) }
+    }
+}
+
+impl fmt::Write for Said {
+    fn write_str(&mut self, piece: &str) -> fmt::Result {
+        self.push(piece);
+        if self.is_cut { Err(fmt::Error) } else { Ok(()) }
+    }
+}
