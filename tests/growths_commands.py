@@ -6,6 +6,7 @@ import os
 import re
 import subprocess
 
+from explain_test import OTHERS, SLIPS
 from model import trace
 from model.command import command, do_run
 from model.tables import Fault
@@ -184,6 +185,20 @@ class Command:
         return len(numbers) <= ended.refused
 
 
+class Explained(Command):
+    """A command whose fault is explained: whole, or not at all where memory runs out for that."""
+
+    def __init__(self, words, text, said):
+        super().__init__(f"--explain {words}", text.encode())
+        self.faults = f"prepaid: {said}".encode()
+
+    def is_right(self, ended, _folder):
+        line = self.faults.partition(b"\n")[0] + b"\n"
+        is_line = ended.refused > 0 and ended.faults == line
+        is_said = (ended.status, ended.output) == (1, b"") and (is_line or ended.faults == self.faults)
+        return is_said or ended.ran_out() and not ended.output
+
+
 class Help(Command):
     """The help, which the model doesn't print."""
 
@@ -293,6 +308,17 @@ def live_input():
     return b"%%\n".join([TARIFF, SETUP, "\n".join([trace.HEADER, *given, ""]).encode()])
 
 
+def explained():
+    """Faults whose explanation is made of several pieces, by what they are of."""
+    others = {said.partition("\n")[0]: Explained(words, text, said) for words, text, said in OTHERS[:4]}
+    rows = {}
+    for words, text, fault, shown, more in SLIPS:
+        if more is not None and fault not in rows:
+            line = f"line {text.count(chr(10))} of the input: {shown}\n"
+            rows[fault] = Explained(words, text, f"{fault}\n{line}{more}")
+    return {f"explain/{name}": it for name, it in (others | rows).items()}
+
+
 def commands(program):
     """The commands by their names, each with its words and its input."""
     call, reports, operations, altered = (
@@ -320,4 +346,4 @@ def commands(program):
         "command/serve": Serve("serve --lines", live),
         "command/serve_log": Serve("serve --book --log LOG", live),
         "command/serve_again": Serve("serve --calls --log LOG --again 0", live),
-    }
+    } | explained()

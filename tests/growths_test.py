@@ -5,8 +5,9 @@ It refuses the Nth growth alone, and all growths from the Nth on, for N = 1, 2, 
 command (growths_commands.py), and to the public calls of crates/refused_growths, which no command makes or shows enough of.
 A refused growth ends in its fault, or the run goes on, and its trace says for which messages an account had no memory. Then
 all that the run comes to is what the model says of accounts that have none for just these. What a call of the crate comes
-to, its status says. Where a long run on a terminal runs out of memory, what was shown of it is taken away before the fault is
-said. Prints how many growths each has, and for how many messages an account had no memory in some try.
+to, its status says. A fault is explained wholly or not at all. Where a long run on a terminal runs out of memory, what was
+shown of it is taken away before the fault is said. Prints how many growths each has, and for how many messages an account
+had no memory in some try.
 """
 import argparse
 import os
