@@ -4,10 +4,10 @@ use Rattle.std.specs.Prelude.{cond, if◌then◌else◌, nat_lt}
 use Rattle.std.specs.List.{position, position_or_len}
 use Rattle.std.proofs.lemmas.Bool.Decides.{nat_tests}
 use Rattle.std.proofs.Math.Seq.{take-add}
-use Rattle.std.proofs.lemmas.List.{drop-drop, drop_all, take_all, take_rest}
+use Rattle.std.proofs.lemmas.List.{drop-drop, drop_all, take-append-drop, take_all, take_rest}
 use Rattle.std.proofs.lemmas.List.Quantifiers.{position-Some}
 use Rattle.std.proofs.lemmas.List.Sums.{fails_before_first}
-use Rattle.run_texts.specs.Sections.{after_line, is_divider, lines_in_text, sections_of, texts_in}
+use Rattle.run_texts.specs.Sections.{IsDivided, after_line, is_divider, lines_in_text, sections_of, texts_in}
 
 abbrev is_lf : ℕ → Bool
 is_lf byte = byte == 10
@@ -94,14 +94,24 @@ next_line text start n line = record {
   same = let e : start + n - start ≡ n = omega arith in rw e refl;
 }
 
+-- a text in front of a place, n bytes from there on, and what is behind them
+in_parts : (text : List ℕ) (start n : ℕ) → text ≡ take start text ++ (take n (drop start text) ++ drop (start + n) text)
+in_parts text start n =
+    sym (take-append-drop start text) ∙ ap (λ rest. take start text ++ rest) (sym (take-append-drop n (drop start text)) ∙ ap (λ behind. take n (drop start text) ++ behind) (drop-drop n start text))
+
 pub divided_here : (text : List ℕ) (start n : ℕ)
     → lines_in_text (take (length text - start) (drop start text)) ≡ take n (take (length text - start) (drop start text)) ∷ lines_in_text (drop n (take (length text - start) (drop start text)))
     → sections_of (lines_in_text text) ≡ after_line (take start text) (sections_of (lines_in_text (drop start text)))
     → is_divider (take (start + n - start) (drop start text)) ≡ true
-    → sections_of (lines_in_text text) ≡ take start text ∷ sections_of (lines_in_text (take (length text - (start + n)) (drop (start + n) text)))
+    → IsDivided text (take start text) (take (length text - (start + n)) (drop (start + n) text))
 divided_here text start n line so_far is =
     let next = next_line text start n line in
-    so_far ∙ rw (next.line, divides (take n (drop start text)) (lines_in_text (drop (start + n) text)) (rw next.same at is), append-nil (take start text), take_rest text (start + n)) refl
+    record {
+      divider = take (start + n - start) (drop start text);
+      divides = is;
+      text_is = rw (next.same, take_rest text (start + n)) (in_parts text start n);
+      sections = so_far ∙ rw (next.line, divides (take n (drop start text)) (lines_in_text (drop (start + n) text)) (rw next.same at is), append-nil (take start text), take_rest text (start + n)) refl;
+    }
 
 pub goes_on : (text : List ℕ) (start n : ℕ)
     → lines_in_text (take (length text - start) (drop start text)) ≡ take n (take (length text - start) (drop start text)) ∷ lines_in_text (drop n (take (length text - start) (drop start text)))

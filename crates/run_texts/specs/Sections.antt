@@ -1,5 +1,5 @@
 -- The three sections of the input of a run.
-use Rattle.std.specs.Prelude.{◌==◌, ◌||◌, ◌∷◌, ◌++◌, ℕ, Bool, List, [], Option, None, Some, codes, if◌then◌else◌}
+use Rattle.std.specs.Prelude.{◌≡◌, ◌==◌, ◌||◌, ◌∷◌, ◌++◌, ℕ, Bool, true, List, [], Option, None, Some, codes, if◌then◌else◌}
 use Rattle.std.specs.Str.{bytes_eq}
 
 -- the lines with c put before the first of them
@@ -25,6 +25,13 @@ after_line line (section ∷ sections) = (line ++ section) ∷ sections
 unfoldable pub sections_of : List (List ℕ) → List (List ℕ)
 sections_of [] = [] ∷ []
 sections_of (line ∷ lines) = if is_divider line then [] ∷ sections_of lines else after_line line (sections_of lines)
+
+-- a text is divided at the first of its dividers: what is in front of that, its first section, and what is behind it
+pub record IsDivided (text front behind : List ℕ) : Type 0 where
+  pub divider : List ℕ
+  pub divides : is_divider divider ≡ true
+  pub text_is : text ≡ front ++ (divider ++ behind)
+  pub sections : sections_of (lines_in_text text) ≡ front ∷ sections_of (lines_in_text behind)
 
 -- the texts of a run
 pub record Texts : Type 0 where

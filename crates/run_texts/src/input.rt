@@ -9,7 +9,7 @@ ghost use Rattle.run_texts.specs.Scripts.{script_of};
 ghost use Rattle.run_texts.specs.Setups.{table_setup_of};
 ghost use Rattle.run_texts.specs.Happenings.{is_in_time};
 ghost use Rattle.run_texts.specs.Views.{rows_are_in_order, happens_of, row_data, setup_in, texts_of_sections};
-ghost use Rattle.run_texts.specs.Sections.{is_divider, lines_in_text, sections_of, texts_of};
+ghost use Rattle.run_texts.specs.Sections.{IsDivided, is_divider, lines_in_text, sections_of, texts_of};
 ghost use Rattle.run_texts.specs.declared.input_fault.InputFault.TheVariants as out;
 ghost use Rattle.table_core.specs.Rows.{rows_of};
 ghost use Rattle.run_values.specs.Setups.{ListingIsWithin};
@@ -112,9 +112,9 @@ pub struct Sections<'a> {
 pub fn divide(input: &[u8]) -> Option<Sections<'_>>
     ensures { option_map texts_of_sections result ≡ texts_of input.now }
 {
-    let (tariff, rest) = split(input)?;
-    let (setup, script) = split(rest)?;
-    match split(script) {
+    let (tariff, rest) = split_section(input)?;
+    let (setup, script) = split_section(rest)?;
+    match split_section(script) {
         Some(_) => None,
         None => Some(Sections {
             tariff,
@@ -124,11 +124,9 @@ pub fn divide(input: &[u8]) -> Option<Sections<'_>>
     }
 }
 
-/// What is before the first divider of a text, and what is after it.
-fn split(text: &[u8]) -> Option<(&[u8], &[u8])>
-    ensures divided { IfSome result
-        (λ both. sections_of (lines_in_text text.now)
-        ≡ both.0.now ∷ sections_of (lines_in_text both.1.now)) }
+/// What is in front of the first divider of a text, and what is behind it; none where it has none.
+pub fn split_section(text: &[u8]) -> Option<(&[u8], &[u8])>
+    ensures divided { IfSome result (λ both. IsDivided text.now both.0.now both.1.now) }
     ensures whole { IfNone result (sections_of (lines_in_text text.now) ≡ text.now ∷ []) }
 {
     let mut start = 0;

@@ -16,7 +16,9 @@ mod trace;
 mod trace_rows;
 mod words;
 
-pub use input::{RunTexts, Sections, divide, read_directory, read_tariff, read_texts};
+pub use input::{
+    RunTexts, Sections, divide, read_directory, read_tariff, read_texts, split_section,
+};
 pub use input_fault::InputFault;
 pub use kind::LineKind;
 pub use line::read_message_line;

@@ -128,7 +128,7 @@ fn said_of(alloc: Global, in_sections: bool, input: &[u8], fault: Fault) -> Opti
         IsSaidOfFault in_sections input.now fault (string_bytes more)) }
 {
     match slip_of(in_sections, fault) {
-        Some(slip) => explain(alloc, input, slip).ok(),
+        Some(slip) => explain(alloc, input, slip),
         None => dividers_of(alloc, input, fault),
     }
 }

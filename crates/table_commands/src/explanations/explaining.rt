@@ -1,6 +1,6 @@
 //! What is said of a fault in a table of an input.
 
-ghost use Rattle.std.specs.Prelude.{◌≡◌, [], IfOk, OnOk, string_bytes};
+ghost use Rattle.std.specs.Prelude.{◌≡◌, [], IfSome, OnOk, string_bytes};
 ghost use Rattle.table_commands.specs.Slips.{Explains, ExplainsRow, IsLineOf, slip_row};
 
 use crate::explanations::Slip;
@@ -14,18 +14,16 @@ use std::alloc::{AllocError, Global};
 use std::fmt::Write;
 
 /// The lines that explain a fault of the input, each with LF at its end: the line of the input in
-/// which the row begins, and what is wrong there.
+/// which the row begins, and what is wrong there. None where memory runs out, or where the input
+/// has no such section.
 #[tactic(auto, using(crate::proofs::SectionLemmas::begins_within))]
-pub(crate) fn explain(alloc: Global, input: &[u8], slip: Slip) -> Result<String, AllocError>
-    ensures { IfOk result (λ text. Explains input.now slip (string_bytes text)) }
+pub(crate) fn explain(alloc: Global, input: &[u8], slip: Slip) -> Option<String>
+    ensures { IfSome result (λ text. Explains input.now slip (string_bytes text)) }
 {
-    let Ok(found) = find_section(alloc, input, slip.section()) else {
-        return Err(AllocError);
-    };
-    let (before, table) = (&input[..found.start], found.text.as_slice());
+    let (start, table) = find_section(input, slip.section())?;
     let mut text = String::new(alloc);
-    push_explanation(&mut text, alloc, before, table, slip)?;
-    Ok(text)
+    push_explanation(&mut text, alloc, &input[..start], table, slip).ok()?;
+    Some(text)
 }
 
 /// Adds the lines that explain a fault in a table that has this text in front of it.

@@ -1,7 +1,7 @@
 use Rattle.std.proofs.Common.{arith, sym, ◌∙◌}
 use Rattle.run_texts.specs.Sections.{lines_in_text}
 use Rattle.run_texts.proofs.SectionLemmas.{divided_here, goes_on, not_divided, nothing_before}
-use Rattle.run_texts.proofs.input.split.Goals as goal
+use Rattle.run_texts.proofs.input.split_section.Goals as goal
 
 pub loop-start-init : goal.loop-start-init
 loop-start-init c = (omega arith, nothing_before (lines_in_text c.args.text.now))

@@ -1,6 +1,6 @@
 use Rattle.std.proofs.Common.{◌≡◌, ◌-◌, ◌≤◌, drop, length, take}
 use Rattle.run_texts.specs.Sections.{after_line, lines_in_text, sections_of}
-use Rattle.run_texts.proofs.input.split.Given as goal
+use Rattle.run_texts.proofs.input.split_section.Given as goal
 
 -- the lines so far divide nothing
 abbrev pub invariant-loop-start : goal.invariant-loop-start
