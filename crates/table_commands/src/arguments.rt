@@ -7,13 +7,14 @@ ghost use Rattle.clap.specs.Words.{FailsBy, found_of, kind_of, rows_of, subcomma
 
 use crate::audit_words::audit_ask;
 use crate::command_line::program_command;
+use crate::explanations::Said;
 use crate::options::{price_request, replay_request};
 use crate::quote_words::quote_request;
 use crate::rate_words::rate_request;
 use crate::request::Request;
 use crate::run_words::run_request;
 use crate::serve_words::serve_request;
-use crate::times::{explain_live_times, explain_run_times};
+use crate::times::{push_live_times, push_run_times};
 use crate::words_fault::WordsFault;
 use clap::error::ErrorKind;
 use clap::{ArgMatches, Error};
@@ -53,7 +54,7 @@ pub fn explains<S: AsStr>(words: &[S]) -> bool
 
 /// What `clap` says of words that it doesn't take. Of words that it takes, which time of `run` or
 /// `serve` is out of its range; empty where none is.
-pub fn explain_words<S: AsStr>(alloc: Global, words: &[S]) -> Result<String, AllocError> {
+pub(crate) fn explain_words<S: AsStr>(alloc: Global, words: &[S]) -> Result<String, AllocError> {
     match parse(alloc, words) {
         Ok(matches) => explain_options(alloc, &matches),
         Err(error) => error.to_string(alloc),
@@ -62,23 +63,13 @@ pub fn explain_words<S: AsStr>(alloc: Global, words: &[S]) -> Result<String, All
 
 /// Which time of a command is out of its range.
 fn explain_options(alloc: Global, matches: &ArgMatches<'_>) -> Result<String, AllocError> {
+    let mut said = Said::new(alloc);
     match matches.subcommand() {
-        Some((name, options)) => explain_command(alloc, name, options),
-        None => Ok(String::new(alloc)),
+        Some(("run", options)) => push_run_times(&mut said, options),
+        Some(("serve", options)) => push_live_times(&mut said, options),
+        _ => {}
     }
-}
-
-/// Which time of the command of a name is out of its range.
-fn explain_command(
-    alloc: Global,
-    name: &str,
-    options: &ArgMatches<'_>,
-) -> Result<String, AllocError> {
-    match name {
-        "run" => explain_run_times(alloc, options),
-        "serve" => explain_live_times(alloc, options),
-        _ => Ok(String::new(alloc)),
-    }
+    said.into_text()
 }
 
 /// What the command that the words name asks for, if its options say it.

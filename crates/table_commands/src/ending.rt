@@ -5,12 +5,14 @@ ghost use Rattle.table_commands.specs.Explanations.{IsOfWords, IsSaidOfFault, sl
 ghost use Rattle.table_commands.specs.Faults.{of_words};
 ghost use Rattle.table_commands.specs.declared.fault.Fault.TheVariants as fault;
 
-use crate::explanations::{Slip, explain, explain_dividers};
+use crate::WordsFault;
+use crate::arguments::explain_words;
+use crate::explanations::{Said, Slip, explain, explain_dividers};
 use crate::fault::{Fault, TableName};
 use crate::input::MAX_INPUT;
-use crate::{WordsFault, explain_words};
 use std::alloc::{AllocError, Global};
 use std::convert::AsStr;
+use std::fmt::Write;
 
 /// How a command ends: an answer, or a fault, and what is said behind that.
 #[derive(Drop)]
@@ -104,17 +106,17 @@ fn said_of_words<S: AsStr>(alloc: Global, words: &[S]) -> Option<String> {
 
 /// The lines of a text that aren't empty. Where nothing is said, another option has a value out of
 /// its range.
-fn full_lines(alloc: Global, said: &str) -> Result<String, AllocError> {
-    let mut text = String::new(alloc);
-    if said.is_empty() {
-        text.push_str("an option has a value that it doesn't take: see prepaid help COMMAND\n")?;
+fn full_lines(alloc: Global, text: &str) -> Result<String, AllocError> {
+    let mut said = Said::new(alloc);
+    if text.is_empty() {
+        said.push("an option has a value that it doesn't take: see prepaid help COMMAND\n");
     }
-    for line in said.split('\n') {
+    for line in text.split('\n') {
         if !line.is_empty() {
-            writeln!(text, "{line}")?;
+            let _ = writeln!(said, "{line}");
         }
     }
-    Ok(text)
+    said.into_text()
 }
 
 /// How long an input may be.

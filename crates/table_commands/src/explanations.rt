@@ -23,5 +23,6 @@ mod wants;
 
 pub(crate) use dividers::explain_dividers;
 pub(crate) use explaining::explain;
+pub(crate) use said::Said;
 pub(crate) use sections::Section;
 pub(crate) use slip::Slip;

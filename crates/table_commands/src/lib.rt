@@ -28,7 +28,7 @@ mod serve_words;
 mod times;
 mod words_fault;
 
-pub use arguments::{explain_words, explains, read_words};
+pub use arguments::{explains, read_words};
 pub use commands::{audit_input, price_input, quote_input, replay_input};
 pub use ending::Ending;
 pub use error_lines::{report, report_end, report_output, report_with, write_both};

@@ -1,20 +1,17 @@
 //! Which time of a command is out of its range.
 
+use crate::explanations::Said;
 use crate::options::option_text;
 use crate::run_words::run_ask;
 use crate::serve_words::live_ask;
 use clap::ArgMatches;
 use price_core::DAY;
-use std::alloc::{AllocError, Global};
-use std::fmt;
+use std::fmt::{self, Write};
 
-/// A line about the first time of `run` that is out of its range; empty where none is.
-pub(crate) fn explain_run_times(
-    alloc: Global,
-    options: &ArgMatches<'_>,
-) -> Result<String, AllocError> {
+/// Adds a line about the first time of `run` that is out of its range, if one is.
+pub(crate) fn push_run_times(said: &mut Said, options: &ArgMatches<'_>) {
     let Some(ask) = run_ask(options) else {
-        return Ok(String::new(alloc));
+        return;
     };
     let rising = [
         ("delay", ask.delay),
@@ -22,36 +19,27 @@ pub(crate) fn explain_run_times(
         ("least", ask.least),
         ("wanted", ask.wanted),
     ];
-    let text = explain_rising(alloc, options, &rising)?;
-    if !text.is_empty() {
-        return Ok(text);
+    if !push_fallen(said, options, &rising) {
+        push_fallen(said, options, &[("tssf", ask.tssf)]);
     }
-    explain_rising(alloc, options, &[("tssf", ask.tssf)])
 }
 
-/// The same of `serve`.
-pub(crate) fn explain_live_times(
-    alloc: Global,
-    options: &ArgMatches<'_>,
-) -> Result<String, AllocError> {
+/// Adds the same of `serve`.
+pub(crate) fn push_live_times(said: &mut Said, options: &ArgMatches<'_>) {
     let Some(ask) = live_ask(options) else {
-        return Ok(String::new(alloc));
+        return;
     };
     let rising = [
         ("tccd", ask.tccd),
         ("least", ask.least),
         ("wanted", ask.wanted),
     ];
-    explain_rising(alloc, options, &rising)
+    push_fallen(said, options, &rising);
 }
 
-/// Of times that are to rise from 1 to a day, a line about the first that doesn't; empty where all
-/// do.
-fn explain_rising(
-    alloc: Global,
-    options: &ArgMatches<'_>,
-    times: &[(&'static str, u32)],
-) -> Result<String, AllocError> {
+/// Adds, of times that are to rise from 1 to a day, a line about the first that doesn't. Whether
+/// there is one.
+fn push_fallen(said: &mut Said, options: &ArgMatches<'_>, times: &[(&'static str, u32)]) -> bool {
     let mut below = None;
     let mut least = 1;
     for &(name, units) in times {
@@ -61,27 +49,27 @@ fn explain_rising(
             units,
         };
         if units < least {
-            return explain_low(alloc, below, time);
+            push_low(said, below, time);
+            return true;
         }
         below = Some(time);
         least = units;
     }
-    match below {
-        Some(last) if least > DAY => format!(in alloc; "{last} is above {DAY}\n"),
-        _ => Ok(String::new(alloc)),
+    if let Some(last) = below {
+        if least > DAY {
+            let _ = writeln!(said, "{last} is above {DAY}");
+            return true;
+        }
     }
+    false
 }
 
-/// A line about a time that is below the one before it, or below 1.
-fn explain_low(
-    alloc: Global,
-    before: Option<Time<'_>>,
-    time: Time<'_>,
-) -> Result<String, AllocError> {
-    match before {
-        None => format!(in alloc; "{time} is below 1\n"),
-        Some(before) => format!(in alloc; "{before} is above {time}\n"),
-    }
+/// Adds a line about a time that is below the one before it, or below 1.
+fn push_low(said: &mut Said, before: Option<Time<'_>>, time: Time<'_>) {
+    let _ = match before {
+        None => writeln!(said, "{time} is below 1"),
+        Some(before) => writeln!(said, "{before} is above {time}"),
+    };
 }
 
 /// A time of a command: its name, and what its option says, or what it is where that is left out.
