@@ -1,11 +1,11 @@
 //! What an account knows of a call, and what it answers by that.
 
-ghost use Rattle.std.specs.Prelude.{◌≡◌, ◌≢◌, ◌+◌, ◌≤◌, ℕ, None, false, true};
+ghost use Rattle.std.specs.Prelude.{◌≡◌, ◌≢◌, ◌+◌, ◌≤◌, None, false, true};
 ghost use Rattle.account_core.specs.Answers.{accepted_times, misplaced, units_offered, inadmissible_for};
 ghost use Rattle.account_core.specs.CallStages.{stage_of};
 ghost use Rattle.account_core.specs.Entries.{asked_of};
 ghost use Rattle.account_core.specs.Kept.{known_of};
-ghost use Rattle.account_core.specs.Known.{deed_of, is_open, known_after, paid_if_granted, paid_of, plan_in_force, taken_of, Ends, Forfeits, Grants, Reports};
+ghost use Rattle.account_core.specs.Known.{deed_of, is_open, known_after, paid_if_granted, paid_of, plan_in_force, taken_of, Forfeits, Grants, Reports};
 ghost use Rattle.account_core.specs.Places.{needed_by, owed_to, refusal_for};
 ghost use Rattle.account_core.specs.Replies.{reserve_reply, return_reply, settle_reply, credit_reply, reply_for};
 ghost use Rattle.account_core.specs.Sound.{GrantsWithinDay, IsSound};

@@ -6,7 +6,7 @@ ghost use Rattle.account_core.specs.Asked.{call_of};
 ghost use Rattle.account_core.specs.Available.{credited};
 ghost use Rattle.account_core.specs.Expiry.{last_moment_after};
 
-use price_core::{DAY, Plan, TimeInfo};
+use price_core::{Plan, TimeInfo};
 
 /// An operation on an account. Times and moments are in units of 100 ms, amounts in units of money.
 #[derive(Clone, Copy, Debug, PartialEq, Eq)]

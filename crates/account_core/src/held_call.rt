@@ -1,6 +1,6 @@
 //! What an account keeps of a call that was granted something.
 
-ghost use Rattle.std.specs.Prelude.{◌≡◌, ◌+◌, ◌≤◌, Bool, Some, false, unwrap_or};
+ghost use Rattle.std.specs.Prelude.{◌≡◌, Bool, Some, false, unwrap_or};
 ghost use Rattle.account_core.specs.Answers.{accepted_times};
 ghost use Rattle.account_core.specs.Kept.{facts_of_held};
 ghost use Rattle.account_core.specs.KeptPlans.{rates_kept};

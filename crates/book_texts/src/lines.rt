@@ -1,6 +1,6 @@
 //! The lines that a run prints of its books.
 
-ghost use Rattle.std.specs.Prelude.{◌≡◌, ◌++◌, ◌∷◌, [], OnOk, IfOk, List, string_bytes, map};
+ghost use Rattle.std.specs.Prelude.{◌≡◌, ◌++◌, [], OnOk, IfOk, List, string_bytes, map};
 ghost use Rattle.std.specs.List.{flat_map};
 ghost use Rattle.book_texts.specs.RunTexts.{AreLinesOf, AreOrdered, IsRunText, account_text, call_line, fate_word, call_line_of};
 ghost use Rattle.account_core.specs.Closed.{Closed};

@@ -1,5 +1,5 @@
 -- What is printed is printed piece by piece: the header, the rows and the end.
-use Rattle.std.proofs.Common.{◌≡◌, ◌+◌, ℕ, true, false, List, ◌++◌, take, Option, Some, None, Result, Ok, Err, refl, sym, ap, subst, ◌∙◌, inl, inr}
+use Rattle.std.proofs.Common.{◌≡◌, ℕ, true, false, List, ◌++◌, take, Option, Some, None, Result, Ok, Err, refl, sym, ap, subst, ◌∙◌, inl, inr}
 use Rattle.std.proofs.KnownBytes.{Keeps-refl, Appends-trans}
 use Rattle.std.specs.Prelude.{IfErr, IsErrAnd, IsSome, OnOk}
 use Rattle.std.specs.Io.KnownBytes.{Appends}

@@ -1,6 +1,6 @@
 //! The events that a call is to meet.
 
-ghost use Rattle.std.specs.Prelude.{◌≡◌, ◌≤◌, IsTrue, ◌↔◌, ℕ, drop, length};
+ghost use Rattle.std.specs.Prelude.{◌≡◌, drop};
 ghost use Rattle.one_call.specs.Scripts.{TakesEvent, events_are_in_order, next_event};
 
 use ssf_core::{BcsmEvent, Moment};

@@ -1,8 +1,8 @@
 //! The times of a call.
 
-ghost use Rattle.std.specs.Prelude.{◌≡◌, ◌+◌, ◌≤◌, ◌↔◌, Bool, false, IsSome, IfSome, IsOk, IfOk, Some};
+ghost use Rattle.std.specs.Prelude.{◌≡◌, ◌+◌, ◌≤◌, ◌↔◌, false, IsSome, IfSome, IsOk, IfOk, Some};
 ghost use Rattle.price_core.specs.RangeTexts.{time_range_text};
-ghost use Rattle.price_core.specs.Times.{IsTimes, no_times};
+ghost use Rattle.price_core.specs.Times.{IsTimes};
 ghost use Rattle.price_core.specs.TimeInfo.{IsNoSwitch, AreAfterSwitch};
 ghost use Rattle.price_core.specs.declared.times.TimeInfo.TheVariants as info;
 

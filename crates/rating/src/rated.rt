@@ -1,9 +1,7 @@
 //! What a row comes to by a tariff.
 
-ghost use Rattle.std.specs.Prelude.{◌≡◌, ◌<◌, ◌≤◌, ◌+◌, length, unwrap_or, IfSome};
+ghost use Rattle.std.specs.Prelude.{◌≡◌, ◌<◌, IfSome};
 ghost use Rattle.csv.specs.Records.{fields_of};
-ghost use Rattle.price_core.specs.declared.plan.TheConstants.{MAX_MONEY};
-ghost use Rattle.price_core.specs.declared.pricing.TheConstants.{MAX_PRICE};
 ghost use Rattle.rating.specs.Calls.{AnsweredIsInRange, IsWithinDay, said_in, row_size};
 ghost use Rattle.rating.specs.Rated.{IsPriced, IsRated, charge_by, differs, has_fault, is_right};
 ghost use Rattle.rating.specs.SaidOf.{rating_of};
@@ -13,7 +11,7 @@ use crate::charge::charge_call;
 use crate::columns::Columns;
 use crate::{PricedTimes, RateKind};
 use csv::ByteRecord;
-use price_core::{DAY, HORIZON, Route};
+use price_core::Route;
 use tariff_core::Tariff;
 
 /// What a row comes to.

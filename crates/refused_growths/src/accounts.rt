@@ -2,7 +2,7 @@
 
 use crate::asks::{Account as Looks, LIMIT, OPENING, Seen, Watched, are_all, ask_all, counted};
 use crate::closing;
-use crate::outcome::{Course, Outcome, expect};
+use crate::outcome::{Course, expect};
 use account_core::{Account, Entry};
 use one_call::AccountPort;
 use std::alloc::{AllocError, Global};

@@ -1,6 +1,6 @@
 //! What the entries of a history say of calls.
 
-ghost use Rattle.std.specs.Prelude.{◌≡◌, ◌==◌, if◌then◌else◌, ◌∷◌, ℕ, List, map, reverse, IfOk, OnOk};
+ghost use Rattle.std.specs.Prelude.{◌≡◌, ◌∷◌, List, map, reverse, IfOk, OnOk};
 ghost use Rattle.account_core.specs.Asked.{call_of};
 ghost use Rattle.account_core.specs.Entries.{EntryData, asked_of, entry_data};
 ghost use Rattle.run_outputs.specs.KeptRecords.{HaveMarks, marks_in, marks_of};

@@ -1,6 +1,6 @@
 //! What is kept of a part of a run, and of all of them.
 
-ghost use Rattle.std.specs.Prelude.{◌≡◌, [], All, IfOk, List, OnOk, string_bytes};
+ghost use Rattle.std.specs.Prelude.{◌≡◌, All, IfOk, List, OnOk, string_bytes};
 ghost use Rattle.book_texts.specs.RunTexts.{AreLinesOf};
 ghost use Rattle.book_texts.specs.Typed.{IsTyped};
 ghost use Rattle.run_values.specs.declared.options.RunOutput.{RunOutput};

@@ -1,6 +1,6 @@
 //! What the switch reports of calls.
 
-ghost use Rattle.std.specs.Prelude.{◌≡◌, ◌==◌, if◌then◌else◌, ◌∷◌, ◌++◌, [], ℕ, List, Option, IfOk, OnOk};
+ghost use Rattle.std.specs.Prelude.{◌≡◌, ◌∷◌, ◌++◌, [], ℕ, List, Option, IfOk, OnOk};
 ghost use Rattle.cap_values.specs.declared.leg.Leg.{Leg};
 ghost use Rattle.cap_values.specs.declared.mode.Mode.{Mode};
 ghost use Rattle.cap_values.specs.declared.message.SsfMsg.TheVariants as message;

@@ -1,6 +1,6 @@
 //! The table of a trace.
 
-ghost use Rattle.std.specs.Prelude.{◌≡◌, ◌<◌, ◌^◌, ◌++◌, IfOk, OnOk, option_copied, string_bytes};
+ghost use Rattle.std.specs.Prelude.{◌≡◌, ◌++◌, IfOk, OnOk, option_copied, string_bytes};
 ghost use Rattle.run_texts.specs.Tables.{post_rows, trace_text};
 
 use crate::trace_rows::{call_of, write_answer, write_post};

@@ -1,23 +1,21 @@
 //! What is done about a post, in each case.
 
-ghost use Rattle.std.specs.Prelude.{◌≡◌, ◌≢◌, ◌==◌, ◌<◌, ◌≤◌, if◌then◌else◌, ℕ, List, None, Some, true, false, length, map, IfErr, IfOk, IsSome, OnOk};
+ghost use Rattle.std.specs.Prelude.{◌≡◌, ◌==◌, if◌then◌else◌, ℕ, List, None, Some, true, false, length, map, IfErr, IfOk, IsSome, OnOk};
 ghost use Rattle.std.specs.BTreeMap.{is_at};
 ghost use Rattle.std.specs.Map.{lookup};
 ghost use Rattle.std.specs.Ordering.{nat_cmp};
 ghost use Rattle.runs_core.specs.Calls.{AreCalledIn, IsOnceCalled};
-ghost use Rattle.runs_core.specs.Cases.{HasRoom, IsAsked, IsCredited, IsRightlyActed, CaseIsWithin, with_room};
-ghost use Rattle.runs_core.specs.Handled.{IsRecharged, IsTalked, answer_view};
+ghost use Rattle.runs_core.specs.Cases.{HasRoom, IsCredited, IsRightlyActed, CaseIsWithin, with_room};
+ghost use Rattle.runs_core.specs.Handled.{answer_view};
 ghost use Rattle.runs_core.specs.Refusals.{RefusesAt, WasAt};
-ghost use Rattle.runs_core.specs.Workers.{talk_standing, standings_in};
-ghost use Rattle.dialogue_core.specs.Talks.{asks_after, asks_left};
+ghost use Rattle.runs_core.specs.Workers.{standings_in};
 ghost use Rattle.account_core.specs.Entries.{EntryData, asked_of};
 ghost use Rattle.account_core.specs.Refusals.{IsRefusedAt, Refusal};
-ghost use Rattle.dialogue_core.specs.Views.{phase_of, says_of};
 
 use crate::worker::{Case, Talk};
 use account_core::{AccountFault, Gate, Op, Reply, RisingMap, Shared};
 use cap_values::{Cause, Instructions};
-use dialogue_core::{Asker, Dialogue, Turn, converse};
+use dialogue_core::{Asker, converse};
 use run_values::{Answer, Body, RunFault};
 use std::sync::Wait;
 

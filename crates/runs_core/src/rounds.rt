@@ -2,12 +2,11 @@
 //! back to it.
 
 ghost use Rattle.std.specs.Prelude.{◌≡◌, ◌≤◌, ◌<◌, ◌^◌, ◌+◌, ◌++◌, ◌∷◌, [], ℕ, List, length, map, not, true, false, None, All, IfOk, IfSome, OnOk};
-ghost use Rattle.std.specs.List.{HoldsAt};
 ghost use Rattle.runs_core.specs.Crews.{HasPlayed, HasServed, IsServedRound};
 ghost use Rattle.runs_core.specs.Hearing.{AreAnswers};
 ghost use Rattle.runs_core.specs.RunFaults.{AsksNoGate, MayAskGate};
 ghost use Rattle.runs_core.specs.Sending.{promises_of};
-ghost use Rattle.runs_core.specs.Shares.{AreShares, item_at, item_of, worker_of};
+ghost use Rattle.runs_core.specs.Shares.{worker_of};
 ghost use Rattle.runs_core.specs.Workers.{IsReady, accounts_of, number_by, setup_of};
 ghost use Rattle.run_values.specs.declared.post.Body.{Body};
 

@@ -1,6 +1,6 @@
 //! A worker: it handles the posts of its calls and the recharges of its accounts.
 
-ghost use Rattle.std.specs.Prelude.{◌≡◌, ◌++◌, ◌∷◌, ◌≤◌, ◌<◌, ◌⊎◌, [], ℕ, List, None, Option, true, map, All, IfErr, IfOk, IfSome, OnOk, IfNone, length};
+ghost use Rattle.std.specs.Prelude.{◌≡◌, ◌∷◌, ◌≤◌, ◌⊎◌, [], ℕ, List, None, Option, true, map, All, IfErr, IfOk, OnOk};
 ghost use Rattle.std.specs.Map.{keys_of};
 ghost use Rattle.runs_core.specs.Handled.{IsRecharged, IsRightlyHandled, answer_view};
 ghost use Rattle.runs_core.specs.Refusals.{RefusesAt, WasAt};

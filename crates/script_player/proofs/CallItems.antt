@@ -18,7 +18,7 @@ use Rattle.run_values.specs.declared.post.Body.{Body}
 use Rattle.script_player.specs.Beginnings.{IsTriggered}
 use Rattle.script_player.specs.Networks.{HaveGiven, SsfGoesOn, Grows, HasGiven, MovesSsf, Shown}
 use Rattle.script_player.specs.Plays.{IsPlayed}
-use Rattle.script_player.specs.Posts.{initial, items_of, posts_of}
+use Rattle.script_player.specs.Posts.{items_of, posts_of}
 use Rattle.script_player.specs.Rows.{Starts, unless_begun}
 use Rattle.script_player.proofs.Items.{items_of-other, items_of-own, posts_in_range, posts_of-append, recharges_in-posts}
 

@@ -1,6 +1,6 @@
 //! The events of the call, in the order of the rules.
 
-ghost use Rattle.std.specs.Prelude.{◌≡◌, ◌+◌, ◌++◌, ◌≤◌, ◌∷◌, ℕ, List, None};
+ghost use Rattle.std.specs.Prelude.{◌≡◌, ◌++◌, ◌≤◌, ◌∷◌, ℕ, List, None};
 ghost use Rattle.std.specs.Result.{result_unwrap_or};
 ghost use Rattle.arrayvec.specs.ArrayVec.{array_vec_len};
 ghost use Rattle.ssf_core.specs.Happenings.{Happening, Took, sent_at};

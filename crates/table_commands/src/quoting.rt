@@ -2,11 +2,11 @@
 
 ghost use Rattle.std.specs.Prelude.{◌≡◌, ◌+◌, ◌++◌, ◌≤◌, ◌<◌, codes, IfOk, IfSome, OnOk, string_bytes};
 ghost use Rattle.table_commands.specs.QuoteWishes.{quote_wish_of};
-ghost use Rattle.table_commands.specs.Quotes.{IsQuoteText, afford_line, band_line, plan_text, prefix_text, price_line, quote_lines, steps_text, switch_line};
+ghost use Rattle.table_commands.specs.Quotes.{IsQuoteText, afford_line, band_line, prefix_text, price_line, quote_lines, steps_text, switch_line};
 ghost use Rattle.price_core.specs.RatesOf.{rates_of};
 
 use crate::QuoteAsk;
-use price_core::{DAY, HORIZON, MAX_MOMENT, Plan, Route, Times, afford};
+use price_core::{DAY, Plan, Route, Times, afford};
 use rating::{PricedTimes, charge_call};
 use std::alloc::{AllocError, Global};
 use table_core::write_digits;

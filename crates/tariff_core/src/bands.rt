@@ -1,6 +1,6 @@
 //! The rows of a tariff table, and an index that finds them.
 
-ghost use Rattle.std.specs.Prelude.{◌≡◌, ◌≤◌, ◌<◌, ◌+◌, ◌%◌, [], false, true, length, nat_le, Some, None, IfNone, IfSome, OnOk, All};
+ghost use Rattle.std.specs.Prelude.{◌≡◌, ◌≤◌, ◌<◌, ◌+◌, ◌%◌, [], false, true, nat_le, Some, None, IfNone, IfSome, OnOk, All};
 ghost use Rattle.std.specs.List.{list_any};
 ghost use Rattle.tariff_core.specs.Bands.{counts_on, has_band, has_midnights, have_steps, weekday};
 ghost use Rattle.tariff_core.specs.Digits.{text_of_digits};

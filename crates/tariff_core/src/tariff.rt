@@ -1,7 +1,7 @@
 //! The tariff: what a call to a number costs at a moment.
 
 ghost use Rattle.std.specs.Prelude.{◌≡◌, ◌+◌, ◌<◌, ◌≤◌, true, is_some, length, unwrap_or, IfNone, IfSome, Some};
-ghost use Rattle.tariff_core.specs.Bands.{counts_on, has_midnights, have_steps, weekday};
+ghost use Rattle.tariff_core.specs.Bands.{has_midnights, have_steps, weekday};
 ghost use Rattle.tariff_core.specs.Digits.{text_of_digits};
 ghost use Rattle.tariff_core.specs.Routes.{HasNoRoute, IsBandAt, IsOnly, IsPrefixFor, IsQuote, IsRoute, IsSwitch};
 ghost use Rattle.tariff_core.specs.Tariff.{band_of};

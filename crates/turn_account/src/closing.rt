@@ -1,6 +1,6 @@
 //! The close of a turn account.
 
-ghost use Rattle.std.specs.Prelude.{◌≡◌, ◌+◌, ◌↔◌, ◌≤◌, ◌<◌, ◌++◌, ◌∷◌, [], true, false, length, map, All, IfOk, IfErr};
+ghost use Rattle.std.specs.Prelude.{◌≡◌, ◌+◌, ◌↔◌, ◌≤◌, ◌++◌, ◌∷◌, [], true, false, length, map, All, IfOk, IfErr};
 ghost use Rattle.account_core.specs.Closed.{IsBookOf};
 ghost use Rattle.account_core.specs.Prefixes.{IsPrefix};
 ghost use Rattle.account_core.specs.Seats.{are_all, are_numbered};

@@ -1,8 +1,6 @@
 //! Calls driven over an account, with `tssf` 100, `tccd` 50 and the default handling Release; 600
 //! are wanted, and 50 at least. The call is charged 50 once and 1000 a minute.
 
-ghost use Rattle.std.specs.Prelude.{◌≤◌, All};
-
 use crate::looking::gives;
 use crate::making::number;
 use account_core::{Account, AccountFault, Op, Reply};

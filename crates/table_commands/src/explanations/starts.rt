@@ -1,6 +1,6 @@
 //! Where a row of a table begins.
 
-ghost use Rattle.std.specs.Prelude.{◌≡◌, ◌≤◌, ◌+◌, ◌<◌, length, IfNone, IfSome};
+ghost use Rattle.std.specs.Prelude.{◌≡◌, ◌≤◌, ◌+◌, length, IfNone, IfSome};
 ghost use Rattle.csv.specs.Reading.{is_bom};
 ghost use Rattle.table_commands.specs.RowStarts.{BeginsRow, HasFewer, is_line_end};
 ghost use Rattle.table_commands.specs.Walks.{BeginsRowBehind, HasFewerBehind, IsMark, begins_row};

@@ -1,4 +1,4 @@
-use Rattle.std.proofs.Common.{◌≢◌, ◌≤◌, ◌<◌, ◌-◌, ◌==◌, ◌∙◌, ℕ, List, All, ap, arith, length, length-take-le, sym, take, get_or-take}
+use Rattle.std.proofs.Common.{◌≢◌, ◌≤◌, ◌<◌, ◌==◌, ◌∙◌, ℕ, List, All, ap, arith, length, length-take-le, sym, take, get_or-take}
 use Rattle.std.proofs.lemmas.List.{get_or_default}
 use Rattle.memchr.specs.Find.{Nowhere, Passes, is_byte}
 use Rattle.live_answers.proofs.line.end_of_line.Goals as goal
