@@ -12,7 +12,6 @@ use crate::fault::{Fault, TableName};
 use crate::input::MAX_INPUT;
 use std::alloc::{AllocError, Global};
 use std::convert::AsStr;
-use std::fmt::Write;
 
 /// How a command ends: an answer, or a fault, and what is said behind that.
 #[derive(Drop)]
@@ -113,7 +112,7 @@ fn full_lines(alloc: Global, text: &str) -> Result<String, AllocError> {
     }
     for line in text.split('\n') {
         if !line.is_empty() {
-            let _ = writeln!(said, "{line}");
+            writeln!(said, "{line}");
         }
     }
     said.into_text()

@@ -6,7 +6,7 @@ use crate::run_words::run_ask;
 use crate::serve_words::live_ask;
 use clap::ArgMatches;
 use price_core::DAY;
-use std::fmt::{self, Write};
+use std::fmt;
 
 /// Adds a line about the first time of `run` that is out of its range, if one is.
 pub(crate) fn push_run_times(said: &mut Said, options: &ArgMatches<'_>) {
@@ -57,7 +57,7 @@ fn push_fallen(said: &mut Said, options: &ArgMatches<'_>, times: &[(&'static str
     }
     if let Some(last) = below {
         if least > DAY {
-            let _ = writeln!(said, "{last} is above {DAY}");
+            writeln!(said, "{last} is above {DAY}");
             return true;
         }
     }
@@ -66,10 +66,10 @@ fn push_fallen(said: &mut Said, options: &ArgMatches<'_>, times: &[(&'static str
 
 /// Adds a line about a time that is below the one before it, or below 1.
 fn push_low(said: &mut Said, before: Option<Time<'_>>, time: Time<'_>) {
-    let _ = match before {
+    match before {
         None => writeln!(said, "{time} is below 1"),
         Some(before) => writeln!(said, "{before} is above {time}"),
-    };
+    }
 }
 
 /// A time of a command: its name, and what its option says, or what it is where that is left out.

@@ -2,7 +2,6 @@
 
 use crate::explanations::said::Said;
 use std::alloc::{AllocError, Global};
-use std::fmt::Write;
 
 /// The most lines whose numbers are said.
 const MOST_NUMBERS: usize = 5;
@@ -75,21 +74,21 @@ fn push_found(said: &mut Said, found: usize) {
     } else {
         "lines that are"
     };
-    let _ = write!(said, "{found} {lines} %% alone");
+    write!(said, "{found} {lines} %% alone");
 }
 
 /// Adds the numbers of lines.
 fn push_numbers(said: &mut Said, numbers: &[u64]) {
     for line in numbers {
-        let _ = write!(said, ", in line {line}");
+        write!(said, ", in line {line}");
     }
 }
 
 /// Adds how many are wanted, and the line that nearly is one.
 fn push_wanted(said: &mut Said, wanted: u32, near: Option<u64>) {
-    let _ = writeln!(said, "; wanted {wanted}");
+    writeln!(said, "; wanted {wanted}");
     if let Some(line) = near {
-        let _ = writeln!(said, "line {line} is %% with a blank at it");
+        writeln!(said, "line {line} is %% with a blank at it");
     }
 }
 

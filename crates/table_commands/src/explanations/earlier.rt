@@ -7,7 +7,6 @@ use crate::explanations::row_line::Shown;
 use crate::explanations::said::Said;
 use csv::ByteRecord;
 use std::alloc::Global;
-use std::fmt::Write;
 use table_core::{Rows, field, has_word};
 
 /// Adds why a row may not come behind the one above it.
@@ -26,7 +25,7 @@ pub(crate) fn push_order(said: &mut Said, alloc: Global, table: Faulty<'_>, row:
 fn push_moments(said: &mut Said, row: &ByteRecord, above: &ByteRecord, number: u32) {
     let moment = shown_at(row, 0);
     let earlier = shown_at(above, 0);
-    let _ = writeln!(said, "moment {moment} lies below {earlier} in row {number}");
+    writeln!(said, "moment {moment} lies below {earlier} in row {number}");
 }
 
 /// Adds which times, the fields of a row, may not follow those of the row above it.
@@ -38,7 +37,7 @@ fn push_times(said: &mut Said, row: &ByteRecord, above: &ByteRecord, number: u32
     } else {
         said.push(" may not follow ");
         push_fields(said, above);
-        let _ = writeln!(said, " in row {number}");
+        writeln!(said, " in row {number}");
     }
 }
 
@@ -53,7 +52,7 @@ pub(crate) fn push_repeated(said: &mut Said, alloc: Global, table: Faulty<'_>, r
     if let Some(number) = find_above(said, alloc, table, sought) {
         let name = Shown(name);
         let key = shown_at(row, key);
-        let _ = writeln!(said, "{name} {key} is in row {number} already");
+        writeln!(said, "{name} {key} is in row {number} already");
     }
 }
 
@@ -66,5 +65,5 @@ pub(crate) fn push_unknown(said: &mut Said, slip: Slip, row: &ByteRecord) {
         _ => ("account", 0, "isn't opened in an earlier row"),
     };
     let field = shown_at(row, place);
-    let _ = writeln!(said, "{name} {field} {why}");
+    writeln!(said, "{name} {field} {why}");
 }

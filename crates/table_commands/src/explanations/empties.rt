@@ -5,7 +5,6 @@ use crate::explanations::forms::{Part, parts_of};
 use crate::explanations::found_rows::{push_column, shown_at};
 use crate::explanations::said::Said;
 use csv::ByteRecord;
-use std::fmt::Write;
 use table_core::is_blank;
 
 /// Adds which field of a row must be empty, and for what.
@@ -17,7 +16,7 @@ pub(crate) fn push_not_empty(said: &mut Said, slip: Slip, names: &ByteRecord, ro
     if let Some((place, word)) = found {
         push_column(said, names, row, place);
         let word = shown_at(row, word);
-        let _ = writeln!(said, ", where {word} takes nothing");
+        writeln!(said, ", where {word} takes nothing");
     }
 }
 

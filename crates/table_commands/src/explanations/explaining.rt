@@ -11,7 +11,6 @@ use crate::explanations::said::Said;
 use crate::explanations::sections::find_section;
 use crate::explanations::starts::row_start;
 use std::alloc::{AllocError, Global};
-use std::fmt::Write;
 
 /// The lines that explain a fault of the input, each with LF at its end: the line of the input in
 /// which the row begins, and what is wrong there. None where memory runs out, or where the input
@@ -67,7 +66,7 @@ fn more_of(alloc: Global, before: &[u8], table: &[u8], slip: Slip) -> Result<Str
     push_reason(&mut said, alloc, faulty);
     if let Some(start) = row_start(table, row) {
         if let Some(line) = open_quote(before, table, start) {
-            let _ = writeln!(said, "a quote is open since line {line}");
+            writeln!(said, "a quote is open since line {line}");
         }
     }
     said.into_text()

@@ -6,7 +6,6 @@ use crate::explanations::row_line::Shown;
 use crate::explanations::said::Said;
 use csv::ByteRecord;
 use std::alloc::Global;
-use std::fmt::Write;
 use table_core::{Rows, decimal, field};
 
 /// Takes the next row of a table. Whether there is one, for which memory is there too.
@@ -39,7 +38,7 @@ pub(crate) fn shown_at(row: &ByteRecord, place: usize) -> Shown<'_> {
 pub(crate) fn push_column(said: &mut Said, names: &ByteRecord, row: &ByteRecord, place: usize) {
     let column = shown_at(names, place);
     let field = shown_at(row, place);
-    let _ = write!(said, "column {column}: {field}");
+    write!(said, "column {column}: {field}");
 }
 
 /// What is looked for in the rows above a row.

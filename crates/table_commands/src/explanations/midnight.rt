@@ -6,7 +6,7 @@ use crate::explanations::row_line::Shown;
 use crate::explanations::said::Said;
 use csv::ByteRecord;
 use std::alloc::{AllocError, Global};
-use std::fmt::{self, Write};
+use std::fmt;
 use table_core::{Rows, field};
 
 /// Adds the row above that has the prefix and the start of a row, and a day in common with it.
@@ -19,7 +19,7 @@ pub(crate) fn push_repeated_band(
     if let Some(number) = find_above(said, alloc, table, Sought::Band(row)) {
         let prefix = Prefix(field(row, 0));
         let start = shown_at(row, 1);
-        let _ = writeln!(said, "{prefix} from {start} is in row {number} already");
+        writeln!(said, "{prefix} from {start} is in row {number} already");
     }
 }
 
@@ -52,7 +52,7 @@ pub(crate) fn push_no_midnight(
 ) {
     let prefix = Prefix(field(row, 0));
     let mut latest = String::new(alloc);
-    let _ = write!(said, "{prefix} counts from ");
+    write!(said, "{prefix} counts from ");
     let mut rows = Rows::new(alloc, table.text);
     push_starts(said, &mut latest, &mut rows, prefix);
     push_missing(said, latest.as_str(), row);
@@ -66,7 +66,7 @@ fn push_missing(said: &mut Said, latest: &str, row: &ByteRecord) {
         said.push(", and not from 00:00 on each day of the week\n");
     } else {
         let prefix = shown_at(row, 0);
-        let _ = writeln!(
+        writeln!(
             said,
             ", and nothing from 00:00: add {prefix},00:00,.. with what counts at midnight, \
              mostly the row of {latest}"
@@ -91,7 +91,7 @@ fn push_start(said: &mut Said, latest: &mut String, row: &ByteRecord, prefix: Pr
     }
     let and = if latest.is_empty() { "" } else { " and " };
     let start = shown_at(row, 1);
-    let _ = write!(said, "{and}{start}");
+    write!(said, "{and}{start}");
     if keep_later(latest, field(row, 1)).is_err() {
         said.cut();
     }

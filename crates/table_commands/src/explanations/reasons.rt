@@ -12,7 +12,6 @@ use crate::explanations::wants::{Column, Wants, first_refused, push_refusal};
 use csv::ByteRecord;
 use price_core::DAY;
 use std::alloc::Global;
-use std::fmt::Write;
 use table_core::{RowFault, RowKind, Rows, field};
 use tariff_core::{TariffFault, TariffKind};
 
@@ -138,7 +137,7 @@ fn push_csv(said: &mut Said, names: &ByteRecord, row: &ByteRecord) {
     let found = row.len();
     let wanted = names.len();
     let fields = if found == 1 { "field" } else { "fields" };
-    let _ = write!(said, "{found} {fields}, and the header has {wanted}: ");
+    write!(said, "{found} {fields}, and the header has {wanted}: ");
     push_fields(said, names);
     said.push("\n");
 }
@@ -148,7 +147,7 @@ pub(crate) fn push_fields(said: &mut Said, row: &ByteRecord) {
     let mut comma = "";
     for place in 0..row.len() {
         let field = shown_at(row, place);
-        let _ = write!(said, "{comma}{field}");
+        write!(said, "{comma}{field}");
         comma = ",";
     }
 }
@@ -156,7 +155,7 @@ pub(crate) fn push_fields(said: &mut Said, row: &ByteRecord) {
 /// Adds the headers that a table may have, the one that it has, and what separates its fields.
 fn push_header(said: &mut Said, slip: Slip, found: Option<&ByteRecord>) {
     let wanted = headers_of(slip);
-    let _ = write!(said, "wanted: {wanted}\nfound: ");
+    write!(said, "wanted: {wanted}\nfound: ");
     let Some(row) = found else {
         said.push("no row\n");
         return;
@@ -177,7 +176,7 @@ fn is_separated(field: &[u8]) -> bool {
 /// Adds how many rows a table has at most.
 fn push_most_rows(said: &mut Said, slip: Slip) {
     let most_rows = most_rows_of(slip);
-    let _ = writeln!(
+    writeln!(
         said,
         "at most {most_rows}; docs/SCALING.md has larger loads"
     );

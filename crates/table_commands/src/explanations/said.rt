@@ -28,6 +28,13 @@ impl Said {
         }
     }
 
+    /// Adds a value as it is displayed; `write!` and `writeln!` call this.
+    pub(crate) fn write_fmt<D: fmt::Display + Drop>(&mut self, value: D) {
+        if self.text.write_fmt(value).is_err() {
+            self.cut();
+        }
+    }
+
     /// Keeps in mind that memory ran out.
     pub(crate) fn cut(&mut self) {
         self.is_cut = true;
@@ -37,12 +44,5 @@ impl Said {
     pub(crate) fn into_text(self) -> Result<String, AllocError> {
         let Said { text, is_cut } = self;
         if is_cut { Err(AllocError) } else { Ok(text) }
-    }
-}
-
-impl fmt::Write for Said {
-    fn write_str(&mut self, piece: &str) -> fmt::Result {
-        self.push(piece);
-        if self.is_cut { Err(fmt::Error) } else { Ok(()) }
     }
 }

@@ -5,7 +5,6 @@ use crate::explanations::forms::SCRIPT_WORDS;
 use crate::explanations::found_rows::push_column;
 use crate::explanations::said::Said;
 use csv::ByteRecord;
-use std::fmt::Write;
 use table_core::{field, has_word, is_word};
 
 const OPERATIONS: &[&str] = &["credit", "reserve", "settle", "return"];
@@ -71,7 +70,7 @@ fn push_word(said: &mut Said, names: &ByteRecord, row: &ByteRecord, place: usize
     push_column(said, names, row, place);
     push_words(said, words);
     if let Some(word) = nearest(field(row, place), words) {
-        let _ = write!(said, "\nthe nearest is {word}");
+        write!(said, "\nthe nearest is {word}");
     }
     said.push("\n");
 }
@@ -80,7 +79,7 @@ fn push_word(said: &mut Said, names: &ByteRecord, row: &ByteRecord, place: usize
 fn push_words(said: &mut Said, words: &[&str]) {
     let mut start = "; one of ";
     for word in words {
-        let _ = write!(said, "{start}{word}");
+        write!(said, "{start}{word}");
         start = ", ";
     }
 }

@@ -4,7 +4,6 @@ use crate::explanations::forms::Part;
 use crate::explanations::found_rows::push_column;
 use crate::explanations::said::Said;
 use csv::ByteRecord;
-use std::fmt::Write;
 use table_core::{are_digits, decimal, field, is_decimal};
 use tariff_core::{moment, time_of_day};
 
@@ -110,7 +109,7 @@ fn push_wanted(said: &mut Said, field: &[u8], wants: Wants) {
             }
         }
         Wants::Digits(least, most) => {
-            let _ = write!(said, "no {least} to {most} digits");
+            write!(said, "no {least} to {most} digits");
         }
         Wants::TimeOfDay => said.push("no time of day from 00:00 to 23:59"),
         Wants::Days => said.push("no days: digits from 1 to 7 in their order, each once"),
@@ -122,8 +121,8 @@ fn push_range(said: &mut Said, field: &[u8], least: u64, most: u64) {
     if !is_decimal(field) {
         said.push("no decimal of 1 to 20 digits");
     } else if decimal(field, most).is_some() {
-        let _ = write!(said, "below {least}");
+        write!(said, "below {least}");
     } else {
-        let _ = write!(said, "above {most}");
+        write!(said, "above {most}");
     }
 }
