@@ -310,7 +310,7 @@ def live_input():
 
 def explained():
     """Faults whose explanation is made of several pieces, by what they are of."""
-    others = {said.partition("\n")[0]: Explained(words, text, said) for words, text, said in OTHERS[:4]}
+    others = {said.partition("\n")[0] if text else words: Explained(words, text, said) for words, text, said in OTHERS if len(text) < 1000}
     rows = {}
     for words, text, fault, shown, more in SLIPS:
         if more is not None and fault not in rows:

@@ -57,7 +57,15 @@ pub fn explains<S: AsStr>(words: &[S]) -> bool
 pub(crate) fn explain_words<S: AsStr>(alloc: Global, words: &[S]) -> Result<String, AllocError> {
     match parse(alloc, words) {
         Ok(matches) => explain_options(alloc, &matches),
-        Err(error) => error.to_string(alloc),
+        Err(error) => explain_error(alloc, &error),
+    }
+}
+
+/// What `clap` says of words that it doesn't take.
+fn explain_error(alloc: Global, error: &Error) -> Result<String, AllocError> {
+    match error.kind() {
+        ErrorKind::OutOfMemory => Err(AllocError),
+        _ => error.to_string(alloc),
     }
 }
 
