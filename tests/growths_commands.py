@@ -309,9 +309,11 @@ def live_input():
 
 
 def explained():
-    """Faults whose explanation is made of several pieces, by what they are of."""
-    others = {said.partition("\n")[0] if text else words: Explained(words, text, said) for words, text, said in OTHERS if len(text) < 1000}
-    rows = {}
+    """Faults whose explanation is made of several pieces: those of an input by what they are of, those of words by the words."""
+    others, rows = {}, {}
+    for words, text, said in OTHERS:
+        if len(text) < 1000:
+            others[said.partition("\n")[0] if text else words] = Explained(words, text, said)
     for words, text, fault, shown, more in SLIPS:
         if more is not None and fault not in rows:
             line = f"line {text.count(chr(10))} of the input: {shown}\n"
