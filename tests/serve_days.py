@@ -68,10 +68,7 @@ def days(trial):
     head = b"%%\n".join([HEAD.split(b"%%\n")[0], setup, HEADER])
     cut = calls = 0
     while calls >= cut:
-        cut, folder = cut + 1, trial.new()
-        os.mkdir(folder)
-        with open(f"{folder}/head.txt", "wb") as file:
-            file.write(HEAD)
+        cut, folder = cut + 1, new_day(trial)
         calls = day(trial, shims, folder, b"".join(talk.rows), cut)[1]
         if read(f"{folder}/head.txt") != head:
             rows = [] if kept_in(folder) else talk.rows
@@ -79,7 +76,20 @@ def days(trial):
         same(f"cut at {cut}", read(f"{folder}/head.txt"), head)
         # a day without messages may follow
         same(f"cut at {cut}", [it for it in kept_in(folder) if not it.endswith(HEADER)], [talk.logged()])
+    folder = new_day(trial)
+    with open(f"{folder}/day.log", "wb") as file:
+        file.write(talk.logged(3))
+    same("from message 1 on", day(trial, shims, folder, b"".join(talk.rows[3:]), 0, "1")[2], HEADER + talk.answered(1))
     return f"{cut - 1} cuts"
+
+
+def new_day(trial):
+    """A folder with the head of a day."""
+    folder = trial.new()
+    os.mkdir(folder)
+    with open(f"{folder}/head.txt", "wb") as file:
+        file.write(HEAD)
+    return folder
 
 
 def kept_in(folder):
@@ -87,10 +97,10 @@ def kept_in(folder):
     return list(filter(None, (read(it) for it in sorted(glob.glob(f"{folder}/kept/*/day.log")))))
 
 
-def day(trial, shims, folder, text, cut):
-    """Lets a day pass, which is cut off at its so manyth command; gives its status, and how many commands it called."""
+def day(trial, shims, folder, text, cut, *first):
+    """Lets a day pass, cut off at its so manyth command: its status, how many commands it called, what it printed."""
     path, calls = f"{shims}:{os.environ['PATH']}", trial.new(b"")
     more = {"PATH": path, "PREPAID": trial.program, "CALLS": calls, "CUT": str(cut)}
-    words, environment = ["bash", f"{ROOT}/examples/day.sh", folder], {**os.environ, **more}
+    words, environment = ["bash", f"{ROOT}/examples/day.sh", folder, *first], {**os.environ, **more}
     ran = subprocess.run(words, input=text, capture_output=True, env=environment, timeout=SECONDS)
-    return ran.returncode, read(calls).count(b"\n")
+    return ran.returncode, read(calls).count(b"\n"), ran.stdout
