@@ -95,7 +95,7 @@ edits:
 docs = $(DESTDIR)$(PREFIX)/share/doc/prepaid
 ZSH_FUNCTIONS ?= $(PREFIX)/share/zsh/site-functions
 
-# Installs the program, the man page, the completions, the examples, and the pages that tell how the program is used
+# Installs the program, the man page, the completions, the examples, and the pages that say how the program is used
 # with the one that they link to. There the commands say `prepaid`.
 install: bin/prepaid
 	install -D -m 755 bin/prepaid $(DESTDIR)$(PREFIX)/bin/prepaid

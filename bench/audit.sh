@@ -39,6 +39,8 @@ BEGIN {
 
 echo "audit of $(wc -l < "$work/book.csv") rows:"
 bench/beside.py 20 "$work/book.csv" bin/prepaid audit -- "$work/plain"
-{ head -n 1 "$work/book.csv"; seq 0 527757 | sed 's/$/,,opening,,1500,,,,,,,,,,/'; } > "$work/openings.csv"
-echo "audit of 527,758 openings:"
-bench/beside.py 5 "$work/openings.csv" bin/prepaid audit -- "$work/plain"
+for order in 'rise: 0 1 527757' 'fall: 527757 -1 0'; do
+    { head -n 1 "$work/book.csv"; seq ${order#*:} | sed 's/$/,,opening,,1500,,,,,,,,,,/'; } > "$work/openings.csv"
+    echo "audit of 527,758 openings that ${order%:*}:"
+    bench/beside.py 5 "$work/openings.csv" bin/prepaid audit -- "$work/plain"
+done

@@ -1,5 +1,5 @@
 //! `audit` without proofs, as a baseline: fields are split at commas, and an entry is judged as it
-//! is read. It reads all versions of books: with columns x6 and x7, with x6 alone, and without both.
+//! is read. It reads books of versions 1 to 3: with columns x6 and x7, with x6 alone, and without both.
 mod plain_call;
 
 use plain_call::{Call, MAX_MONEY};

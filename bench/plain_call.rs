@@ -41,7 +41,7 @@ impl Call {
         Times { before: interval.unwrap_or(known), after: time, switched: true }
     }
 
-    /// Takes a report, and tells whether it was lawful.
+    /// Takes a report, and says whether it was lawful.
     pub fn settle(&mut self, times: Times) -> bool {
         if self.forfeit || times.before + times.after > DAY || !self.is_lawful(times, self.granted) {
             self.forfeit = true;

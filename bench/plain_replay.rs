@@ -1,5 +1,5 @@
 //! `replay` without proofs, as a baseline: fields are split at commas, and a row is answered as it
-//! is read. It takes the opening as its only word, and a table of ops of any version.
+//! is read. It takes the opening as its only word, and a table of ops without x8 and x9.
 mod plain_call;
 
 use plain_call::{Call, DAY, MAX_MONEY};
@@ -19,7 +19,7 @@ impl Account {
         self.calls.get_mut(&key).filter(|call| call.open).ok_or("NotOpen")
     }
 
-    /// Adds the line of a row, or tells the fault of its operation.
+    /// Adds the line of a row, or gives the fault of its operation.
     fn answer(&mut self, row: &[&str], text: &mut String) -> Result<(), &'static str> {
         let number = |place: usize| row[place].parse::<u64>().unwrap();
         let maybe = |place: usize| if row[place].is_empty() { None } else { Some(number(place)) };

@@ -96,7 +96,7 @@ impl<'a> Service<'a> {
         Some((Call::new(bands[at].fee, bands[at].rate, Some(next.rate), 0), Some(now + wait)))
     }
 
-    /// Answers a message, and tells whether it had a place.
+    /// Answers a message, and says whether it had a place.
     pub fn hear(&mut self, now: u64, key: u64, message: Message, say: &mut impl FnMut(Operation)) -> bool {
         if let Message::Recharge { account, amount } = message {
             return self.recharge(account, amount);

@@ -1,7 +1,7 @@
 #!/usr/bin/env bash
 # The processor time of `replay` over 10,000 operations, beside a plain program that does the same
 # without proofs: both in one run, in turn, the least of 200 runs of each. The operations are those of
-# 3,334 calls of one account, 100 of them at once: each reserves, settles and returns.
+# 3,400 calls of one account, 100 of them at once: each reserves, settles and returns.
 set -eu
 cd "$(dirname "$0")/.."
 work=$(mktemp -d)

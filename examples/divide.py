@@ -4,7 +4,7 @@
 The input may be larger than one run takes. Each part has the whole tariff, some of the accounts with their subscribers,
 and all that the script says of them: all calls of an account, and its recharges, in their order. A call of a subscriber
 that the setup doesn't name has no account: it goes to a part by its number. Without N there are as many parts as the
-limits of a run ask for. The folder is made, or is empty. docs/SCALING.md tells how the parts are run.
+limits of a run ask for. The folder is made, or is empty. docs/SCALING.md says how the parts are run.
 """
 import argparse
 import collections

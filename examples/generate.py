@@ -5,7 +5,7 @@ So many calls begin at so many an hour, from six in the morning on, and those th
 on average; both are exponential. One in ten isn't answered. There is an account for each 20 calls, but no more than
 1000, each with one subscriber and credit for about half of its calls. A seed makes the same input each time.
 
-An input of more than some 150,000 calls is longer than `prepaid run` takes in one piece: divide.py divides it.
+An input of more than some 180,000 calls is longer than `prepaid run` takes in one piece: divide.py divides it.
 """
 import argparse
 import math
