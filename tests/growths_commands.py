@@ -263,7 +263,7 @@ class Into(Command):
 
 
 class Serve(Command):
-    """The service live. A log, and a new beginning with one that has all messages, change nothing of what is printed."""
+    """The live service. A log, and a new beginning with one that has all messages, change nothing of what is printed."""
 
     kinds = ALL_KINDS
 
@@ -302,7 +302,7 @@ class Serve(Command):
 
 
 def live_input():
-    """What a service live is given where the switches send what they send in the run."""
+    """What a live service is given where the switches send what they send in the run."""
     rows = rows_of(by_model(("run", "--workers", "1", "--trace"), RUN)[1])
     given = [",".join([row[0], "", *row[2:]]) for row in rows[1:] if row[3] != "service"]
     return b"%%\n".join([TARIFF, SETUP, "\n".join([trace.HEADER, *given, ""]).encode()])

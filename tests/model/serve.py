@@ -1,4 +1,4 @@
-"""The service live: rows of messages, each a line, answered one after the other, and what is printed behind them."""
+"""The live service: rows of messages, each a line, answered one after the other, and what is printed behind them."""
 from . import calls, trace
 from .account import DAY, MAX_MONEY
 from .log import Log

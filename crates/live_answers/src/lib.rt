@@ -1,4 +1,4 @@
-//! The service live: over the accounts that an input sets up messages are answered as they come,
+//! The live service: over the accounts that an input sets up messages are answered as they come,
 //! each on a line of its own, and then their books are printed; and the log that it keeps.
 #![tactic(auto)]
 

@@ -1,4 +1,4 @@
--- The ranges of the times of a run, and of the service live.
+-- The ranges of the times of a run, and of the live service.
 use Rattle.std.specs.Prelude.{◌&&◌, Bool, nat_le}
 use Rattle.run_values.specs.declared.live.LiveAsk.{LiveAsk}
 use Rattle.run_values.specs.declared.options.RunAsk.{RunAsk}

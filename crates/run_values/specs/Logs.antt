@@ -1,4 +1,4 @@
--- The log that the service live is asked to keep.
+-- The log that the live service is asked to keep.
 use Rattle.std.specs.Prelude.{ℕ, List, Option}
 use Rattle.run_values.specs.declared.log.LogAsk.{LogAsk}
 

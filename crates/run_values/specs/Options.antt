@@ -1,4 +1,4 @@
--- What the options of a run say, and those of the service live.
+-- What the options of a run say, and those of the live service.
 use Rattle.std.specs.Prelude.{Bool, true, false, Option, None, if◌then◌else◌}
 use Rattle.run_values.specs.declared.live.LiveAsk.{LiveAsk}
 use Rattle.run_values.specs.declared.live.LiveOptions.{LiveOptions}
@@ -33,7 +33,7 @@ is_trace (output.Trace clock) = true
 abbrev pub played_parts : RunAsk → Option PartsAsk
 played_parts ask = if is_trace ask.output then None else ask.parts
 
--- what was asked of the service live
+-- what was asked of the live service
 abbrev pub live_ask_of : LiveOptions → LiveAsk
 live_ask_of options = record {
   wanted = options.service.wanted;

@@ -1,5 +1,5 @@
 //! The values of a run: what it is asked for, what it is set up with, what its workers are sent,
-//! what they answer, and what can end it; and what drives it. Of the service live, what it is asked
+//! what they answer, and what can end it; and what drives it. Of the live service, what it is asked
 //! for.
 #![tactic(auto)]
 

@@ -1,11 +1,11 @@
-//! The options of the service live.
+//! The options of the live service.
 
 ghost use Rattle.std.specs.Prelude.{◌≡◌, ◌↔◌, true, IsSome, IfSome};
 ghost use Rattle.run_values.specs.Configs.{is_live_config};
 
 use dialogue_core::ServiceConfig;
 
-/// The options of the service live, each in its range.
+/// The options of the live service, each in its range.
 #[derive(Clone, Copy)]
 pub struct LiveOptions {
     /// What the service asks accounts for.
@@ -30,7 +30,7 @@ impl LiveOptions {
     }
 }
 
-/// What the service live is asked for besides its input, in any numbers. Times are in units of
+/// What the live service is asked for besides its input, in any numbers. Times are in units of
 /// 100 ms.
 #[derive(Clone, Copy)]
 pub struct LiveAsk {
@@ -44,7 +44,7 @@ pub struct LiveAsk {
     pub output: LiveOutput,
 }
 
-/// What the service live prints behind its rows, once its input has ended.
+/// What the live service prints behind its rows, once its input has ended.
 #[derive(Clone, Copy)]
 pub enum LiveOutput {
     /// Nothing.

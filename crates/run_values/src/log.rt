@@ -1,6 +1,6 @@
-//! The log of the service live.
+//! The log of the live service.
 
-/// The log that the service live is asked to keep.
+/// The log that the live service is asked to keep.
 #[derive(Clone, Copy)]
 pub struct LogAsk<'a> {
     /// The path of its file.

@@ -11,6 +11,6 @@ capped number = min number 4294967295
 abbrev pub capped_ask : RunAsk → RunAsk
 capped_ask ask = record ask { wanted = capped ask.wanted; least = capped ask.least; tssf = capped ask.tssf; tccd = capped ask.tccd; delay = capped ask.delay }
 
--- the same of what the service live is asked for
+-- the same of what the live service is asked for
 abbrev pub capped_live_ask : LiveAsk → LiveAsk
 capped_live_ask ask = record ask { wanted = capped ask.wanted; least = capped ask.least; tccd = capped ask.tccd }

@@ -31,7 +31,7 @@ pub enum Request<'a> {
     Quote(QuoteAsk),
     /// What each record of a table should have cost.
     Rate(RateAsk<'a>),
-    /// The service live, and the log that it keeps.
+    /// The live service, and the log that it keeps.
     Serve(LiveOptions, Option<LogAsk<'a>>),
 }
 
