@@ -3,7 +3,7 @@
 ghost use Rattle.std.specs.Prelude.{◌≡◌, ◌+◌, ◌≤◌, ℕ, List, Ok, Err, Some, None, IsSome};
 ghost use Rattle.std.specs.Result.{result_unwrap_or};
 ghost use Rattle.arrayvec.specs.ArrayVec.{array_vec_len};
-ghost use Rattle.ssf_core.specs.Stages.{IsActiveTimely, IsSwitchTimely, IsTimelyStage, started, tccd_due_of};
+ghost use Rattle.ssf_core.specs.Stages.{IsActiveTimely, IsSwitchTimely, IsTimelyStage, started};
 ghost use Rattle.ssf_core.specs.Steps.{TakesInput};
 ghost use Rattle.ssf_core.specs.Rules.{is_fitting};
 ghost use Rattle.ssf_core.specs.declared.config.SsfConfig.{SsfConfig as Config};
@@ -131,20 +131,9 @@ fn charge_active(active: Active, now: Moment, charge: Charge) -> Result<Stage, S
         now (taken.Operate (ScfOp.ApplyCharging charge)) result sent sent }
     ensures timely { IsTimelyStage now (result_unwrap_or result (Stage.Active active)) }
 {
-    match active.charging {
-        Charging::Over { .. } => lengthened(active, now, charge),
-        Charging::Off | Charging::Running { .. } => Err(SsfFault::UnexpectedComponentSequence),
-    }
-}
-
-fn lengthened(active: Active, now: Moment, charge: Charge) -> Result<Stage, SsfFault>
-    requires moment { now ≤ HORIZON }
-    requires timely { IsActiveTimely now active }
-    requires over { IsSome (tccd_due_of active.charging) }
-    ensures takes { (config : Config) (sent : List Sent) → TakesInput config (Stage.Active active)
-        now (taken.Operate (ScfOp.ApplyCharging charge)) result sent sent }
-    ensures timely { IsTimelyStage now (result_unwrap_or result (Stage.Active active)) }
-{
+    let Charging::Over { .. } = active.charging else {
+        return Err(SsfFault::UnexpectedComponentSequence);
+    };
     if !fits(&active, now, charge.period) {
         return Err(SsfFault::ParameterOutOfRange);
     }

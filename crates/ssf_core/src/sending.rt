@@ -134,30 +134,17 @@ fn times(answered: Moment, switch: Switch, now: Moment) -> TimeInfo
     ensures { result ≡ split answered (passed_switch switch) now }
 {
     match switch {
-        Switch::Passed(switch) => switched_times(answered, switch, now),
+        Switch::Passed(switch) if switch <= answered => TimeInfo::Switch {
+            since: (now - answered) as u32,
+            interval: None,
+        },
+        Switch::Passed(switch) => TimeInfo::Switch {
+            since: (now - switch) as u32,
+            interval: Some((switch - answered) as u32),
+        },
         Switch::Unset | Switch::Due(_) => TimeInfo::NoSwitch {
             t: (now - answered) as u32,
         },
-    }
-}
-
-/// The times after the switch came.
-fn switched_times(answered: Moment, switch: Moment, now: Moment) -> TimeInfo
-    requires answered { answered ≤ now }
-    requires within_day { now ≤ answered + DAY }
-    requires switch { switch ≤ now }
-    ensures { result ≡ split answered (Some switch) now }
-{
-    if switch <= answered {
-        TimeInfo::Switch {
-            since: (now - answered) as u32,
-            interval: None,
-        }
-    } else {
-        TimeInfo::Switch {
-            since: (now - switch) as u32,
-            interval: Some((switch - answered) as u32),
-        }
     }
 }
 

@@ -3,7 +3,7 @@
 ghost use Rattle.std.specs.Prelude.{◌≡◌, ◌≤◌, ◌<◌, ◌+◌, ◌++◌, [], List, Some};
 ghost use Rattle.ssf_core.specs.Happenings.{Happening, sent_at};
 ghost use Rattle.ssf_core.specs.Running.{Runs};
-ghost use Rattle.ssf_core.specs.Stages.{IsQuiet, IsTimelyStage, IsActiveTimely, IsBounded, due_by, expiries_left, expiry_of, items_left, expiry_moment, next_expiry_of, sooner_of, stage_due, switch_due_of, tccd_due_of, tcp_due_of};
+ghost use Rattle.ssf_core.specs.Stages.{IsQuiet, IsTimelyStage, IsBounded, due_by, expiries_left, expiry_of, items_left, expiry_moment, next_expiry_of, sooner_of, stage_due, switch_due_of};
 ghost use Rattle.ssf_core.specs.Steps.{Expires};
 ghost use Rattle.ssf_core.specs.Rules.{on_tssf};
 ghost use Rattle.ssf_core.specs.declared.config.SsfConfig.{SsfConfig as Config};
@@ -15,7 +15,7 @@ use crate::stage::{Active, Charging, Stage, Switch};
 use crate::{DefaultHandling, Moment, Out, SsfConfig};
 use arrayvec::ArrayVec;
 use cap_values::Cause;
-use price_core::{DAY, HORIZON};
+use price_core::HORIZON;
 
 /// A timer.
 #[derive(Clone, Copy)]
@@ -88,19 +88,15 @@ fn tcp_due(stage: &Stage) -> Option<Moment>
     ensures { result ≡ stage_due stage.now Timer.Tcp }
 {
     match stage {
-        Stage::Active(active) => period_end(active),
+        Stage::Active(
+            Active {
+                charging: Charging::Running { .. },
+                answered,
+                granted,
+                ..
+            },
+        ) => Some(*answered + u64::from(*granted)),
         _ => None,
-    }
-}
-
-fn period_end(active: &Active) -> Option<Moment>
-    requires answered { active.now.answered ≤ HORIZON }
-    requires granted { active.now.granted ≤ DAY }
-    ensures { result ≡ tcp_due_of (active.now.answered + active.now.granted) active.now.charging }
-{
-    match active.charging {
-        Charging::Running { .. } => Some(active.answered + u64::from(active.granted)),
-        Charging::Off | Charging::Over { .. } => None,
     }
 }
 
@@ -109,17 +105,13 @@ fn tccd_due(stage: &Stage) -> Option<Moment>
     ensures { result ≡ stage_due stage.now Timer.Tccd }
 {
     match stage {
-        Stage::Active(active) => further_period_due(active.charging),
+        Stage::Active(
+            Active {
+                charging: Charging::Over { due },
+                ..
+            },
+        ) => Some(*due),
         _ => None,
-    }
-}
-
-fn further_period_due(charging: Charging) -> Option<Moment>
-    ensures { result ≡ tccd_due_of charging }
-{
-    match charging {
-        Charging::Over { due } => Some(due),
-        Charging::Off | Charging::Running { .. } => None,
     }
 }
 
@@ -148,19 +140,9 @@ fn sooner(first: Option<Expiry>, second: Option<Expiry>) -> Option<Expiry>
     ensures { result ≡ sooner_of first second }
 {
     match (first, second) {
-        (Some(first), Some(second)) => sooner_expiry(first, second),
+        (Some(first), Some(second)) if first.due <= second.due => Some(first),
         (Some(first), None) => Some(first),
-        (None, second) => second,
-    }
-}
-
-fn sooner_expiry(first: Expiry, second: Expiry) -> Option<Expiry>
-    ensures { result ≡ sooner_of (Some first) (Some second) }
-{
-    if second.due < first.due {
-        Some(second)
-    } else {
-        Some(first)
+        (_, second) => second,
     }
 }
 
@@ -193,18 +175,8 @@ fn next_expiry_by(stage: &Stage, now: Moment) -> Option<Expiry>
     ensures { result ≡ due_by now (next_expiry_of stage.now) }
 {
     match next_expiry(stage) {
-        Some(expiry) => expiry_by(expiry, now),
-        None => None,
-    }
-}
-
-fn expiry_by(expiry: Expiry, now: Moment) -> Option<Expiry>
-    ensures { result ≡ due_by now (Some expiry) }
-{
-    if expiry.due <= now {
-        Some(expiry)
-    } else {
-        None
+        Some(expiry) if expiry.due <= now => Some(expiry),
+        _ => None,
     }
 }
 
@@ -270,29 +242,9 @@ fn end_period(config: &SsfConfig, stage: Stage, sent: &mut ArrayVec<Out, 8>, now
     ensures room { array_vec_len sent.new + items_left result
         ≤ array_vec_len sent.old + items_left stage }
 {
-    match stage {
-        Stage::Active(active) => end_active_period(config, active, sent, now),
-        other => other,
-    }
-}
-
-fn end_active_period(
-    config: &SsfConfig,
-    mut active: Active,
-    sent: &mut ArrayVec<Out, 8>,
-    now: Moment,
-) -> Stage
-    requires moment { now ≤ HORIZON }
-    requires room { array_vec_len sent.old ≤ 5 }
-    requires timely { IsActiveTimely now active }
-    requires due { stage_due (Stage.Active active) Timer.Tcp ≡ Some now }
-    ensures expires { Expires config.now (Stage.Active active) now Timer.Tcp result
-        sent.old.items sent.new.items }
-    ensures timely { IsTimelyStage now result }
-    ensures fewer { expiries_left result < expiries_left (Stage.Active active) }
-    ensures room { array_vec_len sent.new + items_left result
-        ≤ array_vec_len sent.old + items_left (Stage.Active active) }
-{
+    let Stage::Active(mut active) = stage else {
+        return stage;
+    };
     let Charging::Running { release } = active.charging else {
         return Stage::Active(active);
     };
