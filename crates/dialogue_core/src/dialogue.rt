@@ -150,10 +150,9 @@ fn on_message(
         State::Running(terms) => running(terms, number, at, message),
         State::Ending => ending(message),
         State::Closed => Err(DialogueFault::Unexpected),
-        State::FirstAsk(_) => Err(DialogueFault::AskPending),
-        State::Settling { .. } => Err(DialogueFault::AskPending),
-        State::MoreAsk(_) => Err(DialogueFault::AskPending),
-        State::Returning(_) => Err(DialogueFault::AskPending),
+        State::FirstAsk(_) | State::Settling { .. } | State::MoreAsk(_) | State::Returning(_) => {
+            Err(DialogueFault::AskPending)
+        }
     }
 }
 
@@ -163,18 +162,11 @@ fn on_reply(state: State, reply: Reply) -> Result<(Turn, State), DialogueFault>
 {
     match state {
         State::FirstAsk(terms) => first_reply(terms, reply),
-        State::Settling { terms, active, at } => {
-            if active {
-                active_reply(terms, at, reply)
-            } else {
-                last_reply(terms, reply)
-            }
-        }
+        State::Settling { terms, active, at } if active => active_reply(terms, at, reply),
+        State::Settling { terms, .. } => last_reply(terms, reply),
         State::MoreAsk(terms) => more_reply(terms, reply),
         State::Returning(next) => return_reply(next, reply),
-        State::Running(_) => Err(DialogueFault::NoAskPending),
-        State::Ending => Err(DialogueFault::NoAskPending),
-        State::Closed => Err(DialogueFault::NoAskPending),
+        State::Running(_) | State::Ending | State::Closed => Err(DialogueFault::NoAskPending),
     }
 }
 
@@ -187,18 +179,11 @@ fn on_refusal(state: State) -> Result<(Turn, State), DialogueFault>
             Turn::Send(Instructions::Release(Cause::temporary_failure())),
             State::Ending,
         )),
-        State::Settling { terms, active, .. } => {
-            if active {
-                Ok(give_back(terms, Then::Fail))
-            } else {
-                Ok(give_back(terms, Then::Nothing))
-            }
-        }
+        State::Settling { terms, active, .. } if active => Ok(give_back(terms, Then::Fail)),
+        State::Settling { terms, .. } => Ok(give_back(terms, Then::Nothing)),
         State::MoreAsk(terms) => Ok(give_back(terms, Then::Fail)),
         State::Returning(next) => Ok(sequel(next)),
-        State::Running(_) => Err(DialogueFault::NoAskPending),
-        State::Ending => Err(DialogueFault::NoAskPending),
-        State::Closed => Err(DialogueFault::NoAskPending),
+        State::Running(_) | State::Ending | State::Closed => Err(DialogueFault::NoAskPending),
     }
 }
 
@@ -271,10 +256,7 @@ fn first_reply(terms: Terms, reply: Reply) -> Result<(Turn, State), DialogueFaul
     ensures { FollowsRules result (first_reply (conditions_of terms) reply) }
 {
     match reply {
-        Reply::Granted { units, last, .. } => {
-            if !are_units(units) {
-                return Err(DialogueFault::Unexpected);
-            }
+        Reply::Granted { units, last, .. } if are_units(units) => {
             let period = first_period(units, terms.switch, last);
             Ok((period, State::Running(terms)))
         }
@@ -302,8 +284,7 @@ fn last_reply(terms: Terms, reply: Reply) -> Result<(Turn, State), DialogueFault
     ensures { FollowsRules result (last_reply (conditions_of terms) reply) }
 {
     match reply {
-        Reply::Settled { .. } => Ok(give_back(terms, Then::Nothing)),
-        Reply::Forfeit { .. } => Ok(give_back(terms, Then::Nothing)),
+        Reply::Settled { .. } | Reply::Forfeit { .. } => Ok(give_back(terms, Then::Nothing)),
         _ => Err(DialogueFault::Unexpected),
     }
 }
@@ -313,10 +294,7 @@ fn more_reply(terms: Terms, reply: Reply) -> Result<(Turn, State), DialogueFault
     ensures { FollowsRules result (more_reply (conditions_of terms) reply) }
 {
     match reply {
-        Reply::Granted { units, last, .. } => {
-            if !are_units(units) {
-                return Err(DialogueFault::Unexpected);
-            }
+        Reply::Granted { units, last, .. } if are_units(units) => {
             Ok((further_period(units, last), State::Running(terms)))
         }
         Reply::Denied { .. } => Ok(give_back(terms, Then::Clear)),
