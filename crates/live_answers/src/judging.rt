@@ -1,11 +1,10 @@
 //! What a line says, after those before it.
 
-ghost use Rattle.std.specs.Prelude.{◌≡◌, ◌<◌, ◌≤◌, ◌-◌, ◌^◌, IfOk, Some};
+ghost use Rattle.std.specs.Prelude.{◌≡◌, ◌<◌, ◌≤◌, ◌-◌, ◌^◌, IfOk};
 ghost use Rattle.std.specs.Result.{result_map_both};
 ghost use Rattle.live_answers.specs.Live.{next_after};
 ghost use Rattle.live_answers.specs.Said.{IsInRange, line_view_of};
 ghost use Rattle.live_answers.specs.Standing.{in_time, last_item_moment, placed, said_after};
-ghost use Rattle.run_texts.specs.declared.kind.LineKind.TheVariants as kinds;
 ghost use Rattle.run_texts.specs.MessageViews.{view_of};
 ghost use Rattle.table_core.specs.Judging.{and_then};
 
@@ -54,18 +53,9 @@ pub(crate) fn judge(alloc: Global, next: u64, last: u64, line: &[u8]) -> Result<
     let Some(read) = found else {
         return Ok(Said::Nothing);
     };
-    Ok(said_by(place(next, last, read)))
-}
-
-/// What a line with a row says.
-fn said_by(placed: Result<Message, RowKind>) -> Said
-    ensures says { line_view_of result ≡ Some (result_map_both (λ message. message) kinds.Row
-        (result_map_both view_of (λ kind. kind) placed)) }
-    ensures in_range { IfOk placed (λ message. message.at ≤ HORIZON) → IsInRange result }
-{
-    match placed {
-        Ok(message) => Said::Message(message),
-        Err(kind) => Said::Fault(LineKind::Row(kind)),
+    match place(next, last, read) {
+        Ok(message) => Ok(Said::Message(message)),
+        Err(kind) => Ok(Said::Fault(LineKind::Row(kind))),
     }
 }
 

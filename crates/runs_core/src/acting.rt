@@ -120,18 +120,14 @@ pub(crate) fn act<S: Shared, R: Wait, G: Gate>(
                 account: &accounts[place],
                 refused: None,
             };
-            match converse(&mut desk, &mut seats[place], &mut dialogue, turn) {
-                Ok(instructions) => {
-                    keep(talks, call, Talk { dialogue, place });
-                    Ok(Answer {
-                        number,
-                        instructions,
-                        stray: false,
-                        refused: desk.refused,
-                    })
-                }
-                Err(end) => Err(end),
-            }
+            let instructions = converse(&mut desk, &mut seats[place], &mut dialogue, turn)?;
+            keep(talks, call, Talk { dialogue, place });
+            Ok(Answer {
+                number,
+                instructions,
+                stray: false,
+                refused: desk.refused,
+            })
         }
     }
 }

@@ -4,7 +4,7 @@ ghost use Rattle.std.specs.Prelude.{◌≡◌, ◌∷◌, ◌≤◌, ◌⊎◌, 
 ghost use Rattle.std.specs.Map.{keys_of};
 ghost use Rattle.runs_core.specs.Handled.{IsRecharged, IsRightlyHandled, answer_view};
 ghost use Rattle.runs_core.specs.Refusals.{RefusesAt, WasAt};
-ghost use Rattle.runs_core.specs.Verdicts.{Recharges, Rejects, strays, verdict, fresh_call, goes_on, home_of, recharged};
+ghost use Rattle.runs_core.specs.Verdicts.{Recharges, Rejects, strays, verdict, fresh_call, goes_on, home_of};
 ghost use Rattle.runs_core.specs.Workers.{IsReady, accounts_of, holding, number_by, number_of, seats_of, setup_of, talks_of, standings_in};
 ghost use Rattle.runs_core.specs.Calls.{AreCalled};
 ghost use Rattle.runs_core.specs.Cases.{IsCase};
@@ -13,7 +13,6 @@ ghost use Rattle.account_core.specs.Refusals.{Refusal};
 ghost use Rattle.cap_values.specs.Orders.{Release, orders_in};
 ghost use Rattle.dialogue_core.specs.Rules.{on_message};
 ghost use Rattle.dialogue_core.specs.Views.{phase_of};
-ghost use Rattle.run_values.specs.Setups.{place_of};
 
 use crate::acting::{act, make_room, notify_gate, pass};
 use account_core::{Gate, RisingMap, Shared};
@@ -192,26 +191,18 @@ fn judge(setup: &RunSetup, talks: &RisingMap<Talk>, post: &Post) -> Case
             account,
             amount,
             until,
-        } => recharge(setup, account, amount, until),
+        } => match setup.place_of(account) {
+            Some(place) => Case::Recharge {
+                place,
+                amount,
+                until,
+            },
+            None => Case::Stray,
+        },
         Body::Ssf { call, msg } => match talks.get(call) {
             Some(talk) => go_on(*talk, post.number, post.at, call, msg),
             None => begin(setup, post.at, call, msg),
         },
-    }
-}
-
-/// A recharge: of an account that there is, or none.
-fn recharge(setup: &RunSetup, account: u32, amount: u64, until: Option<u64>) -> Case
-    ensures { (at : _) → IsCase setup.now at
-        (recharged amount until (place_of account setup.now)) result }
-{
-    match setup.place_of(account) {
-        Some(place) => Case::Recharge {
-            place,
-            amount,
-            until,
-        },
-        None => Case::Stray,
     }
 }
 

@@ -3,7 +3,7 @@
 ghost use Rattle.std.specs.Prelude.{◌≡◌, ◌≤◌, ◌<◌, true, length, IfSome, IfOk};
 ghost use Rattle.tariff_core.specs.Digits.{text_of_digits};
 ghost use Rattle.tariff_core.specs.Tariff.{ReadsAs, band_of};
-ghost use Rattle.tariff_core.specs.TariffTable.{are_days, band_in, days_in, first_in, free_in, is_prefix, step_in, time_of};
+ghost use Rattle.tariff_core.specs.TariffTable.{are_days, band_in, days_in, first_in, free_in, step_in, time_of};
 ghost use Rattle.csv.specs.Records.{fields_of};
 
 use crate::digits::{Digits, PREFIX_DIGITS};
@@ -22,7 +22,7 @@ pub(crate) fn read_row(header: usize, fields: &ByteRecord) -> Result<Row, Tariff
     ensures { ReadsAs band_of result (band_in header (fields_of fields.now)) }
 {
     let digits = field(fields, 0);
-    if !is_prefix(digits) {
+    if digits.len() > PREFIX_DIGITS || !are_digits(digits) {
         return Err(TariffKind::Digits);
     }
     let prefix = Digits::new(digits);
@@ -113,12 +113,6 @@ fn are_days(text: &[u8]) -> bool
         last = digit;
     }
     true
-}
-
-fn is_prefix(text: &[u8]) -> bool
-    ensures { result ≡ is_prefix text.now }
-{
-    text.len() <= PREFIX_DIGITS && are_digits(text)
 }
 
 /// The time of day that `HH:MM` writes, 00:00 to 23:59, in units of 100 ms after midnight.

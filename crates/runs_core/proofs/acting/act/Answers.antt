@@ -65,25 +65,25 @@ returns-in-Recharge-clause-acted g c =
     })
     c.recharge.ensures.credited)
 
-pub returns-in-Ok-clause-same_keys : goal.returns-in-Ok-clause-same_keys
-returns-in-Ok-clause-same_keys g c =
-    same_seats g.S.Shared.reads.key c.args.seats.now.items c.in-Talk.talk.place c.index_mut-in-Talk.result.now c.converse.new.way c.index_mut-in-Talk.ensures.value (spoken_out _ _ g.S.Shared.reads g.S.Shared.was g.S.Shared.calls _ _ _ _ _ c.in-Ok.ensures.talks refl).same_key
+pub returns-in_ok-instructions-in-Talk-clause-same_keys : goal.returns-in_ok-instructions-in-Talk-clause-same_keys
+returns-in_ok-instructions-in-Talk-clause-same_keys g c =
+    same_seats g.S.Shared.reads.key c.args.seats.now.items c.in-Talk.talk.place c.index_mut-in-Talk.result.now c.converse.new.way c.index_mut-in-Talk.ensures.value (spoken_out _ _ g.S.Shared.reads g.S.Shared.was g.S.Shared.calls _ _ _ _ _ c.in_ok-instructions-in-Talk.ensures.talks refl).same_key
 
-pub returns-in-Ok-clause-same_numbers :
-    goal.returns-in-Ok-clause-same_numbers
-returns-in-Ok-clause-same_numbers g c =
-    same_seats g.S.Shared.reads.number c.args.seats.now.items c.in-Talk.talk.place c.index_mut-in-Talk.result.now c.converse.new.way c.index_mut-in-Talk.ensures.value (spoken_out _ _ g.S.Shared.reads g.S.Shared.was g.S.Shared.calls _ _ _ _ _ c.in-Ok.ensures.talks refl).same_number
+pub returns-in_ok-instructions-in-Talk-clause-same_numbers :
+    goal.returns-in_ok-instructions-in-Talk-clause-same_numbers
+returns-in_ok-instructions-in-Talk-clause-same_numbers g c =
+    same_seats g.S.Shared.reads.number c.args.seats.now.items c.in-Talk.talk.place c.index_mut-in-Talk.result.now c.converse.new.way c.index_mut-in-Talk.ensures.value (spoken_out _ _ g.S.Shared.reads g.S.Shared.was g.S.Shared.calls _ _ _ _ _ c.in_ok-instructions-in-Talk.ensures.talks refl).same_number
 
-pub returns-in-Ok-clause-acted : goal.returns-in-Ok-clause-acted
-returns-in-Ok-clause-acted g c =
+pub returns-in_ok-instructions-in-Talk-clause-acted : goal.returns-in_ok-instructions-in-Talk-clause-acted
+returns-in_ok-instructions-in-Talk-clause-acted g c =
     rw c.in-Talk.is
-    (let talk = c.in-Ok.ensures.talks in
+    (let talk = c.in_ok-instructions-in-Talk.ensures.talks in
     let there : c.in-Talk.talk.place < length c.args.seats.now.items =
     rw (as_many g.S.Shared.reads.key g.S.Shared.key c.args.seats.now.items c.args.accounts.now c.requires.keys) (rw c.in-Talk.is at c.requires.within) in
     let so =
     talked_by (IsRefusedAt (g.S.Shared.was c.converse.new.way)) (map g.S.Shared.reads.number c.args.seats.now.items) c.in-Talk.call c.in-Talk.talk.place (g.S.Shared.reads.number c.index_mut-in-Talk.result.now)
     (says_of c.in-Talk.turn, phase_of c.in-Talk.talk.dialogue) (phase_of c.converse.new.dialogue) _ _ (standings_in c.args.talks.now) (standings_in c.keep.new.talks)
-    (g.S.Shared.reads.mine c.index_mut-in-Talk.result.now) (g.S.Shared.reads.mine c.converse.new.way) (orders_in c.in-Ok.instructions) c.converse.new.asker.refused _
+    (g.S.Shared.reads.mine c.index_mut-in-Talk.result.now) (g.S.Shared.reads.mine c.converse.new.way) (orders_in c.in_ok-instructions-in-Talk.instructions) c.converse.new.asker.refused _
     (so_ended _ _ _ _ _ talk.last _ _ _ (spoken_out _ _ g.S.Shared.reads g.S.Shared.was g.S.Shared.calls _ _ _ _ _ talk refl).so_far talk.rests talk.sends)
     (numbered_at g.S.Shared.reads.number c.args.seats.now.items c.in-Talk.talk.place c.index_mut-in-Talk.result.now there c.index_mut-in-Talk.ensures.value)
     (mine_at g.S.Shared.reads.mine c.args.seats.now.items c.in-Talk.talk.place c.index_mut-in-Talk.result.now there c.index_mut-in-Talk.ensures.value)
@@ -104,15 +104,15 @@ returns-in-Recharge-clause-was g c =
     on_ok c.recharge.result _
     (was_at g.S.Shared.was c.args.seats.now.items c.in-Recharge.place c.index_mut.result.now c.recharge.new.seat there c.index_mut.ensures.value c.recharge.ensures.was)
 
-pub returns-in-Ok-clause-was : goal.returns-in-Ok-clause-was
-returns-in-Ok-clause-was g c =
+pub returns-in_ok-instructions-in-Talk-clause-was : goal.returns-in_ok-instructions-in-Talk-clause-was
+returns-in_ok-instructions-in-Talk-clause-was g c =
     let there : c.in-Talk.talk.place < length c.args.seats.now.items =
     rw (as_many g.S.Shared.reads.key g.S.Shared.key c.args.seats.now.items c.args.accounts.now c.requires.keys) (rw c.in-Talk.is at c.requires.within) in
-    was_at g.S.Shared.was c.args.seats.now.items c.in-Talk.talk.place c.index_mut-in-Talk.result.now c.converse.new.way there c.index_mut-in-Talk.ensures.value (spoken_out _ _ g.S.Shared.reads g.S.Shared.was g.S.Shared.calls _ _ _ _ _ c.in-Ok.ensures.talks refl).still
+    was_at g.S.Shared.was c.args.seats.now.items c.in-Talk.talk.place c.index_mut-in-Talk.result.now c.converse.new.way there c.index_mut-in-Talk.ensures.value (spoken_out _ _ g.S.Shared.reads g.S.Shared.was g.S.Shared.calls _ _ _ _ _ c.in_ok-instructions-in-Talk.ensures.talks refl).still
 
-pub returns-in-Err-clause-gate : goal.returns-in-Err-clause-gate
-returns-in-Err-clause-gate g c = λ shut.
-    let cut = c.in-Err.ensures.cut_off in
+pub returns-in_err-instructions-in-Talk-clause-gate : goal.returns-in_err-instructions-in-Talk-clause-gate
+returns-in_err-instructions-in-Talk-clause-gate g c = λ shut.
+    let cut = c.in_err-instructions-in-Talk.ensures.cut_off in
     rw (spoken _ _ g.S.Shared.reads g.S.Shared.was g.S.Shared.calls _ _ cut.gots cut.between cut.are_got refl).same_gate at cut.ends.1
 
 pub returns-in-Recharge-clause-called : goal.returns-in-Recharge-clause-called
@@ -127,10 +127,10 @@ returns-in-Recharge-clause-called g c =
     })
     c.recharge.ensures.called)
 
-pub returns-in-Ok-clause-called : goal.returns-in-Ok-clause-called
-returns-in-Ok-clause-called g c =
+pub returns-in_ok-instructions-in-Talk-clause-called : goal.returns-in_ok-instructions-in-Talk-clause-called
+returns-in_ok-instructions-in-Talk-clause-called g c =
     rw c.in-Talk.is
-    (let talk = c.in-Ok.ensures.talks in
+    (let talk = c.in_ok-instructions-in-Talk.ensures.talks in
     record {
       from = c.index_mut-in-Talk.result.now;
       to = c.converse.new.way;
