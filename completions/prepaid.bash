@@ -21,7 +21,7 @@ _prepaid()
     elif [[ $previous == --into ]]; then
         COMPREPLY=($(compgen -d -- "$current"))
         return
-    elif [[ $previous == --* && $previous != --book && $previous != --calls && $previous != --trace && $previous != --lines && $previous != --clock && $previous != --long && $previous != --differing && $previous != --summary && $previous != --help && $previous != --version ]]; then
+    elif [[ $previous == --* && $previous != --book && $previous != --calls && $previous != --trace && $previous != --lines && $previous != --clock && $previous != --long && $previous != --rows && $previous != --differing && $previous != --summary && $previous != --help && $previous != --version ]]; then
         # a number or a name comes next
         words=''
     else

@@ -56,7 +56,7 @@ pub(crate) fn price() -> CommandWords
         usage: "prepaid price [OPTIONS] --fee <N> --before <N> < FILE",
         ends: help::PRICE,
         options: &[
-            option!(--fee <N> "The fee, in units of money"),
+            option!(--fee <N> "The fee, in the smallest coin"),
             option!(--before <N> "The rate a minute before the switch"),
             option!([--after <N>] "The rate a minute after the switch"),
             option!([--free <N>] "How long the call is free, in units of 100 ms [default: 0]"),
@@ -78,8 +78,8 @@ pub(crate) fn replay() -> CommandWords
         usage: "prepaid replay [OPTIONS] --opening <N> < FILE",
         ends: help::REPLAY,
         options: &[
-            option!(--opening <N> "The opening credit, in units of money"),
-            option!([--limit <N>] "How many entries its history may have"),
+            option!(--opening <N> "The opening credit, in the smallest coin"),
+            option!([--limit <N>] "How many entries its history may have, 3 to 1000000 [1000000]"),
         ],
     }
 }
@@ -96,13 +96,13 @@ pub(crate) fn run() -> CommandWords
         options: &[
             option!([--wanted <N>] "The time that the service asks for [600]"),
             option!([--least <N>] "The least time that it takes [50]"),
-            option!([--tssf <N>] "How long a switch waits for orders [100]"),
+            option!([--tssf <N>] "How long a switch waits for instructions [100]"),
             option!([--tccd <N>] "How long it waits for more time [50]"),
-            option!([--delay <N>] "How long orders take to it [2]"),
+            option!([--delay <N>] "How long instructions take to it [2]"),
             option!([--workers <N>] "How many workers serve it, 1 to 16 [2]"),
             option!([--parts <N>] "Plays it in this number of parts, in less memory"),
             option!([--threads <N>] "How many threads play the parts, 1 to 64 [1]"),
-            option!([--default <WORD>] "Without orders: proceed, release [release]"),
+            option!([--default <WORD>] "Without instructions: proceed, release [release]"),
             option!(--book "Prints the book, in place of the lines"),
             option!(--calls "Prints the calls, in place of the lines"),
             option!(--trace "Prints what was said, in place of the lines"),
