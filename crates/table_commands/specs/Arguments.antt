@@ -1,5 +1,5 @@
 -- What words ask of the program.
-use Rattle.std.specs.Prelude.{◌≡◌, ◌≢◌, ◌⊎◌, Bool, false, List, [], ◌∷◌, Option, Some, None, Result, Ok, Err, ⊤, codes, if◌then◌else◌, option_map}
+use Rattle.std.specs.Prelude.{◌≡◌, ◌≢◌, ◌⊎◌, Bool, false, List, [], ◌∷◌, Option, Some, None, Result, Ok, Err, ⊤, codes, if◌then◌else◌, ok_or, option_map}
 use Rattle.std.specs.Str.{bytes_eq}
 use Rattle.clap.specs.Words.{IsAmong, Row, Text}
 use Rattle.clap.specs.declared.error.kind.ErrorKind.{ErrorKind}
@@ -9,12 +9,12 @@ use Rattle.run_values.specs.Options.{ask_of, live_ask_of}
 use Rattle.price_core.specs.RatesOf.{rates_of}
 use Rattle.table_commands.specs.AuditWords.{audit_in}
 use Rattle.table_commands.specs.CommandLine.{command_in, errors_in}
-use Rattle.table_commands.specs.Options.{price_in, replay_in}
+use Rattle.table_commands.specs.Options.{wished_account, wished_plan}
 use Rattle.table_commands.specs.RunWords.{run_in}
 use Rattle.table_commands.specs.ServeWords.{serve_in}
 use Rattle.table_commands.specs.QuoteWishes.{quote_wish_of}
-use Rattle.table_commands.specs.QuoteWords.{quote_in}
-use Rattle.table_commands.specs.RateWords.{rate_in}
+use Rattle.table_commands.specs.QuoteWords.{wished_quote}
+use Rattle.table_commands.specs.RateWords.{wished_rate}
 use Rattle.rating.specs.SaidOf.{rate_wish_of as rate_wish_of}
 use Rattle.table_commands.specs.Wishes.{Wish, Audits, Prices, Quotes, RatesRecords, Replays, Runs, RunsInto, Serves}
 use Rattle.table_commands.specs.declared.request.Request.{Request}
@@ -22,18 +22,23 @@ use Rattle.table_commands.specs.declared.request.Request.TheVariants as request
 use Rattle.table_commands.specs.declared.words_fault.WordsFault.{WordsFault}
 use Rattle.table_commands.specs.declared.words_fault.WordsFault.TheVariants as fault
 
+-- what a command over a table is asked for, if its options say it
+abbrev pub table_wish_in : Text → List Row → Option Wish
+table_wish_in name options =
+    if bytes_eq name (codes "price") then option_map (λ plan. Prices plan) (wished_plan options)
+    else if bytes_eq name (codes "replay") then wished_account options
+    else if bytes_eq name (codes "audit") then Some (Audits (audit_in options))
+    else if bytes_eq name (codes "quote") then option_map (λ quote. Quotes quote) (wished_quote options)
+    else if bytes_eq name (codes "rate") then option_map (λ rate. RatesRecords rate) (wished_rate options)
+    else None
+
 -- what a command is asked for, or why it isn't
 abbrev pub wish_in : Option (Text × List Row) → Result Wish WordsFault
 wish_in None = Err fault.Arguments
 wish_in (Some command) =
-    if bytes_eq command.0 (codes "price") then price_in command.1
-    else if bytes_eq command.0 (codes "replay") then replay_in command.1
-    else if bytes_eq command.0 (codes "run") then run_in command.1
-    else if bytes_eq command.0 (codes "audit") then Ok (Audits (audit_in command.1))
-    else if bytes_eq command.0 (codes "quote") then quote_in command.1
-    else if bytes_eq command.0 (codes "rate") then rate_in command.1
+    if bytes_eq command.0 (codes "run") then run_in command.1
     else if bytes_eq command.0 (codes "serve") then serve_in command.1
-    else Err fault.Arguments
+    else ok_or (table_wish_in command.0 command.1) fault.Arguments
 
 -- the request is what was wished, or the fault is why nothing is
 abbrev pub IsRequestOf : Result Wish WordsFault → Result Request WordsFault → Type 0

@@ -1,14 +1,12 @@
 -- What the options of `price` and of `replay` say.
-use Rattle.std.specs.Prelude.{ℕ, Bool, true, false, List, Option, Some, None, Result, codes, if◌then◌else◌, nat_le, ok_or, option_and_then, option_map, unwrap_or}
+use Rattle.std.specs.Prelude.{ℕ, Bool, true, false, List, Option, Some, None, codes, if◌then◌else◌, nat_le, option_and_then, option_map, unwrap_or}
 use Rattle.std.specs.Str.{bytes_eq}
 use Rattle.clap.specs.Words.{Row, Text, first_of}
 use Rattle.tariff_core.specs.declared.clock.Clock.{Clock}
 use Rattle.tariff_core.specs.declared.clock.Clock.TheVariants as clock
 use Rattle.table_core.specs.Decimals.{decimal_of}
 use Rattle.price_core.specs.Rates.{Rates}
-use Rattle.table_commands.specs.Wishes.{Wish, Prices, Replays}
-use Rattle.table_commands.specs.declared.words_fault.WordsFault.{WordsFault}
-use Rattle.table_commands.specs.declared.words_fault.WordsFault.TheVariants as fault
+use Rattle.table_commands.specs.Wishes.{Wish, Replays}
 use Rattle.price_core.specs.declared.plan.TheConstants.{MAX_MONEY}
 use Rattle.account_core.specs.declared.limits.TheConstants.{MAX_LIMIT, MIN_LIMIT}
 use Rattle.price_core.specs.declared.plan.TheConstants.{MAX_RATE}
@@ -68,10 +66,6 @@ abbrev pub wished_plan : List Row → Option Rates
 wished_plan options = option_and_then (λ fee. option_and_then (λ before. option_and_then (λ after. plan_of options fee before after)
     (optional_number_in options (codes "after") MAX_RATE)) (wished_number options (codes "before") MAX_RATE)) (wished_number options (codes "fee") MAX_RATE)
 
--- what `price` is asked for
-abbrev pub price_in : List Row → Result Wish WordsFault
-price_in options = ok_or (option_map (λ plan. Prices plan) (wished_plan options)) fault.Arguments
-
 -- the limit of a history: 3 to 1,000,000, which it is where it is left out
 abbrev pub limit_in : List Row → Option ℕ
 limit_in options = option_and_then (λ limit. at_least MIN_LIMIT (unwrap_or limit MAX_LIMIT)) (optional_number_in options (codes "limit") MAX_LIMIT)
@@ -79,7 +73,3 @@ limit_in options = option_and_then (λ limit. at_least MIN_LIMIT (unwrap_or limi
 -- the account of `replay`: its opening credit, at most `MAX_MONEY`, and its limit
 abbrev pub wished_account : List Row → Option Wish
 wished_account options = option_and_then (λ opening. option_map (λ limit. Replays opening limit) (limit_in options)) (wished_number options (codes "opening") MAX_MONEY)
-
--- what `replay` is asked for
-abbrev pub replay_in : List Row → Result Wish WordsFault
-replay_in options = ok_or (wished_account options) fault.Arguments

@@ -1,5 +1,5 @@
 -- What the options of `quote` say.
-use Rattle.std.specs.Prelude.{ℕ, List, Option, Some, None, Result, codes, if◌then◌else◌, ok_or, option_and_then, option_map}
+use Rattle.std.specs.Prelude.{ℕ, List, Option, Some, None, codes, if◌then◌else◌, option_and_then, option_map}
 use Rattle.std.specs.Option.{option_or}
 use Rattle.clap.specs.Words.{Row, Text, first_of}
 use Rattle.cap_values.specs.Numbers.{is_number}
@@ -9,9 +9,6 @@ use Rattle.price_core.specs.declared.plan.TheConstants.{MAX_MONEY}
 use Rattle.price_core.specs.declared.times.TheConstants.{DAY, MAX_MOMENT}
 use Rattle.table_commands.specs.Options.{clock_by, has_flag, optional_number_in}
 use Rattle.table_commands.specs.QuoteWishes.{QuoteWish}
-use Rattle.table_commands.specs.Wishes.{Wish, Quotes}
-use Rattle.table_commands.specs.declared.words_fault.WordsFault.{WordsFault}
-use Rattle.table_commands.specs.declared.words_fault.WordsFault.TheVariants as fault
 
 -- the digits of a number, 1 to 15 of them
 abbrev pub called_of : Text → Option (List ℕ)
@@ -38,7 +35,3 @@ quote_asked_at options called at = option_and_then (λ talk.
 -- what the options ask for
 unfoldable pub wished_quote : List Row → Option QuoteWish
 wished_quote options = option_and_then (λ called. option_and_then (λ at. quote_asked_at options called at) (wished_moment options)) (wished_called options)
-
--- what `quote` is asked for
-abbrev pub quote_in : List Row → Result Wish WordsFault
-quote_in options = ok_or (option_map (λ quote. Quotes quote) (wished_quote options)) fault.Arguments

@@ -1,11 +1,8 @@
 -- What the options of `rate` say.
-use Rattle.std.specs.Prelude.{List, Option, Some, None, Result, codes, ok_or, option_map, unwrap_or}
+use Rattle.std.specs.Prelude.{List, Option, Some, None, codes, option_map, unwrap_or}
 use Rattle.clap.specs.Words.{Row, Text, first_of}
 use Rattle.rating.specs.Asks.{NamesWish, RateWish, TimesWish, ByEnd, BySplit, ByTime, ByUsualNames}
 use Rattle.table_commands.specs.Options.{has_flag}
-use Rattle.table_commands.specs.Wishes.{Wish, RatesRecords}
-use Rattle.table_commands.specs.declared.words_fault.WordsFault.{WordsFault}
-use Rattle.table_commands.specs.declared.words_fault.WordsFault.TheVariants as fault
 
 -- by which columns the times of a call are found: those of their usual names where no option says otherwise, and only in one way where one does
 abbrev pub times_by : Option Text → Option Text → Option Text → Option Text → Option TimesWish
@@ -32,7 +29,3 @@ names_in options times = record {
 -- what the options ask for
 unfoldable pub wished_rate : List Row → Option RateWish
 wished_rate options = option_map (λ times. record { names = names_in options times; differing = has_flag options (codes "differing"); summary = has_flag options (codes "summary") }) (wished_times options)
-
--- what `rate` is asked for
-abbrev pub rate_in : List Row → Result Wish WordsFault
-rate_in options = ok_or (option_map (λ rate. RatesRecords rate) (wished_rate options)) fault.Arguments

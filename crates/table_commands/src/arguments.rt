@@ -1,16 +1,17 @@
 //! The words of a command line.
 
-ghost use Rattle.std.specs.Prelude.{◌≡◌, Some, map, IfOk};
-ghost use Rattle.table_commands.specs.Arguments.{IsRead, IsClapRefusal, IsRequestOf, explains, wish_in};
+ghost use Rattle.std.specs.Prelude.{◌≡◌, Some, map, ok_or, IfOk};
+ghost use Rattle.table_commands.specs.Arguments.{IsRead, IsClapRefusal, IsRequestOf, explains, table_wish_in, wish_in};
+ghost use Rattle.table_commands.specs.declared.words_fault.WordsFault.TheVariants as fault;
 ghost use Rattle.table_commands.specs.CommandLine.{command_in, errors_in};
 ghost use Rattle.clap.specs.Words.{FailsBy, found_of, kind_of, rows_of, subcommand_rows_of};
 
 use crate::audit_words::audit_ask;
 use crate::command_line::program_command;
 use crate::explanations::Said;
-use crate::options::{price_request, replay_request};
-use crate::quote_words::quote_request;
-use crate::rate_words::rate_request;
+use crate::options::{price_plan, replay_opening};
+use crate::quote_words::quote_ask;
+use crate::rate_words::rate_ask;
 use crate::request::Request;
 use crate::run_words::run_request;
 use crate::serve_words::serve_request;
@@ -95,15 +96,28 @@ fn request_of<'a>(name: &str, options: &ArgMatches<'a>) -> Result<Request<'a>, W
     ensures { IsRequestOf (wish_in (Some (name.now, rows_of (found_of options.now)))) result }
 {
     match name {
-        "price" => price_request(options),
-        "replay" => replay_request(options),
         "run" => run_request(options),
-        "audit" => Ok(Request::Audit(audit_ask(options))),
-        "quote" => quote_request(options),
-        "rate" => rate_request(options),
         "serve" => serve_request(options),
-        _ => Err(WordsFault::Arguments),
+        _ => table_request(name, options).ok_or(WordsFault::Arguments),
     }
+}
+
+/// What a command over a table asks for; none where its options don't say it, or there is no such
+/// command.
+fn table_request<'a>(name: &str, options: &ArgMatches<'a>) -> Option<Request<'a>>
+    ensures { IsRequestOf
+        (ok_or (table_wish_in name.now (rows_of (found_of options.now))) fault.Arguments)
+        (ok_or result fault.Arguments) }
+{
+    let request = match name {
+        "price" => Request::Price(price_plan(options)?),
+        "replay" => Request::Replay(replay_opening(options)?),
+        "audit" => Request::Audit(audit_ask(options)),
+        "quote" => Request::Quote(quote_ask(options)?),
+        "rate" => Request::Rate(rate_ask(options)?),
+        _ => return None,
+    };
+    Some(request)
 }
 
 /// What is answered where `clap` gives no matches: its help or the version where that was asked

@@ -1,32 +1,20 @@
 //! The options of `price` and of `replay`, and what those of all commands are read by.
 
 ghost use Rattle.std.specs.Prelude.{◌≡◌, ◌≤◌, option_map, unwrap_or, IfSome};
-ghost use Rattle.table_commands.specs.Options.{clock_by, has_flag, optional_number_in, plan_of, price_in, replay_in, wished_account, wished_number, wished_plan};
-ghost use Rattle.table_commands.specs.Arguments.{IsRequestOf};
+ghost use Rattle.table_commands.specs.Options.{clock_by, has_flag, optional_number_in, plan_of, wished_account, wished_number, wished_plan};
 ghost use Rattle.table_commands.specs.Wishes.{Replays};
 ghost use Rattle.clap.specs.Words.{first_of, found_of, rows_of};
 ghost use Rattle.price_core.specs.RatesOf.{rates_of};
 
-use crate::request::{Opening, Request};
-use crate::words_fault::WordsFault;
+use crate::request::Opening;
 use account_core::{MAX_LIMIT, MIN_LIMIT};
 use clap::ArgMatches;
 use price_core::{DAY, MAX_MONEY, MAX_RATE, Plan};
 use table_core::decimal;
 use tariff_core::Clock;
 
-/// What `price` is asked for.
-pub(crate) fn price_request<'a>(options: &ArgMatches<'a>) -> Result<Request<'a>, WordsFault>
-    ensures { IsRequestOf (price_in (rows_of (found_of options.now))) result }
-{
-    match price_plan(options) {
-        Some(plan) => Ok(Request::Price(plan)),
-        None => Err(WordsFault::Arguments),
-    }
-}
-
 /// The plan that the options of `price` give.
-fn price_plan(options: &ArgMatches<'_>) -> Option<Plan>
+pub(crate) fn price_plan(options: &ArgMatches<'_>) -> Option<Plan>
     ensures { option_map rates_of result ≡ wished_plan (rows_of (found_of options.now)) }
 {
     let fee = number(options, "fee", MAX_RATE)?;
@@ -49,18 +37,8 @@ fn with_units(options: &ArgMatches<'_>, plan: Plan) -> Option<Plan>
         .ok()
 }
 
-/// What `replay` is asked for.
-pub(crate) fn replay_request<'a>(options: &ArgMatches<'a>) -> Result<Request<'a>, WordsFault>
-    ensures { IsRequestOf (replay_in (rows_of (found_of options.now))) result }
-{
-    match replay_opening(options) {
-        Some(account) => Ok(Request::Replay(account)),
-        None => Err(WordsFault::Arguments),
-    }
-}
-
 /// The account that the options of `replay` open.
-fn replay_opening(options: &ArgMatches<'_>) -> Option<Opening>
+pub(crate) fn replay_opening(options: &ArgMatches<'_>) -> Option<Opening>
     ensures { option_map (λ account. Replays account.opening account.limit) result
         ≡ wished_account (rows_of (found_of options.now)) }
 {

@@ -1,33 +1,21 @@
 //! The options of `quote`.
 
 ghost use Rattle.std.specs.Prelude.{◌≡◌, ◌≤◌, option_map, IfSome};
-ghost use Rattle.table_commands.specs.Arguments.{IsRequestOf};
 ghost use Rattle.table_commands.specs.QuoteWishes.{quote_wish_of};
-ghost use Rattle.table_commands.specs.QuoteWords.{called_of, moment_asked, quote_in, wished_quote};
+ghost use Rattle.table_commands.specs.QuoteWords.{called_of, moment_asked, wished_quote};
 ghost use Rattle.cap_values.specs.NumberDigits.{digits_of_number};
 ghost use Rattle.clap.specs.Words.{found_of, rows_of};
 
 use crate::options::{clock_by, has_flag, option_text, optional_number};
-use crate::request::{QuoteAsk, Request};
-use crate::words_fault::WordsFault;
+use crate::request::QuoteAsk;
 use cap_values::Number;
 use clap::ArgMatches;
 use price_core::{DAY, MAX_MOMENT, MAX_MONEY};
 use tariff_core::{moment, time_of_day};
 
-/// What `quote` is asked for.
-pub(crate) fn quote_request<'a>(options: &ArgMatches<'a>) -> Result<Request<'a>, WordsFault>
-    ensures { IsRequestOf (quote_in (rows_of (found_of options.now))) result }
-{
-    match quote_ask(options) {
-        Some(ask) => Ok(Request::Quote(ask)),
-        None => Err(WordsFault::Arguments),
-    }
-}
-
 /// What the options ask for.
 #[tactic(auto, unfolding(crate::specs::QuoteWords::wished_quote))]
-fn quote_ask(options: &ArgMatches<'_>) -> Option<QuoteAsk>
+pub(crate) fn quote_ask(options: &ArgMatches<'_>) -> Option<QuoteAsk>
     ensures { option_map quote_wish_of result ≡ wished_quote (rows_of (found_of options.now)) }
 {
     let called = called(option_text(options, "called")?)?;

@@ -1,31 +1,18 @@
 //! The options of `rate`.
 
 ghost use Rattle.std.specs.Prelude.{◌≡◌, option_map};
-ghost use Rattle.table_commands.specs.Arguments.{IsRequestOf};
-ghost use Rattle.table_commands.specs.RateWords.{rate_in, wished_rate, wished_times};
+ghost use Rattle.table_commands.specs.RateWords.{wished_rate, wished_times};
 ghost use Rattle.clap.specs.Words.{found_of, rows_of};
 ghost use Rattle.rating.specs.SaidOf.{times_of, rate_wish_of};
 
 use crate::options::{has_flag, option_text};
-use crate::request::Request;
-use crate::words_fault::WordsFault;
 use clap::ArgMatches;
 use rating::{Names, RateAsk, TimeNames};
-
-/// What `rate` is asked for.
-pub(crate) fn rate_request<'a>(options: &ArgMatches<'a>) -> Result<Request<'a>, WordsFault>
-    ensures { IsRequestOf (rate_in (rows_of (found_of options.now))) result }
-{
-    match rate_ask(options) {
-        Some(ask) => Ok(Request::Rate(ask)),
-        None => Err(WordsFault::Arguments),
-    }
-}
 
 /// What the options ask for; none where they name the times of a call in two ways, or only one of
 /// the columns before the tariff switch and after it.
 #[tactic(auto, unfolding(crate::specs::RateWords::wished_rate))]
-fn rate_ask<'a>(options: &ArgMatches<'a>) -> Option<RateAsk<'a>>
+pub(crate) fn rate_ask<'a>(options: &ArgMatches<'a>) -> Option<RateAsk<'a>>
     ensures { option_map rate_wish_of result ≡ wished_rate (rows_of (found_of options.now)) }
 {
     let times = named_times(options)?;
