@@ -18,7 +18,7 @@ use book_texts::Audit;
 use run_command::stranger_calls;
 use run_outputs::{UnplacedEvent, strangers_line, unplaced_line};
 use run_values::RunOptions;
-use std::alloc::{AllocError, Global};
+use std::alloc::Global;
 use std::io::Error;
 use table_commands::{Ending, Fault};
 
@@ -95,20 +95,13 @@ pub(crate) fn files_ending(alloc: Global, explains: bool, error: &Error) -> Endi
 {
     let fault = fault_of_files(error);
     let more = match fault {
-        Fault::Into if explains => said_of_files(alloc, error).ok(),
+        Fault::Into if explains => format!(in alloc; "the files: {error}\n").ok(),
         _ => None,
     };
     Ending {
         answer: Err(fault),
         more,
     }
-}
-
-/// Why files couldn't be written.
-fn said_of_files(alloc: Global, error: &Error) -> Result<String, AllocError> {
-    let mut text = String::new(alloc);
-    writeln!(text, "the files: {error}")?;
-    Ok(text)
 }
 
 /// What is said of the calls of an input that no subscriber makes, and of the events that had no

@@ -4,13 +4,13 @@ ghost use Rattle.std.specs.Prelude.{◌≡◌, option_map};
 ghost use Rattle.std.specs.Io.KnownBytes.{Keeps};
 ghost use Rattle.run_values.specs.Logs.{log_wish_of};
 ghost use Rattle.run_values.specs.Options.{live_ask_of};
-ghost use Rattle.prepaid.specs.Answers.{IsServeEnd, IsServedInput};
+ghost use Rattle.prepaid.specs.Answers.{IsServedInput};
 
 use crate::faults::fault_of_serve;
-use live_answers::{ServeError, serve_input};
+use live_answers::serve_input;
 use run_values::{LiveOptions, LogAsk};
 use std::fs::File;
-use std::io::{BufRead, Error, Write};
+use std::io::{BufRead, Write};
 use std::rt::Files;
 use std::sync::Wait;
 use std::thread::Threads;
@@ -37,21 +37,8 @@ where
     ensures silent { result ≡ 1
         → Keeps (O.contents output.old.inner) (O.contents output.new.inner) }
 {
-    let ended = serve_input(rt, rt.alloc(), options, log, input, output);
-    report_served(faults, explains, ended, output.failed)
-}
-
-/// Reports why an input wasn't served to its end, and gives the status.
-fn report_served<E: Write>(
-    faults: &mut E,
-    explains: bool,
-    ended: Result<(), ServeError>,
-    failed: Option<Error>,
-) -> u8
-    ensures { IsServeEnd explains ended result (E.contents faults.old) (E.contents faults.new) }
-{
-    match ended {
+    match serve_input(rt, rt.alloc(), options, log, input, output) {
         Ok(()) => 0,
-        Err(why) => report_end(faults, explains, fault_of_serve(why), failed),
+        Err(why) => report_end(faults, explains, fault_of_serve(why), output.failed),
     }
 }

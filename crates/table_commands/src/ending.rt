@@ -61,7 +61,9 @@ impl<A: Drop> Ending<A> {
         ensures length { IfSome result.more (λ _. why ≡ fault.TooLong) }
     {
         let more = match why {
-            Fault::TooLong if explains => said_of_length(alloc).ok(),
+            Fault::TooLong if explains => format!(in alloc;
+                "at most {MAX_INPUT} bytes; docs/SCALING.md has larger loads\n"
+            ).ok(),
             _ => None,
         };
         Ending {
@@ -116,11 +118,6 @@ fn full_lines(alloc: Global, text: &str) -> Result<String, AllocError> {
         }
     }
     said.into_text()
-}
-
-/// How long an input may be.
-fn said_of_length(alloc: Global) -> Result<String, AllocError> {
-    format!(in alloc; "at most {MAX_INPUT} bytes; docs/SCALING.md has larger loads\n")
 }
 
 /// What is said of a fault over an input; nothing where memory runs out.

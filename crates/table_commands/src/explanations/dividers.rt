@@ -59,35 +59,21 @@ impl Dividers {
     }
 }
 
-/// Adds what is said of the lines that divide an input, of which so many are wanted.
+/// Adds how many lines divide an input and which, how many are wanted, and the line that nearly is
+/// one.
 fn push_dividers(said: &mut Said, dividers: Dividers, wanted: u32) {
-    let told = dividers.found.min(MOST_NUMBERS);
-    push_found(said, dividers.found);
-    push_numbers(said, &dividers.numbers[..told]);
-    push_wanted(said, wanted, dividers.near);
-}
-
-/// Adds how many lines divide an input.
-fn push_found(said: &mut Said, found: usize) {
+    let found = dividers.found;
     let lines = if found == 1 {
         "line that is"
     } else {
         "lines that are"
     };
     write!(said, "{found} {lines} %% alone");
-}
-
-/// Adds the numbers of lines.
-fn push_numbers(said: &mut Said, numbers: &[u64]) {
-    for line in numbers {
+    for line in &dividers.numbers[..found.min(MOST_NUMBERS)] {
         write!(said, ", in line {line}");
     }
-}
-
-/// Adds how many are wanted, and the line that nearly is one.
-fn push_wanted(said: &mut Said, wanted: u32, near: Option<u64>) {
     writeln!(said, "; wanted {wanted}");
-    if let Some(line) = near {
+    if let Some(line) = dividers.near {
         writeln!(said, "line {line} is %% with a blank at it");
     }
 }
