@@ -2,8 +2,8 @@
 
 ghost use Rattle.std.specs.Prelude.{◌≡◌, ◌≤◌, IfOk, true};
 ghost use Rattle.std.specs.Result.{result_map_both};
-ghost use Rattle.run_texts.specs.Messages.{message_call_in, charging_report_in, ended_message_in, event_report_in, initial_in, interval_in, leg_in, message_in, report_without_switch, recharge_message_in, speech_in, speech_of, report_with_switch};
-ghost use Rattle.run_texts.specs.MessageViews.{leg_number_of, view_of};
+ghost use Rattle.run_texts.specs.Messages.{message_call_in, charging_report_in, ended_message_in, event_report_in, initial_in, message_in, report_without_switch, recharge_message_in, speech_in, speech_of, report_with_switch};
+ghost use Rattle.run_texts.specs.MessageViews.{view_of};
 ghost use Rattle.csv.specs.Records.{fields_of};
 
 use crate::fields::{account, amount, moment_field, party, until};
@@ -84,20 +84,14 @@ fn read_event_report(row: &ByteRecord, event: Event, mode: Mode) -> Result<Body,
         ≡ event_report_in (fields_of row.now) event mode }
 {
     let call = read_call(row)?;
-    let leg = read_leg(row)?;
+    let leg = match optional(row, 6, 2)? {
+        None => None,
+        Some(1) => Some(Leg::One),
+        Some(2) => Some(Leg::Two),
+        Some(_) => return Err(RowKind::Number),
+    };
     let msg = SsfMsg::EventReport { event, leg, mode };
     when_blank(is_blank(row, 8), Body::Ssf { call, msg })
-}
-
-fn read_leg(row: &ByteRecord) -> Result<Option<Leg>, RowKind>
-    ensures { result_map_both leg_number_of (λ kind. kind) result ≡ leg_in (fields_of row.now) }
-{
-    match optional(row, 6, 2)? {
-        None => Ok(None),
-        Some(1) => Ok(Some(Leg::One)),
-        Some(2) => Ok(Some(Leg::Two)),
-        Some(_) => Err(RowKind::Number),
-    }
 }
 
 fn read_charging_report(row: &ByteRecord, active: bool, switched: bool) -> Result<Body, RowKind>
@@ -125,19 +119,12 @@ fn read_switch(row: &ByteRecord) -> Result<TimeInfo, RowKind>
     ensures { result ≡ report_with_switch (fields_of row.now) }
 {
     let since = number(row, 7, u64::from(DAY))? as u32;
-    let interval = read_interval(row)?;
+    let interval = match optional(row, 8, u64::from(DAY))? {
+        Some(0) => return Err(RowKind::Number),
+        Some(interval) => Some(interval as u32),
+        None => None,
+    };
     Ok(TimeInfo::Switch { since, interval })
-}
-
-/// The time before the switch, 1 to a day, where there is any.
-fn read_interval(row: &ByteRecord) -> Result<Option<u32>, RowKind>
-    ensures { result ≡ interval_in (fields_of row.now) }
-{
-    match optional(row, 8, u64::from(DAY))? {
-        Some(0) => Err(RowKind::Number),
-        Some(interval) => Ok(Some(interval as u32)),
-        None => Ok(None),
-    }
 }
 
 fn read_ended(row: &ByteRecord) -> Result<Body, RowKind>

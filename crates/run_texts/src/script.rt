@@ -2,7 +2,7 @@
 
 ghost use Rattle.std.specs.Prelude.{◌≡◌, ◌≤◌, All, IfOk, IfSome, OnOk, map, true};
 ghost use Rattle.std.specs.Result.{result_map_both};
-ghost use Rattle.run_texts.specs.Scripts.{judged_by, last_row_moment, script_row_at, script_of, call_in, disconnect_in, event_row_in, happens_in, leg_of, read_in, recharge_row_in, start_row_in, row_word_in};
+ghost use Rattle.run_texts.specs.Scripts.{last_row_moment, script_row_at, script_of, call_in, disconnect_in, event_row_in, happens_in, read_in, recharge_row_in, start_row_in, row_word_in};
 ghost use Rattle.run_texts.specs.Starts.{HasCalls, NotesStart};
 ghost use Rattle.run_texts.specs.Happenings.{is_in_time};
 ghost use Rattle.run_texts.specs.Views.{rows_are_in_order, row_data, happens_of};
@@ -125,18 +125,7 @@ fn judge(
     if row.at < last {
         return Err(RowKind::Order);
     }
-    check(directory, calls, row.what)?;
-    Ok(row)
-}
-
-/// Refuses a call that starts again, an event of a call that hasn't started, and a recharge of no
-/// account.
-fn check(directory: &Directory, calls: &BTreeSet<u64>, what: Happening) -> Result<(), RowKind>
-    ensures { (earlier : _) (row : _) → HasCalls calls.now earlier
-        → result_map_both (λ done. row) (λ kind. kind) result
-        ≡ judged_by directory.now.accounts earlier row (happens_of what) }
-{
-    match what {
+    match row.what {
         Happening::Start { call, .. } => {
             if calls.contains(&call) {
                 return Err(RowKind::Repeated);
@@ -153,7 +142,7 @@ fn check(directory: &Directory, calls: &BTreeSet<u64>, what: Happening) -> Resul
             }
         }
     }
-    Ok(())
+    Ok(row)
 }
 
 /// Puts a call that starts into the set.
@@ -269,20 +258,14 @@ fn read_disconnect(row: &ByteRecord) -> Result<Happening, RowKind>
     ensures in_time { IfOk result (λ what. is_in_time (happens_of what) ≡ true) }
 {
     let call = read_call(row)?;
-    let leg = number(row, 3, 2)?;
-    let event = disconnect(leg)?;
+    let leg = match number(row, 3, 2)? {
+        1 => Leg::One,
+        2 => Leg::Two,
+        _ => return Err(RowKind::Number),
+    };
+    let event = BcsmEvent::Disconnect(leg);
     let blank = is_blank(row, 4) && is_blank(row, 5);
     when_blank(blank, Happening::Meets { call, event })
-}
-
-fn disconnect(leg: u64) -> Result<BcsmEvent, RowKind>
-    ensures { result ≡ leg_of leg }
-{
-    match leg {
-        1 => Ok(BcsmEvent::Disconnect(Leg::One)),
-        2 => Ok(BcsmEvent::Disconnect(Leg::Two)),
-        _ => Err(RowKind::Number),
-    }
 }
 
 fn read_recharge(row: &ByteRecord) -> Result<Happening, RowKind>

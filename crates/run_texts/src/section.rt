@@ -8,7 +8,7 @@ ghost use Rattle.run_texts.specs.FirstSections.{Divides, InputFaultMayAlwaysCome
 use crate::InputFault;
 use crate::input::is_divider;
 use std::alloc::Global;
-use std::io::{Error, ErrorKind, Read};
+use std::io::{ErrorKind, Read};
 
 /// The most bytes of a section that is read as it comes, its divider counted.
 pub const MAX_SECTION: usize = 16_777_216;
@@ -76,19 +76,12 @@ fn read_byte<I: Read>(input: &mut I) -> Result<Option<u8>, InputFault>
         match input.read(&mut byte) {
             Ok(0) => return Ok(None),
             Ok(_) => return Ok(Some(byte[0])),
-            Err(error) if error.kind() == ErrorKind::Interrupted => {}
-            Err(error) => return Err(fault_of(&error)),
+            Err(error) => match error.kind() {
+                ErrorKind::Interrupted => {}
+                ErrorKind::OutOfMemory => return Err(InputFault::OutOfMemory),
+                _ => return Err(InputFault::Device),
+            },
         }
     }
     Err(InputFault::Device)
-}
-
-/// The fault of an input that failed.
-fn fault_of(error: &Error) -> InputFault
-    ensures { InputFaultMayAlwaysCome result }
-{
-    match error.kind() {
-        ErrorKind::OutOfMemory => InputFault::OutOfMemory,
-        _ => InputFault::Device,
-    }
 }

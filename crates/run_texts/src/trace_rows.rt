@@ -1,10 +1,9 @@
 //! The rows of a post and of its answer.
 
 ghost use Rattle.std.specs.Prelude.{◌≡◌, ◌++◌, Some, map, OnOk, string_bytes};
-ghost use Rattle.run_texts.specs.Said.{message_said, operation_said, post_said, refused_said, report_said, stray_said, event_word, leg_number, mode_word, release_word, state_word};
+ghost use Rattle.run_texts.specs.Said.{message_said, operation_said, post_said, report_said, event_word, leg_number, mode_word};
 ghost use Rattle.run_texts.specs.Tables.{answer_rows, call_of_post, trace_row, said_text, sender_of, service_rows};
 
-use account_core::AccountFault;
 use cap_values::{Event, Leg, Mode, ScfOp, SsfMsg};
 use price_core::TimeInfo;
 use run_values::{Answer, Body};
@@ -74,7 +73,7 @@ fn write_report(text: &mut String, active: bool, info: TimeInfo) -> Result<(), A
     ensures { OnOk result (string_bytes text.new ≡ string_bytes text.old
         ++ said_text (report_said active info)) }
 {
-    let state = state_word(active);
+    let state = if active { "active" } else { "inactive" };
     match info {
         TimeInfo::NoSwitch { t } => writeln!(text, "ApplyChargingReport,{state},n,{t},"),
         TimeInfo::Switch { since, interval } => {
@@ -92,8 +91,13 @@ pub(crate) fn write_answer(text: &mut String, head: &str, answer: &Answer) -> Re
 {
     let operations = operations_of(answer.instructions);
     write_operations(text, head, operations.as_slice())?;
-    write_stray(text, head, answer.stray)?;
-    write_refused(text, head, answer.refused)
+    if answer.stray {
+        writeln!(text, "{head},service,stray,,,,")?;
+    }
+    if let Some(fault) = answer.refused {
+        writeln!(text, "{head},service,refused,{fault},,,")?;
+    }
+    Ok(())
 }
 
 /// Adds the rows of operations, in order.
@@ -108,33 +112,6 @@ fn write_operations(text: &mut String, head: &str, ops: &[ScfOp]) -> Result<(), 
     Ok(())
 }
 
-/// Adds the row of a post that had no place.
-fn write_stray(text: &mut String, head: &str, stray: bool) -> Result<(), AllocError>
-    ensures { OnOk result (string_bytes text.new ≡ string_bytes text.old
-        ++ service_rows head.now (stray_said stray)) }
-{
-    if stray {
-        writeln!(text, "{head},service,stray,,,,")
-    } else {
-        Ok(())
-    }
-}
-
-/// Adds the row of the fault that an ask of an account got, if one did.
-fn write_refused(
-    text: &mut String,
-    head: &str,
-    refused: Option<AccountFault>,
-) -> Result<(), AllocError>
-    ensures { OnOk result (string_bytes text.new ≡ string_bytes text.old
-        ++ service_rows head.now (refused_said refused)) }
-{
-    match refused {
-        Some(fault) => writeln!(text, "{head},service,refused,{fault},,,"),
-        None => Ok(()),
-    }
-}
-
 /// Adds what an operation says, to the end of its row.
 fn write_operation(text: &mut String, op: &ScfOp) -> Result<(), AllocError>
     ensures { OnOk result (string_bytes text.new ≡ string_bytes text.old
@@ -144,7 +121,7 @@ fn write_operation(text: &mut String, op: &ScfOp) -> Result<(), AllocError>
         ScfOp::RequestReport(_) => writeln!(text, "RequestReportBCSMEvent,,,,"),
         ScfOp::ApplyCharging(charge) => {
             let (period, switch) = (charge.period, Field::short(charge.switch));
-            let release = release_word(charge.release);
+            let release = if charge.release { "release" } else { "" };
             writeln!(text, "ApplyCharging,{period},{switch},{release},")
         }
         ScfOp::Continue => writeln!(text, "Continue,,,,"),
@@ -189,18 +166,4 @@ fn leg_number(leg: Option<Leg>) -> Field
         Some(leg) => Field(Some(u64::from(leg.code()))),
         None => Field(None),
     }
-}
-
-/// The word for whether a call goes on.
-fn state_word(active: bool) -> &'static str
-    ensures { result.now ≡ state_word active }
-{
-    if active { "active" } else { "inactive" }
-}
-
-/// The word for whether a call is released at the end of its period, or none.
-fn release_word(release: bool) -> &'static str
-    ensures { result.now ≡ release_word release }
-{
-    if release { "release" } else { "" }
 }
