@@ -3,7 +3,7 @@
 ghost use Rattle.std.specs.Prelude.{◌≡◌, ◌++◌, ℕ, List, IfOk, IfSome, Ok, OnOk, map, string_bytes};
 ghost use Rattle.std.specs.Result.{result_map_both};
 ghost use Rattle.account_core.specs.Entries.{entry_data};
-ghost use Rattle.book_texts.specs.Audits.{AreVerdicts, GivesAudit, IsSummedUp, audited, verdict_lines, yes_or_no};
+ghost use Rattle.book_texts.specs.Audits.{AreVerdicts, GivesAudit, IsSummedUp, audited, verdict_lines};
 ghost use Rattle.book_texts.specs.BookRows.{Enters, columns_in, row_said_in};
 ghost use Rattle.book_texts.specs.Books.{Books, books_of, entered_in_books, book_row_at, account_so_far};
 ghost use Rattle.book_texts.specs.Checks.{AreChecks, AreNoted, Comes, GivesChecks, HaveChecks, audited_by, verdicts_of};
@@ -129,18 +129,12 @@ fn write_verdict(
     ensures { OnOk result (string_bytes lines.new
         ≡ string_bytes lines.old ++ verdict_lines shown (account, wrong)) }
 {
-    let word = word(wrong.is_none());
+    let word = if wrong.is_none() { "yes" } else { "no" };
     writeln!(lines, "account {account} {word}")?;
     match wrong {
         Some(wrong) if shown => write_wrong(lines, account, &wrong),
         _ => Ok(()),
     }
-}
-
-fn word(legal: bool) -> &'static str
-    ensures { result.now ≡ yes_or_no legal }
-{
-    if legal { "yes" } else { "no" }
 }
 
 /// What was checked of a table of books.

@@ -5,7 +5,7 @@ ghost use Rattle.std.specs.Result.{result_map_both};
 ghost use Rattle.csv.specs.Records.{fields_of};
 ghost use Rattle.table_core.specs.Fields.{field_in};
 ghost use Rattle.book_texts.specs.Columns.{answer_at};
-ghost use Rattle.book_texts.specs.BookRows.{book_account_in, columns_in, entry_in, is_no_answer, is_opening_blank, opening_in, reply_place, row_said_in};
+ghost use Rattle.book_texts.specs.BookRows.{book_account_in, columns_in, entry_in, is_no_answer, opening_in, reply_place, row_said_in};
 ghost use Rattle.book_texts.specs.SaidOf.{IsAffordable, row_said_of};
 
 use crate::operation::{is_money_blank, is_op_blank, read_op, read_until};
@@ -75,7 +75,10 @@ fn read_opening(row: &ByteRecord, version: Version) -> Result<BookRow, RowKind>
         opening,
         until,
     };
-    when_blank(is_opening_blank(row, version), row_said)
+    let blank = is_blank(row, SEAT)
+        && is_money_blank(row, OP, version)
+        && has_no_answer(row, reply_place(version));
+    when_blank(blank, row_said)
 }
 
 #[tactic(auto, unfolding(crate::specs::BookRows::entry_in))]
@@ -101,15 +104,6 @@ fn read_account(row: &ByteRecord) -> Result<u32, RowKind>
 {
     let account = number(row, ACCOUNT, u64::from(u32::MAX))?;
     Ok(account as u32)
-}
-
-/// Whether all but the account, the word, the credit and its last moment is empty.
-fn is_opening_blank(row: &ByteRecord, version: Version) -> bool
-    ensures { result ≡ is_opening_blank (columns_in version (fields_of row.now)) }
-{
-    is_blank(row, SEAT)
-        && is_money_blank(row, OP, version)
-        && has_no_answer(row, reply_place(version))
 }
 
 /// Whether a reply is empty whose columns begin at `at`.

@@ -4,7 +4,7 @@ ghost use Rattle.std.specs.Prelude.{◌≡◌, ◌++◌, [], OnOk, string_bytes}
 ghost use Rattle.std.specs.Fmt.{decimal};
 ghost use Rattle.account_core.specs.Asked.{Reserves};
 ghost use Rattle.account_core.specs.Entries.{asked_of};
-ghost use Rattle.book_texts.specs.Columns.{reply_fields, answer_text, in_fourth, no_operation, opening_columns, operation_of, operation_text, settle_of, steps_columns};
+ghost use Rattle.book_texts.specs.Columns.{reply_fields, answer_text, no_operation, opening_columns, operation_of, operation_text, settle_of, steps_columns};
 ghost use Rattle.price_core.specs.RatesOf.{rates_of};
 ghost use Rattle.table_core.specs.Fields.{number_or_empty};
 
@@ -87,6 +87,8 @@ fn write_reserve(
         fee,
         before,
         free,
+        first,
+        step,
         ..
     } = plan;
     let after = Field(plan.after);
@@ -94,19 +96,8 @@ fn write_reserve(
         text,
         "reserve,{call},{fee},{before},{after},{wanted},{least},{free},{at},"
     )?;
-    write_steps(text, version, plan)
-}
-
-/// Adds x8 and x9 of a reserve, where the version has them.
-fn write_steps(text: &mut String, version: Version, plan: Plan) -> Result<(), AllocError>
-    ensures { OnOk result (string_bytes text.new ≡ string_bytes text.old
-        ++ steps_columns version (in_fourth version plan.first) (in_fourth version plan.step)) }
-{
     match version {
-        Version::Four => {
-            let (first, step) = (plan.first, plan.step);
-            write!(text, "{first},{step},")
-        }
+        Version::Four => write!(text, "{first},{step},"),
         _ => Ok(()),
     }
 }

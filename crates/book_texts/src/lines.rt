@@ -2,7 +2,7 @@
 
 ghost use Rattle.std.specs.Prelude.{◌≡◌, ◌++◌, [], OnOk, IfOk, List, string_bytes, map};
 ghost use Rattle.std.specs.List.{flat_map};
-ghost use Rattle.book_texts.specs.RunTexts.{AreLinesOf, AreOrdered, IsRunText, account_text, call_line, fate_word, call_line_of};
+ghost use Rattle.book_texts.specs.RunTexts.{AreLinesOf, AreOrdered, IsRunText, account_text, call_line, call_line_of};
 ghost use Rattle.account_core.specs.Closed.{Closed};
 ghost use Rattle.book_texts.specs.declared.lines.CallLine.{CallLine};
 
@@ -141,19 +141,12 @@ fn write_call(text: &mut String, line: &CallLine) -> Result<(), AllocError>
     ensures { OnOk result (string_bytes text.new ≡ string_bytes text.old ++ call_line line.now) }
 {
     let (account, call, paid) = (line.account, line.sum.call, line.sum.paid);
-    let word = word(line.sum.fate);
-    writeln!(text, "call {call} account {account} paid {paid} {word}")
-}
-
-/// The word for what has become of a call.
-fn word(fate: Fate) -> &'static str
-    ensures { result.now ≡ fate_word fate }
-{
-    match fate {
+    let word = match line.sum.fate {
         Fate::Holding => "holding",
         Fate::Returned => "returned",
         Fate::Forfeit => "forfeit",
-    }
+    };
+    writeln!(text, "call {call} account {account} paid {paid} {word}")
 }
 
 /// What a call came to, and the account that granted it something.

@@ -6,9 +6,9 @@ ghost use Rattle.csv.specs.Records.{fields_of};
 ghost use Rattle.table_core.specs.Fields.{field_in};
 ghost use Rattle.account_core.specs.Entries.{asked_of};
 ghost use Rattle.price_core.specs.RatesOf.{rates_of};
-ghost use Rattle.book_texts.specs.Column.{interval_of, units_of};
+ghost use Rattle.book_texts.specs.Column.{units_of};
 ghost use Rattle.book_texts.specs.Columns.{first_operation_at, operation_at, x6_at, x7_at, x8_at, x9_at};
-ghost use Rattle.book_texts.specs.Operations.{are_added_empty, are_last_empty, asked_in, at_of, credit_in, first_column, free_of, has_no_until, is_asked_blank, is_money_blank, settle_without_switch, plan_in, reserve_in, return_in, settle_in, step_column, settle_with_switch, until_of};
+ghost use Rattle.book_texts.specs.Operations.{are_added_empty, are_last_empty, asked_in, at_of, credit_in, first_column, free_of, is_asked_blank, is_money_blank, settle_without_switch, plan_in, reserve_in, return_in, settle_in, step_column, settle_with_switch, until_of};
 
 use crate::offsets::{CALL, X1, X2, X3, X4, X5, X6, X7, X8, X9};
 use crate::version::Version;
@@ -177,7 +177,11 @@ fn read_switch(row: &ByteRecord, at: usize) -> Result<TimeInfo, RowKind>
     ensures { result ≡ settle_with_switch (first_operation_at (fields_of row.now) at) }
 {
     let since = read_units(row, at + X3)?;
-    let interval = read_interval(row, at + X4)?;
+    let interval = match optional(row, at + X4, u64::from(DAY))? {
+        Some(0) => return Err(RowKind::Number),
+        Some(interval) => Some(interval as u32),
+        None => None,
+    };
     Ok(TimeInfo::Switch { since, interval })
 }
 
@@ -197,17 +201,6 @@ pub(crate) fn read_units(row: &ByteRecord, place: usize) -> Result<u32, RowKind>
 {
     let units = number(row, place, u64::from(DAY))?;
     Ok(units as u32)
-}
-
-/// The same of a time that is at least 1, or none where the field is empty.
-fn read_interval(row: &ByteRecord, place: usize) -> Result<Option<u32>, RowKind>
-    ensures { result ≡ interval_of (field_in (fields_of row.now) place) }
-{
-    match optional(row, place, u64::from(DAY))? {
-        Some(0) => Err(RowKind::Number),
-        Some(interval) => Ok(Some(interval as u32)),
-        None => Ok(None),
-    }
 }
 
 /// Whether the columns are empty that this operation, whose columns begin at `at`, doesn't use.
@@ -235,18 +228,9 @@ pub fn is_money_blank(row: &ByteRecord, at: usize, version: Version) -> bool
     requires { at ≤ 16 }
     ensures { result ≡ is_money_blank (operation_at version (fields_of row.now) at) }
 {
-    is_blank(row, at + CALL) && has_no_until(row, at, version) && are_last_blank(row, at, version)
-}
-
-/// Whether x2 is empty, but from version 3 on.
-fn has_no_until(row: &ByteRecord, at: usize, version: Version) -> bool
-    requires { at ≤ 16 }
-    ensures { result ≡ has_no_until version (field_in (fields_of row.now) (at + 3)) }
-{
-    match version {
-        Version::One | Version::Two => is_blank(row, at + X2),
-        Version::Three | Version::Four => true,
-    }
+    is_blank(row, at + CALL)
+        && (matches!(version, Version::Three | Version::Four) || is_blank(row, at + X2))
+        && are_last_blank(row, at, version)
 }
 
 /// Whether x3 to x9 are empty of an operation whose columns begin at `at`.

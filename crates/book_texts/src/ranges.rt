@@ -2,8 +2,6 @@
 //! contract of a function that does nothing else.
 
 ghost use Rattle.account_core.specs.Entries.{asked_of};
-ghost use Rattle.price_core.specs.RatesOf.{rates_of};
-ghost use Rattle.book_texts.specs.Fits.{FitsPlan};
 ghost use Rattle.book_texts.specs.Typed.{IsTypedAsked};
 
 use account_core::Op;
@@ -15,7 +13,18 @@ pub(crate) fn op_is_typed(op: Op)
 {
     match op {
         Op::Credit { .. } => {}
-        Op::Reserve { call: _, plan, .. } => plan_is_typed(plan),
+        Op::Reserve {
+            call: _,
+            plan: Plan {
+                fee: _,
+                before: _,
+                after: _,
+                free: _,
+                first: _,
+                step: _,
+            },
+            ..
+        } => {}
         Op::Settle {
             call: _,
             number: _,
@@ -23,18 +32,4 @@ pub(crate) fn op_is_typed(op: Op)
         } => {}
         Op::Return { call: _ } => {}
     }
-}
-
-/// The fee, the rates, the free units and the steps of a plan are in their ranges.
-fn plan_is_typed(plan: Plan)
-    ensures { FitsPlan (rates_of plan) }
-{
-    let Plan {
-        fee: _,
-        before: _,
-        after: _,
-        free: _,
-        first: _,
-        step: _,
-    } = plan;
 }

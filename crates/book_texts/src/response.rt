@@ -2,7 +2,7 @@
 
 ghost use Rattle.std.specs.Prelude.{◌≡◌, ◌++◌, OnOk, string_bytes};
 ghost use Rattle.account_core.specs.Entries.{asked_of};
-ghost use Rattle.book_texts.specs.Responses.{available_text, granted_text, paid_text, reply_text, response_text, operation_word};
+ghost use Rattle.book_texts.specs.Responses.{available_text, paid_text, reply_text, response_text, operation_word};
 
 use account_core::{AccountFault, Op, Reply};
 use std::alloc::AllocError;
@@ -45,7 +45,10 @@ pub fn write_reply(text: &mut String, reply: Reply) -> Result<(), AllocError>
             units,
             last,
             available,
-        } => write_granted(text, units, last, available),
+        } => {
+            let word = if last { "last" } else { "more" };
+            write!(text, "granted {units} {word} available {available}")
+        }
         Reply::Denied { available } => write_available(text, "denied", available),
         Reply::Settled { paid, available } => write_paid(text, "settled", paid, available),
         Reply::Forfeit { paid, available } => write_paid(text, "forfeit", paid, available),
@@ -67,18 +70,4 @@ fn write_paid(text: &mut String, word: &str, paid: u64, available: u64) -> Resul
         ≡ string_bytes text.old ++ (word.now ++ paid_text paid available)) }
 {
     write!(text, "{word} paid {paid} available {available}")
-}
-
-/// Adds what was granted.
-fn write_granted(
-    text: &mut String,
-    units: u32,
-    last: bool,
-    available: u64,
-) -> Result<(), AllocError>
-    ensures { OnOk result (string_bytes text.new
-        ≡ string_bytes text.old ++ granted_text units last available) }
-{
-    let word = if last { "last" } else { "more" };
-    write!(text, "granted {units} {word} available {available}")
 }

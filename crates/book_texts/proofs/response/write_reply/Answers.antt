@@ -6,9 +6,6 @@ returns-in-Credited c = rw c.in-Credited.is c.write_available.ensures
 pub returns-in-CreditOver : goal.returns-in-CreditOver
 returns-in-CreditOver c = rw c.in-CreditOver.is c.write_available-in-CreditOver.ensures
 
-pub returns-in-Granted : goal.returns-in-Granted
-returns-in-Granted c = rw c.in-Granted.is c.write_granted.ensures
-
 pub returns-in-Denied : goal.returns-in-Denied
 returns-in-Denied c = rw c.in-Denied.is c.write_available-in-Denied.ensures
 
