@@ -14,8 +14,9 @@ use Rattle.cap_values.specs.declared.message.SsfMsg.TheVariants as message
 use Rattle.cap_values.specs.declared.message.SsfMsg.{SsfMsg}
 use Rattle.run_values.specs.declared.post.Body.{Body}
 use Rattle.run_values.specs.declared.post.Body.TheVariants as body
-use Rattle.run_outputs.specs.Calls.{end_by, first_said, report_by, call_reports_of, message_of_call}
+use Rattle.run_outputs.specs.Calls.{end_by, first_said, report_by, call_reports_of, message_of_call, start_by, start_of}
 use Rattle.run_outputs.specs.declared.reports.CallReports.{CallReports}
+use Rattle.run_outputs.specs.declared.starts.Start.{Start}
 
 -- the first of three is that of the first two, or the third
 pub either : {X : Type 0} (one two three : Option X) → option_or one (option_or two three) ≡ option_or (option_or one two) three
@@ -33,6 +34,12 @@ said_more call tell [] post = or_none (message_of_call call (tell post.0) post.1
 said_more call tell (first ∷ given) post =
     ap (λ later. option_or (message_of_call call (tell first.0) first.1) later) (said_more call tell given post)
     ∙ either (message_of_call call (tell first.0) first.1) (first_said call tell given) (message_of_call call (tell post.0) post.1)
+
+-- the start of a call with one message more
+pub start_more : (given : List (ℕ × Body)) (at call other : ℕ) (msg : SsfMsg) (start : Option Start) → start ≡ start_by at msg
+    → (now : Option Start) → now ≡ option_or (start_of other given) (if call == other then start else None) → now ≡ start_of other (given ++ (at, body.Ssf call msg) ∷ [])
+start_more given at call other msg start is now are =
+    are ∙ ap (λ (said : Option Start). option_or (start_of other given) (if call == other then said else None)) is ∙ sym (said_more other start_by given (at, body.Ssf call msg))
 
 -- what is known, or what is said now
 abbrev pub known_or : Option ℕ → Option ℕ → Option ℕ

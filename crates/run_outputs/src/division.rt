@@ -3,7 +3,7 @@
 ghost use Rattle.std.specs.Prelude.{◌≡◌, ◌≤◌, ◌<◌, ◌+◌, true, All, length, map, max, IfOk, IfSome};
 ghost use Rattle.std.specs.List.Sorted.{IsStrictlySortedBy};
 ghost use Rattle.std.specs.Ordering.{nat_cmp};
-ghost use Rattle.run_outputs.specs.Parts.{AreParts, part_by, part_count, part_of, payer_in, payer_of};
+ghost use Rattle.run_outputs.specs.Parts.{AreParts, part_count, part_of, payer_in, payer_of};
 ghost use Rattle.run_values.specs.Setups.{has_account};
 ghost use Rattle.run_texts.specs.Views.{rows_are_in_order, happens_of, row_data, with_digits};
 
@@ -164,20 +164,10 @@ fn part_of(firsts: &Firsts, payers: &RisingMap<u32>, what: Happening) -> usize
     ensures within { result ≤ length firsts.now }
 {
     match what {
-        Happening::Start { call, .. } | Happening::Meets { call, .. } => {
-            part_by(firsts, payers.get(call).copied(), call)
-        }
+        Happening::Start { call, .. } | Happening::Meets { call, .. } => match payers.get(call) {
+            Some(account) => firsts.part_of(*account),
+            None => (call % firsts.part_count() as u64) as usize,
+        },
         Happening::Recharge { account, .. } => firsts.part_of(account),
-    }
-}
-
-/// The part of a call of an account, or of none.
-fn part_by(firsts: &Firsts, payer: Option<u32>, call: u64) -> usize
-    ensures part { result ≡ part_by firsts.now payer call }
-    ensures within { result ≤ length firsts.now }
-{
-    match payer {
-        Some(account) => firsts.part_of(account),
-        None => (call % firsts.part_count() as u64) as usize,
     }
 }

@@ -1,7 +1,7 @@
 //! What became of a call.
 
 ghost use Rattle.std.specs.Prelude.{◌≡◌};
-ghost use Rattle.run_outputs.specs.Records.{outcome_of_end, granted_outcome, outcome_of};
+ghost use Rattle.run_outputs.specs.Records.{granted_outcome, outcome_of};
 
 use crate::reports::CallReports;
 use crate::standing::Standing;
@@ -69,16 +69,7 @@ impl Outcome {
             Outcome::Forfeit
         } else if reports.end.is_none() {
             Outcome::Open
-        } else {
-            Outcome::of_ended(reports, standing)
-        }
-    }
-
-    /// That of one that the switch has ended.
-    fn of_ended(reports: &CallReports, standing: &Standing) -> Outcome
-        ensures { result ≡ outcome_of_end reports.now standing.now }
-    {
-        if reports.busy {
+        } else if reports.busy {
             Outcome::Busy
         } else if reports.no_answer {
             Outcome::NoAnswer

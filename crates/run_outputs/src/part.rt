@@ -1,7 +1,6 @@
 //! What is kept of a part of a run, and of all of them.
 
 ghost use Rattle.std.specs.Prelude.{◌≡◌, All, IfOk, List, OnOk, string_bytes};
-ghost use Rattle.book_texts.specs.RunTexts.{AreLinesOf};
 ghost use Rattle.book_texts.specs.Typed.{IsTyped};
 ghost use Rattle.run_values.specs.declared.options.RunOutput.{RunOutput};
 ghost use Rattle.run_outputs.specs.Kept.{AreKept, IsMergedText, IsPartsText, KeepsBooks, KeepsCalls, KeepsOwn, KeepsPart, PartSaid, PrintsParts, joined_parts, own_books, with_part};
@@ -100,19 +99,14 @@ fn kept_books(
     ensures { IfOk result (λ kept. KeepsBooks output books.items kept.0 kept.1.items) }
 {
     match output {
-        RunOutput::Lines | RunOutput::Trace(_) => lines_alone(alloc, books),
+        RunOutput::Lines | RunOutput::Trace(_) => {
+            let mut lines = RunLines::new(alloc);
+            lines.add(alloc, books.as_slice())?;
+            Ok((lines, Vec::new(alloc)))
+        }
         RunOutput::Book => Ok((RunLines::new(alloc), books)),
         RunOutput::Calls(_) => Ok((RunLines::new(alloc), Vec::new(alloc))),
     }
-}
-
-/// The lines of books, and no books.
-fn lines_alone(alloc: Global, books: Vec<Book>) -> Result<(RunLines, Vec<Book>), AllocError>
-    ensures { IfOk result (λ kept. AreLinesOf books.items kept.0) }
-{
-    let mut lines = RunLines::new(alloc);
-    lines.add(alloc, books.as_slice())?;
-    Ok((lines, Vec::new(alloc)))
 }
 
 /// What is printed of all parts of a run, in order: their lines, one part after another, the table
@@ -203,6 +197,5 @@ fn print_calls(
     ensures { IfOk result (λ text. IsMergedText clock calls.items (string_bytes text)) }
 {
     calls.sort_by_key(|call| call.call)?;
-    let text = call_table(alloc, clock, calls.as_slice())?;
-    Ok(text)
+    call_table(alloc, clock, calls.as_slice())
 }

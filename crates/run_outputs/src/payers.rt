@@ -1,6 +1,6 @@
 //! The accounts of the calls of a script.
 
-ghost use Rattle.std.specs.Prelude.{◌≡◌, ◌==◌, ℕ, None, if◌then◌else◌, map, IfOk, OnOk};
+ghost use Rattle.std.specs.Prelude.{◌≡◌, ℕ, map, IfOk, OnOk};
 ghost use Rattle.std.specs.Option.{option_or};
 ghost use Rattle.run_outputs.specs.Parts.{HavePayers, payer_by, payer_in, payer_of};
 ghost use Rattle.run_texts.specs.Views.{happens_of, row_data, with_digits};
@@ -32,18 +32,10 @@ fn note(payers: &mut RisingMap<u32>, setup: &RunSetup, what: Happening) -> Resul
         ≡ option_or (payer_in payers.old call)
         (payer_by (with_digits setup.now.subscribers) call (happens_of what))) }
 {
-    match what {
-        Happening::Start { call, calling, .. } => keep(payers, call, setup.account_of(calling)),
-        Happening::Meets { .. } | Happening::Recharge { .. } => Ok(()),
-    }
-}
-
-/// Keeps the account of a call, if there is one, where it has none yet.
-fn keep(payers: &mut RisingMap<u32>, call: u64, account: Option<u32>) -> Result<(), AllocError>
-    ensures { OnOk result ((other : ℕ) → payer_in payers.new other
-        ≡ option_or (payer_in payers.old other) (if call == other then account else None)) }
-{
-    let Some(account) = account else {
+    let Happening::Start { call, calling, .. } = what else {
+        return Ok(());
+    };
+    let Some(account) = setup.account_of(calling) else {
         return Ok(());
     };
     if payers.get(call).is_none() {

@@ -1,9 +1,7 @@
 //! The table of calls.
 
-ghost use Rattle.std.specs.Prelude.{◌≡◌, ◌++◌, [], IfOk, OnOk, codes, string_bytes, unwrap_or};
-ghost use Rattle.run_outputs.specs.Records.{prefix_of};
+ghost use Rattle.std.specs.Prelude.{◌≡◌, ◌++◌, IfOk, OnOk, codes, string_bytes};
 ghost use Rattle.run_outputs.specs.Tables.{call_text, moments_text, record_row, outcome_word};
-ghost use Rattle.table_core.specs.Decimals.{digits_text};
 
 use crate::{CallRecord, Outcome};
 use std::alloc::{AllocError, Global};
@@ -34,19 +32,10 @@ fn write_record(text: &mut String, clock: Clock, call: &CallRecord) -> Result<()
     let (number, account) = (call.call, Field::short(call.account));
     let (calling, called) = (call.calling, call.called);
     write!(text, "{number},{calling},{called},{account},")?;
-    write_prefix(text, call)?;
-    write_outcome(text, clock, call)
-}
-
-/// Adds the digits of the prefix of a call, if it has one.
-fn write_prefix(text: &mut String, call: &CallRecord) -> Result<(), AllocError>
-    ensures { OnOk result (string_bytes text.new
-        ≡ string_bytes text.old ++ digits_text (unwrap_or (prefix_of call.now) [])) }
-{
-    match &call.prefix {
-        Some(prefix) => write_digits(text, prefix.as_slice()),
-        None => Ok(()),
+    if let Some(prefix) = &call.prefix {
+        write_digits(text, prefix.as_slice())?;
     }
+    write_outcome(text, clock, call)
 }
 
 /// Adds the moments of a call, its times, what it has paid and what became of it, each behind a

@@ -1,9 +1,6 @@
 //! How the calls of a run start.
 
-ghost use Rattle.std.specs.Prelude.{◌≡◌, ◌==◌, ◌∷◌, ◌++◌, [], ℕ, List, None, if◌then◌else◌, IfOk, OnOk};
-ghost use Rattle.std.specs.BTreeMap.{get};
-ghost use Rattle.std.specs.Option.{option_or};
-ghost use Rattle.std.specs.Ordering.{nat_cmp};
+ghost use Rattle.std.specs.Prelude.{◌≡◌, ◌∷◌, ◌++◌, [], ℕ, List, IfOk, OnOk};
 ghost use Rattle.run_outputs.specs.Calls.{start_by};
 ghost use Rattle.run_outputs.specs.KeptRecords.{HaveStarts};
 ghost use Rattle.run_values.specs.declared.post.Body.{Body};
@@ -43,10 +40,16 @@ fn hear(starts: &mut BTreeMap<u64, Start>, at: u64, body: Body) -> Result<(), Al
     ensures { OnOk result ((given : List (ℕ × Body)) → HaveStarts starts.old given
         → HaveStarts starts.new (given ++ (at, body) ∷ [])) }
 {
-    match body {
-        Body::Ssf { call, msg } => begin(starts, call, start_by(at, msg)),
-        Body::Recharge { .. } => Ok(()),
+    let Body::Ssf { call, msg } = body else {
+        return Ok(());
+    };
+    let Some(start) = start_by(at, msg) else {
+        return Ok(());
+    };
+    if !starts.contains_key(&call) {
+        starts.insert(call, start)?;
     }
+    Ok(())
 }
 
 /// The start that a message says, if it is one.
@@ -65,22 +68,4 @@ fn start_by(at: u64, message: SsfMsg) -> Option<Start>
         }),
         SsfMsg::EventReport { .. } | SsfMsg::ChargingReport { .. } | SsfMsg::Ended => None,
     }
-}
-
-/// Keeps the start of a call, if there is one, where it has none yet.
-fn begin(
-    starts: &mut BTreeMap<u64, Start>,
-    call: u64,
-    start: Option<Start>,
-) -> Result<(), AllocError>
-    ensures { OnOk result ((other : ℕ) → get nat_cmp starts.new other
-        ≡ option_or (get nat_cmp starts.old other) (if call == other then start else None)) }
-{
-    let Some(start) = start else {
-        return Ok(());
-    };
-    if !starts.contains_key(&call) {
-        starts.insert(call, start)?;
-    }
-    Ok(())
 }
