@@ -3,7 +3,7 @@
 ghost use Rattle.std.specs.Prelude.{◌≡◌, ◌≤◌, unwrap_or, IfOk, IfSome};
 ghost use Rattle.std.specs.Result.{result_map_both};
 ghost use Rattle.csv.specs.Records.{fields_of};
-ghost use Rattle.rating.specs.Calls.{AnsweredIsInRange, IsWithinDay, answered_in, rated_call_in, called_in, needed_moment, needed_number, optional_number, charged_in, talk_in, talk_split, talk_until};
+ghost use Rattle.rating.specs.Calls.{AnsweredIsInRange, IsWithinDay, answered_in, rated_call_in, called_in, needed_moment, needed_number, optional_number, charged_in, talk_in};
 ghost use Rattle.rating.specs.SaidOf.{said_by};
 
 use crate::RateKind;
@@ -99,37 +99,22 @@ fn read_talk(row: &ByteRecord, times: TimeColumns, at: u64) -> Result<Talk, Rate
 {
     match times {
         TimeColumns::Time(place) => Ok(Talk::Lasts(number(row, place, u64::from(DAY))? as u32)),
-        TimeColumns::End(place) => talk_until(at, read_moment(row, place)?),
+        TimeColumns::End(place) => {
+            let end = read_moment(row, place)?;
+            if end < at || end - at > u64::from(DAY) {
+                return Err(RateKind::Order);
+            }
+            Ok(Talk::Lasts((end - at) as u32))
+        }
         TimeColumns::Split(before, after) => {
-            let before = number(row, before, u64::from(DAY))?;
-            let after = number(row, after, u64::from(DAY))?;
-            talk_split(before as u32, after as u32)
+            let before = number(row, before, u64::from(DAY))? as u32;
+            let after = number(row, after, u64::from(DAY))? as u32;
+            if before + after > DAY {
+                return Err(RateKind::Number);
+            }
+            Ok(Talk::Splits(before, after))
         }
     }
-}
-
-/// The time from an answer to an end, a day at most.
-fn talk_until(at: u64, end: u64) -> Result<Talk, RateKind>
-    ensures value { result ≡ talk_until at end }
-    ensures within { IfOk result IsWithinDay }
-{
-    if end < at || end - at > u64::from(DAY) {
-        return Err(RateKind::Order);
-    }
-    Ok(Talk::Lasts((end - at) as u32))
-}
-
-/// Two times, a day at most together.
-fn talk_split(before: u32, after: u32) -> Result<Talk, RateKind>
-    requires before { before ≤ DAY }
-    requires after { after ≤ DAY }
-    ensures value { result ≡ talk_split before after }
-    ensures within { IfOk result IsWithinDay }
-{
-    if before + after > DAY {
-        return Err(RateKind::Number);
-    }
-    Ok(Talk::Splits(before, after))
 }
 
 /// What was charged, where there is a column for it and it isn't empty.

@@ -2,7 +2,7 @@
 
 ghost use Rattle.std.specs.Prelude.{◌≡◌, ◌+◌, ◌-◌, ◌<◌, ◌≤◌, IfSome};
 ghost use Rattle.price_core.specs.RatesOf.{rates_of};
-ghost use Rattle.rating.specs.Charges.{before_switch, price_of_call};
+ghost use Rattle.rating.specs.Charges.{price_of_call};
 ghost use Rattle.rating.specs.Rated.{charged, charge_by};
 ghost use Rattle.rating.specs.declared.call.Talk.TheVariants as talks;
 
@@ -49,18 +49,9 @@ pub fn charge_call(route: &Route, at: u64, talk: u32) -> PricedTimes
     ensures price { result.price
         ≡ price_of_call (rates_of route.now.plan) at route.now.switch_at talk }
 {
-    let before = before_switch(at, talk, route.switch_at);
-    PricedTimes::of_times(route, before, talk - before)
-}
-
-/// How much of a call lies before the switch.
-fn before_switch(at: u64, talk: u32, switch_at: Option<u64>) -> u32
-    requires { IfSome switch_at (λ switch. at < switch) }
-    ensures value { result ≡ before_switch at talk switch_at }
-    ensures within { result ≤ talk }
-{
-    match switch_at {
+    let before = match route.switch_at {
         Some(switch) => u64::from(talk).min(switch - at) as u32,
         None => talk,
-    }
+    };
+    PricedTimes::of_times(route, before, talk - before)
 }

@@ -53,14 +53,9 @@ fn push_field(text: &mut Vec<u8>, field: &[u8]) -> Result<(), AllocError>
 fn needs_quotes(field: &[u8]) -> bool
     ensures { result ≡ list_any (needs_byte default_writer) field.now }
 {
-    field.iter().any(|byte| is_special(*byte))
-}
-
-/// Whether a byte calls for quotes.
-fn is_special(byte: u8) -> bool
-    ensures { result ≡ needs_byte default_writer byte }
-{
-    byte == b',' || byte == b'"' || byte == b'\r' || byte == b'\n'
+    field
+        .iter()
+        .any(|byte| matches!(*byte, b',' | b'"' | b'\r' | b'\n'))
 }
 
 /// Adds a field in quotes, each quote in it twice.

@@ -1,17 +1,16 @@
 //! What a row comes to by a tariff.
 
-ghost use Rattle.std.specs.Prelude.{◌≡◌, ◌<◌, IfSome};
+ghost use Rattle.std.specs.Prelude.{◌≡◌, IfSome};
 ghost use Rattle.csv.specs.Records.{fields_of};
-ghost use Rattle.rating.specs.Calls.{AnsweredIsInRange, IsWithinDay, said_in, row_size};
-ghost use Rattle.rating.specs.Rated.{IsPriced, IsRated, charge_by, differs, has_fault, is_right};
+ghost use Rattle.rating.specs.Calls.{AnsweredIsInRange, said_in, row_size};
+ghost use Rattle.rating.specs.Rated.{IsPriced, IsRated, is_right};
 ghost use Rattle.rating.specs.SaidOf.{rating_of};
 
-use crate::call::{Answered, Call, MAX_ROW, Talk};
+use crate::call::{Call, MAX_ROW, Talk};
 use crate::charge::charge_call;
 use crate::columns::Columns;
 use crate::{PricedTimes, RateKind};
 use csv::ByteRecord;
-use price_core::Route;
 use tariff_core::Tariff;
 
 /// What a row comes to.
@@ -24,28 +23,15 @@ pub(crate) enum Rated<'a> {
 }
 
 impl Rated<'_> {
-    /// Whether what was charged is another amount than the price.
-    pub(crate) fn differs(&self) -> bool
-        ensures { result ≡ differs (rating_of self.now) }
-    {
-        match self {
-            Rated::Priced(_, charge, Some(paid)) => charge.price != *paid,
-            _ => false,
-        }
-    }
-
-    /// Whether the row has a fault.
-    pub(crate) fn has_fault(&self) -> bool
-        ensures { result ≡ has_fault (rating_of self.now) }
-    {
-        matches!(self, Rated::Faulty(_))
-    }
-
-    /// Whether it neither differs nor has a fault.
+    /// Whether it has no fault, and no other amount than the price was charged.
     pub(crate) fn is_right(&self) -> bool
         ensures { result ≡ is_right (rating_of self.now) }
     {
-        !self.differs() && !self.has_fault()
+        match self {
+            Rated::Priced(_, charge, Some(paid)) => charge.price == *paid,
+            Rated::Priced(_, _, None) => true,
+            Rated::Faulty(_) => false,
+        }
     }
 }
 
@@ -84,21 +70,12 @@ fn rate_call<'a>(tariff: &Tariff, call: &Call<'a>) -> Rated<'a>
     };
     match tariff.quote(call.called, answered.at) {
         Some(quote) => {
-            let charge = charge_answered(&quote.route, answered);
+            let charge = match answered.talk {
+                Talk::Lasts(time) => charge_call(&quote.route, answered.at, time),
+                Talk::Splits(before, after) => PricedTimes::of_times(&quote.route, before, after),
+            };
             Rated::Priced(quote.prefix, charge, call.paid)
         }
         None => Rated::Faulty(RateKind::NoRoute),
-    }
-}
-
-/// What a call costs by its route.
-fn charge_answered(route: &Route, answered: Answered) -> PricedTimes
-    requires time { IsWithinDay answered.talk }
-    requires switch { IfSome route.now.switch_at (λ switch. answered.at < switch) }
-    ensures { result ≡ charge_by route.now answered.at answered.talk }
-{
-    match answered.talk {
-        Talk::Lasts(time) => charge_call(route, answered.at, time),
-        Talk::Splits(before, after) => PricedTimes::of_times(route, before, after),
     }
 }

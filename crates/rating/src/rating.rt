@@ -1,13 +1,12 @@
 //! Records that are rated as they come.
 
-ghost use Rattle.std.specs.Prelude.{◌≡◌, ◌<◌, ◌+◌, ◌-◌, ◌^◌, ◌&&◌, length, map, IfErr, IfOk, IfSome, OnOk, Ok, List};
+ghost use Rattle.std.specs.Prelude.{◌≡◌, ◌<◌, ◌+◌, ◌-◌, ◌^◌, length, map, IfErr, IfOk, IfSome, OnOk, Ok, List};
 ghost use Rattle.std.specs.Io.KnownBytes.{Appends};
 ghost use Rattle.csv.specs.Records.{fields_of};
 ghost use Rattle.table_core.specs.Rows.{Fields, HasRowsLeft, rows_of};
 ghost use Rattle.rating.specs.Ends.{AddsRatedRow, EndsRating, IsRatingCutOff, IsRatingSilent, MayStop, SendsFront};
 ghost use Rattle.rating.specs.Lines.{header_line, shown};
-ghost use Rattle.rating.specs.Rated.{is_right};
-ghost use Rattle.rating.specs.SaidOf.{wished_names, rating_of};
+ghost use Rattle.rating.specs.SaidOf.{wished_names};
 ghost use Rattle.rating.specs.Scores.{IsBoundedScore};
 ghost use Rattle.rating.specs.Texts.{headed, rate_input_of};
 
@@ -123,18 +122,11 @@ impl Rater<'_> {
         let size = text.len() - start;
         let rated = rate_row(self.tariff, &self.columns, self.width, row, size);
         score.count(&rated);
-        if self.hides(&rated) {
+        if self.differing && rated.is_right() {
             text.truncate(start);
             return Ok(());
         }
         push_rated(text, &rated)
-    }
-
-    /// Whether the line of a row isn't printed.
-    fn hides(&self, rated: &Rated<'_>) -> bool
-        ensures { result ≡ (self.now.differing && is_right (rating_of rated.now)) }
-    {
-        self.differing && rated.is_right()
     }
 }
 
