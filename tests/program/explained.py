@@ -79,6 +79,51 @@ RUNS = [
         "20,1,disconnect,3,\n",
         "script row 3: Number\nline 9 of the input: 20,1,disconnect,3,\ncolumn x: 3 is above 2\n",
     ),
+    (
+        "",
+        "20,1,disconnect,0,\n",
+        "script row 3: Number\nline 9 of the input: 20,1,disconnect,0,\ncolumn x: 0 is below 1\n",
+    ),
+    (
+        "",
+        "1000000000001,1,answer,,\n",
+        "script row 3: Number\n"
+        "line 9 of the input: 1000000000001,1,answer,,\n"
+        "column moment: 1000000000001 is above 1000000000000\n",
+    ),
+    (
+        "",
+        "1970-01-01,1,answer,,\n",
+        "script row 3: Number\n"
+        "line 9 of the input: 1970-01-01,1,answer,,\n"
+        "column moment: 1970-01-01 is no moment: a decimal, or a date and a time like 1970-01-01T18:00:08\n",
+    ),
+    (
+        "",
+        "20,2,start,4917000012345678,4930\n",
+        "script row 3: Number\n"
+        "line 9 of the input: 20,2,start,4917000012345678,4930\n"
+        "column x: 4917000012345678 is no 1 to 15 digits\n",
+    ),
+    (
+        "",
+        "20,2,start,491700001,\n",
+        "script row 3: Number\n"
+        "line 9 of the input: 20,2,start,491700001,\n"
+        "column y: it is empty, and no 1 to 15 digits\n",
+    ),
+    (
+        "",
+        "20,,recharge,4294967296,1\n",
+        "script row 3: Number\n"
+        "line 9 of the input: 20,,recharge,4294967296,1\n"
+        "column x: 4294967296 is above 4294967295\n",
+    ),
+    (
+        "subscriber,x,7\n",
+        "",
+        "setup row 3: Number\nline 6 of the input: subscriber,x,7\ncolumn key: x is no 1 to 15 digits\n",
+    ),
     ("", "5,1,answer,,\n", "script row 3: Order\nline 9 of the input: 5,1,answer,,\nmoment 5 lies below 10 in row 2\n"),
     (
         "",
@@ -121,8 +166,9 @@ EMPTY = [
     (ACCOUNT + "%%\n", "script row 1: Header\nwanted: moment,call,what,x,y,z or moment,call,what,x,y\nfound: no row\n"),
 ]
 
-# Headers of operations and of books; the last has no column for a last moment.
+# Headers of operations, the second with billing steps, and of books; the last has no column for a last moment.
 OPS = "seat,op,call,x1,x2,x3,x4,x5,x6,x7\n"
+STEPS = "seat,op,call,x1,x2,x3,x4,x5,x6,x7,x8,x9\n"
 BOOK = "account,seat,op,call,x1,x2,x3,x4,x5,x6,x7,reply,y1,y2,y3\n"
 OLD_BOOK = "account,seat,op,call,x1,x2,x3,x4,x5,reply,y1,y2,y3\n"
 OPENED = "7,,opening,,5,,,,,,,,,,\n"
@@ -137,6 +183,14 @@ ENTRIES = [
     ("replay --opening 9", OPS, "0,return,1,,,,,,,5", "ops row 2: Empty", "column x7: 5, where return takes nothing"),
     ("replay --opening 9", OPS, "16,return,1,,,,,,,", "ops row 2: Number", "column seat: 16 is above 15"),
     ("replay --opening 9", OPS, "0,reserve,1,9,9,,864001,,0,0", "ops row 2: Number", "column x4: 864001 is above 864000"),
+    (
+        "replay --opening 9",
+        OPS,
+        "0,settle,1,18446744073709551616,n,5,,,,",
+        "ops row 2: Number",
+        "column x1: 18446744073709551616 is above 18446744073709551615",
+    ),
+    ("replay --opening 9", STEPS, "0,reserve,1,9,9,,600,50,0,0,0,0", "ops row 2: Number", "column x9: 0 is below 1"),
     ("audit", BOOK, "7,0,opening,,5,,,,,,,,,,", "book row 2: Empty", "column seat: 0, where opening takes nothing"),
     ("audit", BOOK, "7,,opening,,5,,,,,,,over,,,", "book row 2: Empty", "column reply: over, where opening takes nothing"),
     (
@@ -159,6 +213,27 @@ ENTRIES = [
         "7,0,return,1,,,,,,,,returned,x,,5",
         "book row 3: Number",
         "column y1: x is no decimal of 1 to 20 digits",
+    ),
+    (
+        "audit",
+        BOOK + OPENED,
+        "7,0,reserve,1,0,0,,600,50,0,0,granted,864001,more,5",
+        "book row 3: Number",
+        "column y1: 864001 is above 864000",
+    ),
+    (
+        "run",
+        DATED,
+        "account,8,5,x\n%%\nmoment,call,what,x,y,z\n",
+        "setup row 3: Number",
+        "column until: x is no moment: a decimal, or a date and a time like 1970-01-01T18:00:08",
+    ),
+    (
+        "run",
+        DATED + "%%\nmoment,call,what,x,y,z\n",
+        "20,,recharge,7,1,x\n",
+        "script row 2: Number",
+        "column z: x is no moment: a decimal, or a date and a time like 1970-01-01T18:00:08",
     ),
     (
         "run",
