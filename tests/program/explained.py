@@ -61,6 +61,21 @@ RUNS = [
     ),
     (
         "",
+        "20,1,apply,,\n",
+        "script row 3: What\n"
+        "line 9 of the input: 20,1,apply,,\n"
+        "column what: apply; one of start, answer, busy, noanswer, routefail, abandon, disconnect, recharge\n",
+    ),
+    (
+        "acount,8,5\n",
+        "",
+        "setup row 3: What\n"
+        "line 6 of the input: acount,8,5\n"
+        "column kind: acount; one of account, subscriber\n"
+        "the nearest is account\n",
+    ),
+    (
+        "",
         "20,1,answer,5,\n",
         "script row 3: Empty\nline 9 of the input: 20,1,answer,5,\ncolumn x: 5, where answer takes nothing\n",
     ),
@@ -177,6 +192,14 @@ DATED = "prefix,from,fee,rate\n49,00:00,50,1000\n%%\nkind,key,value,until\naccou
 
 # Words, an input up to a row, that row with what is behind it, its fault, and what is said of it.
 ENTRIES = [
+    (
+        "replay --opening 9",
+        OPS,
+        "0,Returned,1,,,,,,,",
+        "ops row 2: What",
+        "column op: Returned; one of credit, reserve, settle, return\nthe nearest is return",
+    ),
+    ("replay --opening 9", OPS, "0,settle,1,0,x,5,,,,", "ops row 2: What", "column x2: x; one of n, s"),
     ("replay --opening 9", OPS, "0,credit,1,5,,,,,,", "ops row 2: Empty", "column call: 1, where credit takes nothing"),
     ("replay --opening 9", OPS, "0,settle,1,0,n,5,7,,,", "ops row 2: Empty", "column x4: 7, where settle takes nothing"),
     ("replay --opening 9", OPS, "0,settle,1,0,s,5,7,,,1", "ops row 2: Empty", "column x7: 1, where settle takes nothing"),
@@ -191,6 +214,28 @@ ENTRIES = [
         "column x1: 18446744073709551616 is above 18446744073709551615",
     ),
     ("replay --opening 9", STEPS, "0,reserve,1,9,9,,600,50,0,0,0,0", "ops row 2: Number", "column x9: 0 is below 1"),
+    (
+        "audit",
+        BOOK + OPENED,
+        "7,0,debit,,1,,,,,,,credited,,,6",
+        "book row 3: What",
+        "column op: debit; one of opening, credit, reserve, settle, return",
+    ),
+    ("audit", BOOK + OPENED, "7,0,settle,1,0,x,5,,,,,settled,0,,5", "book row 3: What", "column x2: x; one of n, s"),
+    (
+        "audit",
+        BOOK + OPENED,
+        "7,0,credit,,1,,,,,,,given,,,6",
+        "book row 3: What",
+        "column reply: given; one of credited, over, denied, granted, settled, forfeit, returned",
+    ),
+    (
+        "audit",
+        BOOK + OPENED,
+        "7,0,reserve,1,0,0,,600,50,0,0,granted,600,least,5",
+        "book row 3: What",
+        "column y2: least; one of more, last",
+    ),
     ("audit", BOOK, "7,0,opening,,5,,,,,,,,,,", "book row 2: Empty", "column seat: 0, where opening takes nothing"),
     ("audit", BOOK, "7,,opening,,5,,,,,,,over,,,", "book row 2: Empty", "column reply: over, where opening takes nothing"),
     (
