@@ -303,6 +303,9 @@ ENTRIES = [
     ),
 ]
 
+# A header of a tariff with all of its columns.
+FULL = "prefix,from,fee,rate,free,first,step,days\n"
+
 # Tariffs, and what `quote` says of them.
 TARIFFS = [
     (
@@ -331,6 +334,47 @@ TARIFFS = [
         "prefix,from,fee,rate\n49,00:00,50,1000\n49,00:00,60,1000\n",
         "tariff row 3: Repeated\nline 3 of the input: 49,00:00,60,1000\n",
         "prefix 49 from 00:00 is in row 2 already\n",
+    ),
+    (
+        f"{FULL}49x,00:00,50,1000,0,0,1,\n",
+        "tariff row 2: Digits\nline 2 of the input: 49x,00:00,50,1000,0,0,1,\n",
+        "column prefix: 49x is no 0 to 15 digits\n",
+    ),
+    (
+        f"{FULL}49,00:00,50,1000,864001,0,1,\n",
+        "tariff row 2: Free\nline 2 of the input: 49,00:00,50,1000,864001,0,1,\n",
+        "column free: 864001 is above 864000\n",
+    ),
+    (
+        f"{FULL}49,00:00,50,1000,0,864001,1,\n",
+        "tariff row 2: First\nline 2 of the input: 49,00:00,50,1000,0,864001,1,\n",
+        "column first: 864001 is above 864000\n",
+    ),
+    (
+        f"{FULL}49,00:00,50,1000,0,0,0,\n",
+        "tariff row 2: Step\nline 2 of the input: 49,00:00,50,1000,0,0,0,\n",
+        "column step: 0 is below 1\n",
+    ),
+    (
+        f"{FULL}49,00:00,50,1000,0,0,1,21\n",
+        "tariff row 2: Days\nline 2 of the input: 49,00:00,50,1000,0,0,1,21\n",
+        "column days: 21 is no days: digits from 1 to 7 in their order, each once\n",
+    ),
+    (
+        f"{FULL}49,00:00,50,1000,0,0,1,12345\n49,00:00,50,1000,0,0,1,67\n49,00:00,0,500,0,0,1,7\n",
+        "tariff row 4: Repeated\nline 4 of the input: 49,00:00,0,500,0,0,1,7\n",
+        "prefix 49 from 00:00 is in row 3 already\n",
+    ),
+    (
+        f"{FULL}49,00:00,50,1000,0,0,1,12345\n49,08:00,0,500,0,0,1,67\n",
+        "tariff row 2: NoMidnightBand\nline 2 of the input: 49,00:00,50,1000,0,0,1,12345\n",
+        "prefix 49 counts from 00:00 and 08:00, and not from 00:00 on each day of the week\n",
+    ),
+    (
+        "prefix,from,fee,rate\n,08:00,50,1000\n",
+        "tariff row 2: NoMidnightBand\nline 2 of the input: ,08:00,50,1000\n",
+        "the empty prefix counts from 08:00, and nothing from 00:00: add ,00:00,.. with what counts at midnight, "
+        "mostly the row of 08:00\n",
     ),
 ]
 
