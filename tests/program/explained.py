@@ -76,6 +76,22 @@ RUNS = [
     ),
     (
         "",
+        '20,1,"answer,,\n',
+        "script row 3: Csv\n"
+        'line 9 of the input: 20,1,"answer,,\n'
+        "3 fields, and the header has 5: moment,call,what,x,y\n"
+        "a quote is open since line 9\n",
+    ),
+    (
+        "",
+        '"20\n",1,"answer,,\n30,1,busy,,\n',
+        "script row 3: Csv\n"
+        'line 9 of the input: "20\n'
+        "3 fields, and the header has 5: moment,call,what,x,y\n"
+        "a quote is open since line 10\n",
+    ),
+    (
+        "",
         "20,1,answer,5,\n",
         "script row 3: Empty\nline 9 of the input: 20,1,answer,5,\ncolumn x: 5, where answer takes nothing\n",
     ),
