@@ -9,6 +9,11 @@ PRICES = [
         "reports row 1: Header\nline 1 of the input: before;after\n",
         "wanted: before,after\nfound: before;after\nthe separator is a comma\n",
     ),
+    (
+        "before\tafter\n",
+        "reports row 1: Header\nline 1 of the input: before\\x09after\n",
+        "wanted: before,after\nfound: before\\x09after\nthe separator is a comma\n",
+    ),
     ("", "reports row 1: Header\n", "wanted: before,after\nfound: no row\n"),
     (
         "before,after\n600,x",
@@ -206,6 +211,16 @@ OPENED = "7,,opening,,5,,,,,,,,,,\n"
 # A tariff, and a setup whose accounts may have a last moment.
 DATED = "prefix,from,fee,rate\n49,00:00,50,1000\n%%\nkind,key,value,until\naccount,7,5000,\n"
 
+# A header that operations haven't, and what is said of it.
+HEADER = (
+    "replay --opening 9",
+    "seat,op,call,x1\n",
+    "ops row 1: Header\n"
+    "line 1 of the input: seat,op,call,x1\n"
+    "wanted: seat,op,call,x1,x2,x3,x4,x5,x6,x7,x8,x9, or without x8 and x9, x7 to x9, or x6 to x9\n"
+    "found: seat,op,call,x1\n",
+)
+
 # Words, an input up to a row, that row with what is behind it, its fault, and what is said of it.
 ENTRIES = [
     (
@@ -394,6 +409,26 @@ TARIFFS = [
     ),
 ]
 
+# Inputs with too many rows, and what is said of the first of these.
+MORE = "docs/SCALING.md has larger loads\n"
+TOO_MANY = [
+    (
+        PRICE,
+        "before,after\n" + "0,0\n" * 10_001,
+        f"reports row 10002: TooManyRows\nline 10002 of the input: 0,0\nat most 10000 rows; {MORE}",
+    ),
+    (
+        "run",
+        ACCOUNT + "".join(f"account,{number},0\n" for number in range(1001, 2001)) + SCRIPT,
+        f"setup row 1002: TooManyRows\nline 1005 of the input: account,2000,0\nat most 10000 rows and 1000 accounts; {MORE}",
+    ),
+    (
+        "run",
+        ACCOUNT + SCRIPT + "10,1,busy,,\n" * 1_000_000,
+        f"script row 1000002: TooManyRows\nline 1000008 of the input: 10,1,busy,,\nat most 1000000 rows; {MORE}",
+    ),
+]
+
 
 def explained(words, text, faults):
     """A row whose fault is named as without the word in front of the command, and is explained behind that."""
@@ -412,3 +447,5 @@ def rows():
         yield explained(words, table + row, f"{fault}\nline {line} of the input: {shown}\n{more}\n")
     for text, line, more in TARIFFS:
         yield explained("quote --called 4930 --at 0", text, line + more)
+    for words, text, slip in [HEADER, *TOO_MANY]:
+        yield explained(words, text, slip)
