@@ -31,6 +31,11 @@ PRICES = [
         "times 500,0 may not follow 600,0 in row 2\n",
     ),
     (
+        "before,after\n600,5\n",
+        "reports row 2: Order\nline 2 of the input: 600,5\n",
+        "times 600,5 may not come first\n",
+    ),
+    (
         "before,after\n1\0\x7f,0",
         "reports row 2: Number\nline 2 of the input: 1\\x00\\x7f,0\n",
         "column before: 1\\x00\\x7f is no decimal of 1 to 20 digits\n",
@@ -173,6 +178,16 @@ RUNS = [
     ),
     ("", "20,,recharge,8,1\n", "script row 3: Unknown\nline 9 of the input: 20,,recharge,8,1\naccount 8 isn't in the setup\n"),
     ("account,007,1\n", "", "setup row 3: Repeated\nline 6 of the input: account,007,1\naccount 007 is in row 2 already\n"),
+    (
+        "subscriber,9,7\naccount,9,0\naccount,9,0\n",
+        "",
+        "setup row 5: Repeated\nline 8 of the input: account,9,0\naccount 9 is in row 4 already\n",
+    ),
+    (
+        "subscriber,491700001,7\nsubscriber,491700001,7\n",
+        "",
+        "setup row 4: Repeated\nline 7 of the input: subscriber,491700001,7\nsubscriber 491700001 is in row 3 already\n",
+    ),
     (
         "subscriber,491700001,8\n",
         "",
