@@ -226,6 +226,15 @@ OPENED = "7,,opening,,5,,,,,,,,,,\n"
 # A tariff, and a setup whose accounts may have a last moment.
 DATED = "prefix,from,fee,rate\n49,00:00,50,1000\n%%\nkind,key,value,until\naccount,7,5000,\n"
 
+# Inputs of a run with more or fewer than two lines that are %% alone, and what is said of these.
+PARTS = [
+    ("", "0 lines that are %% alone; wanted 2\n"),
+    ("%%\n" * 6, "6 lines that are %% alone, in line 1, in line 2, in line 3, in line 4, in line 5; wanted 2\n"),
+    ("x\r\n%%\r\n%%\n%%", "3 lines that are %% alone, in line 2, in line 3, in line 4; wanted 2\n"),
+    ("%%\n%\n%%%\n x%%\n", "1 line that is %% alone, in line 1; wanted 2\n"),
+    ("%%\n %%\n%%\t\n", "1 line that is %% alone, in line 1; wanted 2\nline 2 is %% with a blank at it\n"),
+]
+
 # A header that operations haven't, and what is said of it.
 HEADER = (
     "replay --opening 9",
@@ -457,6 +466,8 @@ def rows():
         yield explained("run", ACCOUNT + setup + SCRIPT + script, slip)
     for text, slip in EMPTY:
         yield explained("run", text, slip)
+    for text, more in PARTS:
+        yield explained("run", text, f"input: Parts\n{more}")
     for words, table, row, fault, more in ENTRIES:
         line, shown = table.count("\n") + 1, row.splitlines()[0]
         yield explained(words, table + row, f"{fault}\nline {line} of the input: {shown}\n{more}\n")
