@@ -91,6 +91,8 @@ OTHERS = [
     ("run --tssf 864001", "", "input: Config\ntssf 864001 is above 864000\n"),
     ("serve --tccd 51", "", "input: Config\ntccd 51 is above least 50\n"),
     ("serve --tccd 0", "", "input: Config\ntccd 0 is below 1\n"),
+    ("serve --least 601", "", "input: Config\nleast 601 is above wanted 600\n"),
+    ("serve --wanted 864001", "", "input: Config\nwanted 864001 is above 864000\n"),
     ("run", "x" * (MAX_INPUT + 1), f"input: TooLong\nat most {MAX_INPUT} bytes; docs/SCALING.md has larger loads\n"),
     ("run --workers x", "", "arguments\nan option has a value that it doesn't take: see prepaid help COMMAND\n"),
     ("audti", "", "arguments\nerror: unrecognized subcommand 'audti'\n  tip: a similar subcommand exists: 'audit'\n"
