@@ -33,6 +33,7 @@ from serve_trial import (
     hear,
     modelled,
     read,
+    repeated,
     same,
     send,
     speak,
@@ -318,15 +319,20 @@ def one_by_one(trial):
 
 def synced_first(trial):
     """By the calls to the system: a row is written to the log, and synced, before its answer is written; the head and
-    the folder of a new log are synced before the header is printed. Where a sync fails, nothing of its rows is
-    printed."""
+    the folder of a new log are synced before the header is printed, and so is what a log holds already. Where a sync
+    fails, nothing of its rows is printed."""
     if not can_trace():
         return "passed over: strace doesn't run here: apt-get install strace"
     talk = trial.numbered
-    for how in (None, speak):
-        said, calls = traced(trial, trial.new(), talk, speak=how)
+    for how, near in ((None, False), (speak, False), (None, True)):
+        said, calls = traced(trial, trial.new(), talk, speak=how, near=near)
         same("the answer", said, talk.served())
         same("what is synced", prints_what_is_synced(talk, calls)[0], talk.logged())
+    for end in (b"", b"x"):
+        said, calls = traced(trial, trial.new(talk.logged(3) + end), talk)
+        same("the answer", said, (0, HEADER + repeated(3) + talk.answered(3) + talk.end, b""))
+        begun = [(name, of) for name, of, *_ in calls if of in ("log", "output")]
+        same(f"a log that ends with {end}", begun[:2], [("fsync", "log"), ("write", "output")])
     failed = [sync_fails(trial, call, number) for call in ("fdatasync", "fsync") for number in range(1, 8)]
     return f"{len(talk.rows)} rows, at once and one by one, and {sum(failed)} syncs that failed"
 

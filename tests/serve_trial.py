@@ -183,16 +183,18 @@ def can_trace():
     return shutil.which("strace") and subprocess.run(words, capture_output=True).returncode == 0
 
 
-def traced(trial, path, talk, *options, speak=None):
+def traced(trial, path, talk, *options, speak=None, near=False):
     """What a service with a log says to a talk, which comes at once or is spoken, and its calls: their names, what they
-    are of, what they write, and how they end."""
+    are of, what they write, and how they end. It may be started in the folder of its log, which it is told by name alone."""
     file = f"{path}.calls"
     words = ["strace", "-f", "-y", "-s", "9999", "-xx", "-e", "trace=write,writev,pwrite64,fsync,fdatasync", *options]
-    words += ["-o", file, trial.program, "serve", "--log", path, "--book"]
-    with subprocess.Popen(words, stdin=subprocess.PIPE, stdout=subprocess.PIPE, stderr=subprocess.PIPE) as it:
+    folder, name = os.path.split(path)
+    words += ["-o", file, trial.program, "serve", "--log", name if near else path, "--book"]
+    pipes = {it: subprocess.PIPE for it in ("stdin", "stdout", "stderr")}
+    with subprocess.Popen(words, cwd=folder if near else None, **pipes) as it:
         heard = speak(it, talk) if speak else b""
         output, line = it.communicate(None if speak else talk.text(), timeout=SECONDS)
-    names, found = {path: "log", os.path.dirname(path): "folder"}, []
+    names, found = {path: "log", folder: "folder"}, []
     for name, number, of, rest in re.findall(r"^\d+ +(\w+)\((\d+)<([^>]*)>(.*)$", read(file).decode(), re.M):
         text = b"".join(map(hex_bytes, re.findall(r'"((?:\\x[0-9a-f]{2})*)"', rest)))
         of = hex_bytes(of).decode() if of.startswith("\\x") else of
