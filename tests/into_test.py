@@ -2,10 +2,12 @@
 """Tries `run --into`: tests/into_test.py [--program FILE]
 
 The four files of a folder are what the same run prints with one worker, and of one and the same run with two. Where the
-words, the input, a file or the folder has a fault, each file is as it was, byte for byte, and no other file is left.
+words, the input, a file or the folder has a fault, each file is as it was, byte for byte, and no other file is left. By the
+calls to the system all four are on the disk before the first gets its name.
 """
 import argparse
 import os
+import re
 import resource
 import subprocess
 import sys
@@ -15,6 +17,7 @@ ROOT = os.path.dirname(os.path.dirname(os.path.abspath(__file__)))
 sys.path.insert(0, f"{ROOT}/examples")
 from run_rows import Wrong
 from run_tables import read_run
+from serve_trial import can_trace
 
 SECONDS = 60
 OUTPUTS = {"lines.txt": [], "book.csv": ["--book"], "calls.csv": ["--calls"], "trace.csv": ["--trace"]}
@@ -136,11 +139,23 @@ def no_name(program, folder):
     same("the files beside it", files_in(folder), wanted)
 
 
+def synced_first(program, folder):
+    """By the calls to the system: each file is synced before the first gets its name."""
+    if not can_trace():
+        print("into: no call was looked at: strace doesn't run here: apt-get install strace")
+        return
+    words = ["strace", "-f", "-y", "-o", f"{folder}/calls", "-e", "trace=fsync,fdatasync,rename,renameat,renameat2", program]
+    same("a traced run", run(words[0], [*words[1:], "run", "--into", folder], example("call")), (0, b"", b""))
+    calls = files_in(folder)["calls"].decode()
+    done = re.findall(r"/([^/>\"]+)[>\"][^/]*\) += 0$", calls, re.M)
+    same("the calls", done, [*(f".{name}.new" for name in OUTPUTS), *OUTPUTS])
+
+
 def main():
     asked = argparse.ArgumentParser(description=__doc__.split("\n")[0])
     asked.add_argument("--program", default=f"{ROOT}/bin/prepaid")
     program = os.path.abspath(asked.parse_args().program)
-    for trial in (right, one_run, refused, faults, no_name):
+    for trial in (right, one_run, refused, faults, no_name, synced_first):
         with tempfile.TemporaryDirectory() as folder:
             told = trial(program, folder)
         if trial is one_run:
