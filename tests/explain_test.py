@@ -319,6 +319,28 @@ def on_terminal(program, words, text=None, threads=0, environment=None):
 
 
 WAITING = "prepaid: the input comes from this terminal; Ctrl-D in a new line ends it\n"
+# Words to which one Ctrl-D is typed, and their fault: one of each command, and words that lack something.
+TYPED = [
+    ("price --fee 50 --before 1000", "reports row 1: Header"),
+    ("replay --opening 5000", "ops row 1: Header"),
+    ("run", "input: Parts"),
+    ("audit", "book row 1: Header"),
+    ("quote --called 4930 --at 0", "tariff row 1: Header"),
+    ("rate", "input: Parts"),
+    ("serve", "input: Parts"),
+    ("quote", "arguments"),
+]
+
+
+def beside_terminal(program, words):
+    """What comes of words where one Ctrl-D is typed and the error writer is no terminal: output, faults, status."""
+    outer, inner = pty.openpty()
+    with subprocess.Popen([program, *words.split()], stdin=inner, stdout=subprocess.PIPE, stderr=subprocess.PIPE) as it:
+        os.write(outer, b"\x04")
+        output, faults = it.communicate(timeout=SECONDS)
+    os.close(inner)
+    os.close(outer)
+    return output.decode(), faults.decode(), it.returncode
 
 
 def terminals(program):
@@ -328,13 +350,12 @@ def terminals(program):
     for front, wanted in [("", whole), ("--explain ", whole), ("--plain ", line)]:
         if (found := on_terminal(program, front + words, text)) != (wanted, "", 1):
             return f"{front}{words} on a terminal: {found}"
-    for words, wanted, status in [("--plain run", WAITING + "prepaid: input: Parts\n", 1), ("--plain quote", "prepaid: arguments\n", 1)]:
-        found = on_terminal(program, words)
-        if words.endswith("quote"):
-            wanted = WAITING + wanted
-        if (found[0], found[2]) != (wanted, status):
-            return f"{words} typed: {found}"
-    for words in ["--version", "run --help", "help"]:
+    for words, fault in TYPED:
+        if (found := on_terminal(program, f"--plain {words}")) != (f"{WAITING}prepaid: {fault}\n", "", 1):
+            return f"--plain {words} typed: {found}"
+    if (found := beside_terminal(program, "run")) != ("", "prepaid: input: Parts\n", 1):
+        return f"run typed, with another error writer: {found}"
+    for words in ["--version", "-V", "run --help", "run -h", "help", "help run"]:
         shown, output, status = on_terminal(program, words)
         if (shown, status) != ("", 0) or not output:
             return f"{words} on a terminal: {shown!r} {status}"
