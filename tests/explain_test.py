@@ -8,8 +8,8 @@ subscriber makes, and a further one which events had no place, in parts or not, 
 it is. Of an output that fails, nothing is said without the word, and with it why it failed, at each command.
 
 On a pseudo-terminal a fault is explained without the word, but not behind `--plain`, and a command says that it waits for its
-input. A run of more than two seconds shows there how far it is, and takes that away at its end; one that is paused now and then
-takes as long with less work.
+input. A run of more than two seconds shows there how far it is, each fifth of a second, and takes that away at its end; one that
+is paused now and then takes as long with less work.
 """
 import argparse
 import os
@@ -369,6 +369,8 @@ TAKEN = "\r\x1b[K"
 SAID = re.compile(r"1 call of a number that no subscriber has: 1000000\n(?:\d+ events? that had no place: call [^\n]*\n)?")
 # How many inputs are tried until a run takes long enough.
 TRIES = 5
+# The seconds before it is shown how far a run is, and until a thread shows anew how far its part is.
+FIRST, EACH = 2, 0.2
 # Runs, how many parts they have, and how many threads play these. All but those of two workers print the same.
 LONG_RUNS = [("run --workers 1", 1, 1), ("run --parts 4", 4, 1), ("run --parts 16 --threads 2", 16, 2), ("run --workers 2", 1, 1)]
 
@@ -399,7 +401,9 @@ def progress(program):
     text, lines, said = long_input(program)
     script = text.split("%%\n")[2].splitlines()
     for words, parts_of_all, threads in LONG_RUNS:
+        begun = time.monotonic()
         shown, output, status = on_terminal(program, words, text, threads)
+        most = threads * (time.monotonic() - begun - FIRST) / EACH + parts_of_all
         if status or words != "run --workers 2" and output != lines or not output:
             return f"{words} on a terminal: another output, status {status}"
         *steps, end = shown.split(TAKEN)
@@ -414,8 +418,11 @@ def progress(program):
             if parts_of_all == 1 and (int(last or 0) != len(script) or script[int(row) - 1].split(",")[0] != moment):
                 return f"{words} shows moment {moment}, row {row} of {last}"
             rows.append(int(part or row))
-        if threads == 1 and rows != sorted(rows) or len(rows) < 3:
-            return f"{words} shows {rows}"
+        if threads == 1 and rows != sorted(rows) or not 3 <= len(rows) <= most:
+            return f"{words} shows {rows}, and may show {most:.1f}"
+    begun = time.monotonic()
+    if (found := on_terminal(program, "run --workers 1", text)) != (said, lines, 0) and time.monotonic() - begun < FIRST:
+        return f"a short run on a terminal: {found[0]!r} {found[2]}"
     if (found := on_terminal(program, "--plain run --workers 1", text, threads=1)) != ("", lines, 0):
         return f"--plain run on a terminal: {found[0]!r} {found[2]}"
     return None
