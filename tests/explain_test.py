@@ -418,7 +418,8 @@ def progress(program):
             if parts_of_all == 1 and (int(last or 0) != len(script) or script[int(row) - 1].split(",")[0] != moment):
                 return f"{words} shows moment {moment}, row {row} of {last}"
             rows.append(int(part or row))
-        if threads == 1 and rows != sorted(rows) or not 3 <= len(rows) <= most:
+        # two threads play neighbours each, so what one shows lies among what the other does
+        if (threads == 1) != (rows == sorted(rows)) or not 3 <= len(rows) <= most:
             return f"{words} shows {rows}, and may show {most:.1f}"
     begun = time.monotonic()
     if (found := on_terminal(program, "run --workers 1", text)) != (said, lines, 0) and time.monotonic() - begun < FIRST:
