@@ -2,9 +2,9 @@
 """Holds the words together: the man page, the completions and the help against docs/FORMATS.md.
 
 tests/words_test.py [--program FILE] compares commands, options, ranges, what is left out, and the lines and kinds of
-faults, how each command is called, and runs the examples of the man page. It tries each number at the ends of its range,
-one past them and far above them, with the status and the line of its fault, and each option that may be left out beside
-what it is then. The version that is printed is the day of the changelog's newest section.
+faults, how each command is called, and runs the examples of the man page and of the help. It tries each number at the
+ends of its range, one past them and far above them, with the status and the line of its fault, and each option that
+may be left out beside what it is then. The version that is printed is the day of the changelog's newest section.
 """
 import argparse
 import os
@@ -43,6 +43,8 @@ NEEDS = {
     "run": ({}, call(10)),
     "serve": ({}, served(10)),
 }
+# What the example in a help is given besides: that of price has a switch.
+AS_IN_HELP = {"price": ["--after", "400"]}
 # Options that may be left out: words beside one, an input, and a word that gives another answer than what the option is
 # then.
 LEFT_OUT = [
@@ -232,6 +234,40 @@ def faults_of(what, name, program):
     return re.findall(r"^  (\w+)  ", text.partition(f"\nFaults of a {what}")[2], re.M)
 
 
+def told_of(name, program):
+    """The help of a command."""
+    return subprocess.run([program, "help", name], capture_output=True, text=True, check=True).stdout
+
+
+def statuses_in_help(program):
+    """The exit statuses that the help of each command tells, in order."""
+    return {it: re.findall(r"^  (\d)  ", told_of(it, program).partition("\nExit status:\n")[2].partition("\n\n")[0], re.M)
+            for it in {*NEEDS, "audit", "rate"}}
+
+
+def lengths_in_help(program):
+    """How long a row of `rate` and a line of `serve` may be, as their help says it."""
+    return {it: re.search(r"^  TooLong +More than (\d+) bytes$", told_of(it, program), re.M)[1] for it in ("rate", "serve")}
+
+
+def lengths_in_formats(text):
+    """The same, as the formats say it."""
+    line = {it[0]: it[1] for it in tables_of(text)["Fault of a line"]}["`TooLong`"]
+    return {"rate": re.search(r"A row of more than (\d+) bytes", text)[1], "serve": re.search(r"more than (\d+) bytes", line)[1]}
+
+
+def example_faults(program):
+    """What the example in the help of each command comes to, where it isn't taken as right."""
+    faults = []
+    for name in sorted({*NEEDS, "audit", "rate"}):
+        text = re.search(r"for example:\n\n((?:  .*\n)+)", told_of(name, program))[1].replace("\n  ", "\n")[2:]
+        needed = [it for pair in NEEDS.get(name, ({},))[0].items() for it in pair] + AS_IN_HELP.get(name, [])
+        ran = subprocess.run([program, name, *needed], input=text, capture_output=True, text=True)
+        if ran.returncode or ran.stderr or not ran.stdout:
+            faults.append(f"help: the example of {name}: {ran.returncode} {ran.stdout!r} {ran.stderr!r}")
+    return faults
+
+
 def ranges_in_help(program):
     """Of each command the ranges that its help tells: of the options, of the kinds, and between the times of a run."""
     found = {}
@@ -401,7 +437,7 @@ def main():
     of_bash, of_zsh = said_in_bash("completions/prepaid.bash", set(commands)), said_in_zsh("completions/_prepaid")
     defaults = {it: left for it, (_, left) in values.items() if left}
     words = {("run", "--default"): values["run", "--default"][0]}
-    faults = version_faults(program) + range_faults(program, values, lines) + long_books(program)
+    faults = version_faults(program) + range_faults(program, values, lines) + long_books(program) + example_faults(program)
 
     def same(where, what, found, wanted):
         if found != wanted:
@@ -425,6 +461,8 @@ def main():
     same("help", "faults of a line", faults_of("line", "serve", program), [it[0].strip("`") for it in tables_of(formats)["Fault of a line"]])
     same("help", "left out", of_help[1], {it: defaults[it] for it in defaults if it[0] == "run" or it in of_help[1]})
     same("help", "ranges", ranges_in_help(program), ranges_in_formats(formats, values))
+    same("help", "statuses", statuses_in_help(program), {it: list("0123" if it in ("audit", "rate") else "012") for it in {*NEEDS, "audit", "rate"}})
+    same("help", "lengths of a row and a line", lengths_in_help(program), lengths_in_formats(formats))
     for name, (found, told) in (("bash", of_bash), ("zsh", of_zsh)):
         same(name, "options", found, commands)
         same(name, "words", told, words)
