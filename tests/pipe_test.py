@@ -148,6 +148,19 @@ def rates_long_rows(program):
     return "; ".join(wrong) or None
 
 
+def rates_as_they_come(program):
+    """Rows are printed before more are waited for, once there are enough of them for one write."""
+    count, row, rated = 6000, "4930,0,600,ok\n", "4930,0,600,ok,49,600,0,1050,,\n"
+    wanted = "called,answer,time,note,prefix,before,after,price,difference,fault\n" + rated * count
+    with start(program, command="rate") as it:
+        send(it.stdin, "prefix,from,fee,rate\n49,00:00,50,1000\n%%\ncalled,answer,time,note\n" + row * count)
+        first = come(it.stdout, 65_536)
+        rest, faults = it.communicate(timeout=SECONDS)
+    if first != wanted[:65_536]:
+        return f"{len(first)} bytes of {count} rows, before the input ends: {first[:200]!r}"
+    return None if (first + rest.decode(), faults, it.returncode) == (wanted, b"", 0) else f"{faults} {it.returncode}"
+
+
 def ends_with_its_reader(program):
     """Where nobody reads its output any more, the service ends with status 2 and says nothing."""
     head, talk = live()
@@ -197,7 +210,7 @@ def main():
     asked = argparse.ArgumentParser(description=__doc__, formatter_class=argparse.RawDescriptionHelpFormatter)
     asked.add_argument("--program", default="bin/prepaid")
     program = os.path.abspath(asked.parse_args().program)
-    tries = [answers_in_turn, bounds_memory, rates_long_rows, ends_with_its_reader]
+    tries = [answers_in_turn, bounds_memory, rates_long_rows, rates_as_they_come, ends_with_its_reader]
     if shutil.which("socat"):
         tries.append(serves_a_port)
     else:
