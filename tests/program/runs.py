@@ -200,11 +200,34 @@ NO_RUNS = [
     ("prefix,from,fee,rate\r\n%%\r\nkind,key,value\n%%", "script row 1: Header"),
 ]
 
+# Four accounts whose calls go on side by side: three rows of each.
+BESIDE_SETUP = "".join(f"account,{it},1500\n" for it in "1234") + "".join(f"subscriber,49{it},{it}\n" for it in "1234")
+BESIDE = [(0, "start,49{0},4930"), (100, "answer,,"), (400, "disconnect,1,")]
+BESIDE_SCRIPT = "".join(f"{at + 10 * number},{number},{what.format(number)}\n" for at, what in BESIDE for number in range(1, 5))
+# In how many parts they are played, and of each account the number of its settle, which counts the messages of its part: two
+# parts have two accounts each, and three parts the first two, the third and the fourth.
+PARTS = [(1, (8, 11, 14, 17)), (2, (4, 7, 4, 7)), (3, (4, 7, 2, 2)), (4, (2, 2, 2, 2)), (5, (2, 2, 2, 2))]
+
+
+def beside_book(settles):
+    """The book of these calls, by the numbers of their settles."""
+    of_each = (
+        "{0},,opening,,1500,,,,,,,,,,\n"
+        "{0},0,reserve,{0},50,1000,,600,50,0,{0}0,granted,600,more,450\n"
+        "{0},0,settle,{0},{1},n,300,,,,,settled,550,,450\n"
+        "{0},0,return,{0},,,,,,,,returned,550,,950\n"
+    )
+    rows = "".join(of_each.format(number, settle) for number, settle in enumerate(settles, 1))
+    return f"account,seat,op,call,x1,x2,x3,x4,x5,x6,x7,reply,y1,y2,y3\n{rows}"
+
 
 def rows():
     for words, tariff, setup, script, output in PLAYED:
         yield Row(words, run_input(tariff, setup, script), output)
     yield [Row("run --book", run_input(BAND, ACCOUNT, AT_ONCE), book) for book in AT_ONCE_BOOKS]
+    for count, settles in PARTS:
+        text = run_input(BAND, BESIDE_SETUP, BESIDE_SCRIPT)
+        yield Row(f"run --parts {count} --book", text, beside_book(settles))
     for words, script, output in SILENT:
         yield Row(words, run_input(BAND, ACCOUNT, script), output)
     for words, script, output, line in REFUSING:
