@@ -165,6 +165,16 @@ RUNS = [
         "",
         "setup row 3: Number\nline 6 of the input: subscriber,x,7\ncolumn key: x is no 1 to 15 digits\n",
     ),
+    (
+        "account,4294967296,5\n",
+        "",
+        "setup row 3: Number\nline 6 of the input: account,4294967296,5\ncolumn key: 4294967296 is above 4294967295\n",
+    ),
+    (
+        "subscriber,491,4294967296\n",
+        "",
+        "setup row 3: Number\nline 6 of the input: subscriber,491,4294967296\ncolumn value: 4294967296 is above 4294967295\n",
+    ),
     ("", "5,1,answer,,\n", "script row 3: Order\nline 9 of the input: 5,1,answer,,\nmoment 5 lies below 10 in row 2\n"),
     (
         "",
@@ -268,6 +278,37 @@ ENTRIES = [
         "ops row 2: Number",
         "column x1: 18446744073709551616 is above 18446744073709551615",
     ),
+    (
+        "replay --opening 9",
+        OPS,
+        "0,credit,,5,2000000000001,,,,,",
+        "ops row 2: Number",
+        "column x2: 2000000000001 is above 2000000000000",
+    ),
+    (
+        "replay --opening 9",
+        OPS,
+        "0,reserve,1,9,9,1000000001,600,50,0,0",
+        "ops row 2: Number",
+        "column x3: 1000000001 is above 1000000000",
+    ),
+    ("replay --opening 9", OPS, "0,reserve,1,9,9,,600,864001,0,0", "ops row 2: Number", "column x5: 864001 is above 864000"),
+    ("replay --opening 9", OPS, "0,reserve,1,9,9,,600,50,864001,0", "ops row 2: Number", "column x6: 864001 is above 864000"),
+    (
+        "replay --opening 9",
+        OPS,
+        "0,reserve,1,9,9,,600,50,0,2000000000001",
+        "ops row 2: Number",
+        "column x7: 2000000000001 is above 2000000000000",
+    ),
+    ("replay --opening 9", OPS, "0,settle,1,0,s,5,0,,,", "ops row 2: Number", "column x4: 0 is below 1"),
+    (
+        "replay --opening 9",
+        STEPS,
+        "0,reserve,1,9,9,,600,50,0,0,864001,1",
+        "ops row 2: Number",
+        "column x8: 864001 is above 864000",
+    ),
     ("replay --opening 9", STEPS, "0,reserve,1,9,9,,600,50,0,0,0,0", "ops row 2: Number", "column x9: 0 is below 1"),
     (
         "audit",
@@ -291,6 +332,8 @@ ENTRIES = [
         "book row 3: What",
         "column y2: least; one of more, last",
     ),
+    ("audit", BOOK, "4294967296,,opening,,5,,,,,,,,,,", "book row 2: Number", "column account: 4294967296 is above 4294967295"),
+    ("audit", BOOK + OPENED, "7,16,credit,,1,,,,,,,credited,,,6", "book row 3: Number", "column seat: 16 is above 15"),
     ("audit", BOOK, "7,0,opening,,5,,,,,,,,,,", "book row 2: Empty", "column seat: 0, where opening takes nothing"),
     ("audit", BOOK, "7,,opening,,5,,,,,,,over,,,", "book row 2: Empty", "column reply: over, where opening takes nothing"),
     (
@@ -379,6 +422,11 @@ TARIFFS = [
         "prefix,from,fee,rate\n49,00:00,20.00,1000\n",
         "tariff row 2: Money\nline 2 of the input: 49,00:00,20.00,1000\n",
         "column fee: 20.00 is no decimal of 1 to 20 digits\n",
+    ),
+    (
+        "prefix,from,fee,rate\n49,00:00,1000000001,1000\n",
+        "tariff row 2: Money\nline 2 of the input: 49,00:00,1000000001,1000\n",
+        "column fee: 1000000001 is above 1000000000\n",
     ),
     (
         "prefix,from,fee,rate\n49,24:00,50,1000\n",
