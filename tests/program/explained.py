@@ -77,6 +77,14 @@ RUNS = [
         "column what: apply; one of start, answer, busy, noanswer, routefail, abandon, disconnect, recharge\n",
     ),
     (
+        "",
+        "20,1, Busy,,\n",
+        "script row 3: What\n"
+        "line 9 of the input: 20,1, Busy,,\n"
+        "column what:  Busy; one of start, answer, busy, noanswer, routefail, abandon, disconnect, recharge\n"
+        "the nearest is busy\n",
+    ),
+    (
         "acount,8,5\n",
         "",
         "setup row 3: What\n"
@@ -91,6 +99,21 @@ RUNS = [
         'line 9 of the input: 20,1,"answer,,\n'
         "3 fields, and the header has 5: moment,call,what,x,y\n"
         "a quote is open since line 9\n",
+    ),
+    (
+        "",
+        '20,1,"an\n""swer,,\n',
+        "script row 3: Csv\n"
+        'line 9 of the input: 20,1,"an\n'
+        "3 fields, and the header has 5: moment,call,what,x,y\n"
+        "a quote is open since line 9\n",
+    ),
+    (
+        "",
+        '20,1,hangup,,\n30,1,"busy,,\n',
+        "script row 3: What\n"
+        "line 9 of the input: 20,1,hangup,,\n"
+        "column what: hangup; one of start, answer, busy, noanswer, routefail, abandon, disconnect, recharge\n",
     ),
     (
         "",
@@ -242,6 +265,7 @@ PARTS = [
     ("%%\n" * 6, "6 lines that are %% alone, in line 1, in line 2, in line 3, in line 4, in line 5; wanted 2\n"),
     ("x\r\n%%\r\n%%\n%%", "3 lines that are %% alone, in line 2, in line 3, in line 4; wanted 2\n"),
     ("%%\n%\n%%%\n x%%\n", "1 line that is %% alone, in line 1; wanted 2\n"),
+    ("%%\n%%\t\n", "1 line that is %% alone, in line 1; wanted 2\nline 2 is %% with a blank at it\n"),
     ("%%\n %%\n%%\t\n", "1 line that is %% alone, in line 1; wanted 2\nline 2 is %% with a blank at it\n"),
 ]
 
