@@ -453,6 +453,11 @@ TARIFFS = [
         "column fee: 1000000001 is above 1000000000\n",
     ),
     (
+        "prefix,from,fee,rate\n49,00:00,50\n",
+        "tariff row 2: Csv\nline 2 of the input: 49,00:00,50\n",
+        "3 fields, and the header has 4: prefix,from,fee,rate\n",
+    ),
+    (
         "prefix,from,fee,rate\n49,24:00,50,1000\n",
         "tariff row 2: From\nline 2 of the input: 49,24:00,50,1000\n",
         "column from: 24:00 is no time of day from 00:00 to 23:59\n",
@@ -512,6 +517,11 @@ TOO_MANY = [
         PRICE,
         "before,after\n" + "0,0\n" * 10_001,
         f"reports row 10002: TooManyRows\nline 10002 of the input: 0,0\nat most 10000 rows; {MORE}",
+    ),
+    (
+        "quote --called 4930 --at 0",
+        "prefix,from,fee,rate\n" + "".join(f"{number},00:00,50,1000\n" for number in range(10_001)),
+        f"tariff row 10002: TooManyRows\nline 10002 of the input: 10000,00:00,50,1000\nat most 10000 rows; {MORE}",
     ),
     (
         "run",
