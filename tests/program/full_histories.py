@@ -54,11 +54,11 @@ def served():
 
 
 def played():
-    """A call for whose three entries there is one place too few."""
+    """A call for whose three entries there is one place too few, and a recharge of nothing."""
     setup, recharges = "account,7,0\nsubscriber,491700001,7\n", "0,,recharge,7,1\n" * (MOST - 2)
-    text = run_input(BAND, setup, f"{recharges}0,1,start,491700001,4930\n")
+    text = run_input(BAND, setup, f"{recharges}0,1,start,491700001,4930\n0,,recharge,7,0\n")
     line = f"account 7 opening 0 available {MOST - 2} entries {MOST - 2}\n"
-    return Row("run --workers 1", text, line, "prepaid: refused: 1 HistoryFull\n")
+    return Row("run --workers 1", text, line, "prepaid: refused: 1 OutOfRange, 1 HistoryFull\n")
 
 
 def traced():

@@ -210,6 +210,12 @@ COUNTED = [
     ),
     (
         "rate --summary",
+        "called,answer,time,paid\n4930,0,600,1000000000000000\n4930,0,600,0\n",
+        3,
+        "prepaid: rated: 2 rows, 2 differ, 0 faults, charged 1000000000000000, by the tariff 2100, over 999999999998950, under 1050\n",
+    ),
+    (
+        "rate --summary",
         "called,answer,time\n",
         0,
         "prepaid: rated: 0 rows, 0 differ, 0 faults, charged 0, by the tariff 0, over 0, under 0\n",
