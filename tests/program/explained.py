@@ -78,6 +78,14 @@ RUNS = [
     ),
     (
         "",
+        "20,1,release,,\n",
+        "script row 3: What\n"
+        "line 9 of the input: 20,1,release,,\n"
+        "column what: release; one of start, answer, busy, noanswer, routefail, abandon, disconnect, recharge\n"
+        "the nearest is recharge\n",
+    ),
+    (
+        "",
         "20,1, Busy,,\n",
         "script row 3: What\n"
         "line 9 of the input: 20,1, Busy,,\n"
@@ -496,6 +504,11 @@ TARIFFS = [
         f"{FULL}49,00:00,50,1000,0,0,1,12345\n49,00:00,50,1000,0,0,1,67\n49,00:00,0,500,0,0,1,7\n",
         "tariff row 4: Repeated\nline 4 of the input: 49,00:00,0,500,0,0,1,7\n",
         "prefix 49 from 00:00 is in row 3 already\n",
+    ),
+    (
+        f"{FULL}49,00:00,50,1000,0,0,1,67\n49,08:00,50,1000,0,0,1,\n49,00:00,0,500,0,0,1,\n",
+        "tariff row 4: Repeated\nline 4 of the input: 49,00:00,0,500,0,0,1,\n",
+        "prefix 49 from 00:00 is in row 2 already\n",
     ),
     (
         f"{FULL}49,00:00,50,1000,0,0,1,12345\n49,08:00,0,500,0,0,1,67\n",
