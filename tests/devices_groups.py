@@ -1,4 +1,4 @@
-"""Lines of the service that come together, and its input, its output or its log that fails among them."""
+"""Lines of the service that come together, and its input, its output or its log that fails or is interrupted among them."""
 import errno
 import sys
 from itertools import accumulate
@@ -160,6 +160,19 @@ def input_fails(trial):
     return trial.each(do, [(count, more) for count in range(len(LINES)) for more in (0, 1)])
 
 
+def input_is_interrupted(trial):
+    """An input that is interrupted once, behind each of its bytes, is logged and answered as one that isn't."""
+    text = HEAD + b"".join(LINES)
+
+    def do(room):
+        where, path = f"the input is interrupted behind {room} bytes", trial.new()
+        said = trial.run(path, text, "--book", env=trial.failing(input_room=room, input_error=errno.EINTR))
+        same(where, said, (0, WHOLE, b""))
+        same(where, read(path), MESSAGES.logged())
+
+    return trial.each(do, range(len(text)))
+
+
 def takes_no_more_lines_at_once(trial):
     """Of many lines that come together no more are logged and answered together than may be, and as many are."""
     path, told = trial.new(), trial.new()
@@ -176,4 +189,4 @@ def takes_no_more_lines_at_once(trial):
     return 1
 
 
-GROUPED = [come_together, log_fails, output_fails, input_fails, takes_no_more_lines_at_once]
+GROUPED = [come_together, log_fails, output_fails, input_fails, input_is_interrupted, takes_no_more_lines_at_once]
