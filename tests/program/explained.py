@@ -230,6 +230,11 @@ RUNS = [
         "setup row 4: Repeated\nline 7 of the input: subscriber,491700001,7\nsubscriber 491700001 is in row 3 already\n",
     ),
     (
+        "subscriber,491700001,7\nsubscriber,0491700001,7\nsubscriber,0491700001,7\n",
+        "",
+        "setup row 5: Repeated\nline 8 of the input: subscriber,0491700001,7\nsubscriber 0491700001 is in row 4 already\n",
+    ),
+    (
         "subscriber,491700001,8\n",
         "",
         "setup row 3: Unknown\nline 6 of the input: subscriber,491700001,8\naccount 8 isn't above this row\n",
@@ -277,15 +282,25 @@ PARTS = [
     ("%%\n %%\n%%\t\n", "1 line that is %% alone, in line 1; wanted 2\nline 2 is %% with a blank at it\n"),
 ]
 
-# A header that operations haven't, and what is said of it.
-HEADER = (
-    "replay --opening 9",
-    "seat,op,call,x1\n",
-    "ops row 1: Header\n"
-    "line 1 of the input: seat,op,call,x1\n"
-    "wanted: seat,op,call,x1,x2,x3,x4,x5,x6,x7,x8,x9, or without x8 and x9, x7 to x9, or x6 to x9\n"
-    "found: seat,op,call,x1\n",
-)
+# Headers that operations and books haven't, and what is said of them.
+HEADERS = [
+    (
+        "replay --opening 9",
+        "seat,op,call,x1\n",
+        "ops row 1: Header\n"
+        "line 1 of the input: seat,op,call,x1\n"
+        "wanted: seat,op,call,x1,x2,x3,x4,x5,x6,x7,x8,x9, or without x8 and x9, x7 to x9, or x6 to x9\n"
+        "found: seat,op,call,x1\n",
+    ),
+    (
+        "audit",
+        "account,seat,op\n",
+        "book row 1: Header\n"
+        "line 1 of the input: account,seat,op\n"
+        "wanted: account,seat,op,call,x1,x2,x3,x4,x5,x6,x7,x8,x9,reply,y1,y2,y3, or an older one\n"
+        "found: account,seat,op\n",
+    ),
+]
 
 # Words, an input up to a row, that row with what is behind it, its fault, and what is said of it.
 ENTRIES = [
@@ -568,5 +583,5 @@ def rows():
         yield explained(words, table + row, f"{fault}\nline {line} of the input: {shown}\n{more}\n")
     for text, line, more in TARIFFS:
         yield explained("quote --called 4930 --at 0", text, line + more)
-    for words, text, slip in [HEADER, *TOO_MANY]:
+    for words, text, slip in [*HEADERS, *TOO_MANY]:
         yield explained(words, text, slip)

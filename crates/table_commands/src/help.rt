@@ -7,7 +7,7 @@ pub(crate) const VERSION: &str = "2026-11-26";
 /// Behind the options of `price`.
 pub(crate) const PRICE: &str = "\
 Times are in units of 100 ms, money in the smallest coin, a rate is money a minute.
-Input, for example:
+Input, with --after for example:
 
   before,after
   0,0

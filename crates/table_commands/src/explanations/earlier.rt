@@ -7,7 +7,7 @@ use crate::explanations::row_line::Shown;
 use crate::explanations::said::Said;
 use csv::ByteRecord;
 use std::alloc::Global;
-use table_core::{Rows, field, has_word};
+use table_core::{Rows, field, has_word, is_word};
 
 /// Adds why a row may not come behind the one above it.
 pub(crate) fn push_order(said: &mut Said, alloc: Global, table: Faulty<'_>, row: &ByteRecord) {
@@ -48,7 +48,12 @@ pub(crate) fn push_repeated(said: &mut Said, alloc: Global, table: Faulty<'_>, r
         Slip::Setup(_) => (0, 1, field(row, 0)),
         _ => (2, 0, "account".as_bytes()),
     };
-    let sought = Sought::Named { row, word, key };
+    let sought = Sought::Named {
+        row,
+        word,
+        key,
+        is_number: !is_word(name, "subscriber"),
+    };
     if let Some(number) = find_above(said, alloc, table, sought) {
         let name = Shown(name);
         let key = shown_at(row, key);

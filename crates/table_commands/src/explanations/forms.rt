@@ -240,7 +240,7 @@ pub(crate) fn headers_of(slip: Slip) -> &'static str {
             "seat,op,call,x1,x2,x3,x4,x5,x6,x7,x8,x9, or without x8 and x9, x7 to x9, or x6 to x9"
         }
         Slip::Book(_) => {
-            "account,seat,op,call,x1,x2,x3,x4,x5,x6,x7,reply,y1,y2,y3, or an older one"
+            "account,seat,op,call,x1,x2,x3,x4,x5,x6,x7,x8,x9,reply,y1,y2,y3, or an older one"
         }
         Slip::Tariff(_) | Slip::RunTariff(_) => {
             "prefix,from,fee,rate,free,first,step,days, or without days, first to days, \

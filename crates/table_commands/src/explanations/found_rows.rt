@@ -50,8 +50,10 @@ pub(crate) enum Sought<'a> {
         row: &'a ByteRecord,
         /// The column in which both have a word.
         word: usize,
-        /// The column in which both have a text or a number.
+        /// The column in which both have a text.
         key: usize,
+        /// Whether that is a number, so that zeros in front of it make no difference.
+        is_number: bool,
     },
     /// A row that has the prefix and the start of this one, and a day in common with it.
     Band(&'a ByteRecord),
@@ -84,18 +86,18 @@ fn has(row: &ByteRecord, sought: Sought<'_>) -> bool {
             row: named,
             word,
             key,
+            is_number,
         } => {
-            field(row, word) == field(named, word) && are_same(field(row, key), field(named, key))
+            let (one, other) = (field(row, key), field(named, key));
+            field(row, word) == field(named, word)
+                && (one == other || is_number && are_same_number(one, other))
         }
         Sought::Band(band) => is_repeated(row, band),
     }
 }
 
-/// Whether two fields have the same text, or are the same number.
-fn are_same(one: &[u8], other: &[u8]) -> bool {
-    if one == other {
-        return true;
-    }
+/// Whether two fields are the same number.
+fn are_same_number(one: &[u8], other: &[u8]) -> bool {
     match (decimal(one, u64::MAX), decimal(other, u64::MAX)) {
         (Some(one), Some(other)) => one == other,
         _ => false,
