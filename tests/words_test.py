@@ -240,7 +240,7 @@ def told_of(name, program):
 
 
 def statuses_in_help(program):
-    """The exit statuses that the help of each command tells, in order."""
+    """The exit statuses that the help of each command has, in order."""
     return {it: re.findall(r"^  (\d)  ", told_of(it, program).partition("\nExit status:\n")[2].partition("\n\n")[0], re.M)
             for it in {*NEEDS, "audit", "rate"}}
 
@@ -302,6 +302,7 @@ def ranges_in_formats(text, values):
         wanted |= {(name, kind): [it] for kind, it in zip(("Digits", "From", "Money", "Free", "First", "Step"), numbers_of(rows["tariff"]))}
     wanted["run", "Number"] = wanted["serve", "Number"] = re.findall(r"a party that isn't (\d+ to \d+) digits", text)
     wanted["price", "Number"] = numbers_of(rows["reports"])
+    wanted["replay", "--limit"] = numbers_of(values["replay", "--limit"][0])
     wanted["price", "Order"] = [numbers_of(rows["reports"])[0].split()[-1]]
     wanted["run", "--workers"] = re.findall(r"takes (\d+ to \d+)", values["run", "--workers"][0])
     wanted["run", "--threads"] = numbers_of(values["run", "--threads"][0])
