@@ -6,7 +6,7 @@ use plain_call::{Call, MAX_MONEY};
 use std::collections::{BTreeMap, HashMap};
 use std::io::{Read, Write};
 
-/// Where the free units of a reserve stand, and its moment. The reply stands behind them.
+/// Where the free units of a reserve are, and its moment. The reply is behind them.
 const X6: usize = 9;
 const X7: usize = 10;
 

@@ -194,7 +194,7 @@ impl<'a> Network<'a> {
         self.dues.extend(switch.next_due().map(|due| Reverse((due, key))));
     }
 
-    /// When a timer is due first. What stands in the heap for a timer that was stopped is dropped.
+    /// When a timer is due first. What the heap has of a timer that was stopped is dropped.
     fn first_due(&mut self) -> Option<u64> {
         while let Some(Reverse((due, key))) = self.dues.peek() {
             if self.switches[key].next_due() == Some(*due) {

@@ -83,7 +83,7 @@ class Input:
                     yield line.decode("latin-1")
 
     def rows(self, name, headers, start, end):
-        """The header, and then the fields of each row with what tells a fault of the row."""
+        """The header, and then the fields of each row with what raises a fault of the row."""
         rows = (it for it in csv.reader(without_mark(self.lines(start, end))) if it)
         header = next(rows, None)
         if header not in headers:

@@ -24,7 +24,7 @@ def merge(paths):
                 if found := ACCOUNT.fullmatch(line):
                     number = int(found[1])
                     if number in accounts:
-                        raise Wrong(f"{path}: account {number} stands in two parts")
+                        raise Wrong(f"{path}: account {number} is in two parts")
                     accounts[number] = line
                 elif found := CALL.fullmatch(line):
                     calls.append((int(found[1]), int(found[2]), line))

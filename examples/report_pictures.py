@@ -1,7 +1,7 @@
 """The pictures of a report, as SVG: the balance of an account, the calls of an account over time, and bars.
 
 A picture is as wide as there is room, and its text doesn't grow with it: places are percents, and what is drawn over
-time stands in an inner picture whose units are those of the tables, 100 ms across and money, or lanes, upwards. So a
+time is in an inner picture whose units are those of the tables, 100 ms across and money, or lanes, upwards. So a
 path has moments (from the start of the axis) and amounts as they are.
 """
 import heapq

@@ -2,7 +2,7 @@
 """Runs the commands of the pages as they stand: tests/docs_test.py [--program FILE] [--all] [PAGE..]
 
 A block ```console has commands, a line `$ WORDS` each, and below each what it prints. They run in a folder of their own
-for each page, which has `bin/prepaid` and `examples`, and what they print, errors too, must be what stands there, byte
+for each page, which has `bin/prepaid` and `examples`, and what they print, errors too, must be what is there, byte
 for byte. A command that wants a program that isn't here is passed over, and told; with --all that is a failure. Of
 `cd crates/NAME && rt run` the text is compared with crates/NAME/stdout, since the gate compares the program with that.
 In a table with the columns Command and Audit each command makes a book: its audit says yes for each account, or for one

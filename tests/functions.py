@@ -7,7 +7,7 @@ HEAD = re.compile(r"( *)(?:pub(?:\([^)]*\))? )?(?:const )?(?:unsafe )?fn (\w+)")
 
 @dataclasses.dataclass(frozen=True)
 class Function:
-    """A function of a crate: its file, its lines there, its name, and the impl that it stands in."""
+    """A function of a crate: its file, its lines there, its name, and the impl that it is in."""
 
     file: str
     first: int
@@ -20,7 +20,7 @@ class Function:
         return "::".join([*([own_type(self.impl)] if self.impl else module_of(self.file)), self.name])
 
     def is_called(self, path, crate):
-        """Tells whether the prover calls it by this path: a method stands below its type, and its trait's name."""
+        """Whether the prover calls it by this path: a method is below its type, and its trait's name."""
         *above, name = path.split("::")
         if name != self.name:
             return False

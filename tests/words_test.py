@@ -16,7 +16,7 @@ import tempfile
 HELP = {"-h", "--help"}
 # What the program takes in the place of a command, and in front of one.
 VERSION = {"-V", "--version", "--explain", "--plain"}
-# Kinds of a tariff's faults that the program tells as those of a run.
+# Kinds of a tariff's faults that the program says as those of a run.
 OF_RUN = {"Device", "OutOfMemory"}
 TABLES_NAMED = r"(reports|ops|setup|script|book|records|messages) row"
 
@@ -126,7 +126,7 @@ def plain(line):
 
 
 def entries_of(text):
-    """What the man page tells of each term: (section, sub-section, term, text)."""
+    """What the man page says of each term: (section, sub-section, term, text)."""
     section = below = None
     entries, lines = [], text.split("\n")
     for at, line in enumerate(lines):
@@ -269,7 +269,7 @@ def example_faults(program):
 
 
 def ranges_in_help(program):
-    """Of each command the ranges that its help tells: of the options, of the kinds, and between the times of a run."""
+    """Of each command the ranges that its help has: of the options, of the kinds, and between the times of a run."""
     found = {}
     for name in NEEDS | {"audit": None}:
         text = subprocess.run([program, "help", name], capture_output=True, text=True, check=True).stdout
@@ -284,7 +284,7 @@ def ranges_in_help(program):
 
 
 def numbers_of(said):
-    """The ranges and the limits that a text tells, without its unit and what is left out."""
+    """The ranges and the limits that a text has, without its unit and what is left out."""
     return re.findall(r"[\d:]+ to \d+(?::\d+)?|\d{3,}", re.sub(r"\[.*|\d+ ms", "", said))
 
 
@@ -377,7 +377,7 @@ def refusal(name, option, value, allowed, defaults):
     least, most = ends_of(name, allowed, defaults)
     if least <= value <= most:
         return ""
-    # a decimal has at most 20 digits; how many workers may be asked for stands first in their range
+    # a decimal has at most 20 digits; how many workers may be asked for comes first in their range
     asked = re.match(r"\d+ to (\d+);", allowed)
     is_ask = name not in ("run", "serve") or option in ("--again", "--parts", "--threads")
     if is_ask or value >= 10**20 or asked and value > int(asked[1]):
