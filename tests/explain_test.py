@@ -324,6 +324,7 @@ TYPED = [
     ("price --fee 50 --before 1000", "reports row 1: Header"),
     ("replay --opening 5000", "ops row 1: Header"),
     ("run", "input: Parts"),
+    ("run --into help", "input: Parts"),
     ("audit", "book row 1: Header"),
     ("quote --called 4930 --at 0", "tariff row 1: Header"),
     ("rate", "input: Parts"),

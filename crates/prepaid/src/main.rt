@@ -26,8 +26,11 @@ const READ_AHEAD: usize = 65_536;
 /// The commands, each of which reads standard input.
 const COMMANDS: [&str; 7] = ["price", "replay", "run", "audit", "quote", "rate", "serve"];
 
-/// The words that ask for a help or the version.
-const HELP: [&str; 5] = ["help", "--help", "-h", "--version", "-V"];
+/// The words that may be in front of a command.
+const FRONT: [&str; 2] = ["--explain", "--plain"];
+
+/// The words that ask for the help of a command, or for the version.
+const HELP: [&str; 4] = ["--help", "-h", "--version", "-V"];
 
 /// What is said where the input comes from a terminal.
 const WAITING: &str = "prepaid: the input comes from this terminal; Ctrl-D in a new line ends it";
@@ -83,10 +86,16 @@ fn begins(words: &[String], first: &str) -> bool {
 
 /// Whether words ask for a command, which waits for its input.
 fn wait(words: &[String]) -> bool {
-    has_one_of(words, &COMMANDS) && !has_one_of(words, &HELP)
+    for word in words {
+        let word = word.as_str();
+        if !FRONT.contains(&word) {
+            return COMMANDS.contains(&word) && !ask_for_help(words);
+        }
+    }
+    false
 }
 
-/// Whether one of the words is among these.
-fn has_one_of(words: &[String], sought: &[&str]) -> bool {
-    words.iter().any(|word| sought.contains(&word.as_str()))
+/// Whether words ask for the help of a command.
+fn ask_for_help(words: &[String]) -> bool {
+    words.iter().any(|word| HELP.contains(&word.as_str()))
 }
