@@ -352,8 +352,13 @@ def terminals(program):
         if (found := on_terminal(program, front + words, text)) != (wanted, "", 1):
             return f"{front}{words} on a terminal: {found}"
     for words, fault in TYPED:
-        if (found := on_terminal(program, f"--plain {words}")) != (f"{WAITING}prepaid: {fault}\n", "", 1):
+        said = f"{WAITING}prepaid: {fault}\n"
+        if (found := on_terminal(program, f"--plain {words}")) != (said, "", 1):
             return f"--plain {words} typed: {found}"
+        for front in ("", "--explain "):
+            found = on_terminal(program, front + words)
+            if not found[0].startswith(said) or found[1:] != ("", 1):
+                return f"{front}{words} typed: {found}"
     if (found := beside_terminal(program, "run")) != ("", "prepaid: input: Parts\n", 1):
         return f"run typed, with another error writer: {found}"
     for words in ["--version", "-V", "run --help", "run -h", "help", "help run"]:
