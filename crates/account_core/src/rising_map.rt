@@ -29,7 +29,7 @@ impl<V: Copy> Drop for RisingMap<V> {
 /// How the values are kept.
 #[derive(Drop)]
 enum Form<V: Copy> {
-    /// The numbers came by rising order.
+    /// The numbers came in rising order.
     Rising(Vec<(u64, V)>),
     /// They did not.
     Mixed(BTreeMap<u64, V>),
@@ -180,7 +180,7 @@ pub fn is_above<V>(list: &[(u64, V)], number: u64) -> bool
     }
 }
 
-/// Where a number is in a list, if it does. Numbers rise, so one that is so far below the last
+/// Where a number is in a list, if it is there. Numbers rise, so one that is so far below the last
 /// one is at most as many places before it. It is looked for there first, where it is if no
 /// number is left out, and then in the places after that.
 #[inline(always)]
@@ -201,7 +201,7 @@ pub fn place_of<V>(list: &[(u64, V)], number: u64) -> Option<usize>
     place_from(list, first, number)
 }
 
-/// Where a number is in a list from a place on, if it does.
+/// Where a number is in a list from a place on, if it is there.
 fn place_from<V>(list: &[(u64, V)], first: usize, number: u64) -> Option<usize>
     requires rising { AreRising list.now }
     requires within { first ≤ length list.now }
