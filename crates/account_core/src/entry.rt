@@ -36,7 +36,8 @@ pub enum Op {
     Settle {
         /// The call.
         call: u64,
-        /// The number of the mail that brought the report. It is kept and not judged.
+        /// The number of the message that brought the report, in a run that of its post. It is kept
+        /// and not judged.
         number: u64,
         /// The times of the report, cumulative from the call's answer.
         info: TimeInfo,

@@ -16,7 +16,7 @@ use std::fmt;
 pub enum AccountFault {
     /// Memory ran out.
     OutOfMemory = 1,
-    /// The history may not grow so far that a call could still be closed.
+    /// With the entry and the places owed for closing calls the history would pass its limit.
     HistoryFull = 2,
     /// A Settle or a Return of a call that isn't open.
     NotOpen = 3,
@@ -25,7 +25,7 @@ pub enum AccountFault {
     /// An amount of 0 or above the largest money, a wanted time of 0 or above a day, or a least
     /// time above a day.
     OutOfRange = 5,
-    /// The gate of an account that is shared was closed.
+    /// The gate of a shared account answered false.
     GateClosed = 6,
 }
 

@@ -30,7 +30,7 @@ pub struct Audit {
     /// A line `account A yes` or `account A no` for each account, by rising number; or the lines of
     /// the books.
     pub lines: String,
-    /// Whether each of them is a yes.
+    /// Whether the history of each account is legal.
     pub passes: bool,
 }
 

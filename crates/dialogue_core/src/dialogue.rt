@@ -82,8 +82,8 @@ impl Dialogue {
         (dialogue, reserve(terms, now))
     }
 
-    /// Takes a message of the gsmSSF, the `number`-th of its mails, at a moment: where more time is
-    /// asked for after a report, it is asked for at the report's moment.
+    /// Takes a message of the gsmSSF, with its number, at a moment: where more time is asked for
+    /// after a report, it is asked for at the report's moment.
     pub fn take(&mut self, number: u64, at: u64, message: SsfMsg) -> Result<Turn, DialogueFault>
         ensures ok { IfOk result (λ turn.
             on_message (phase_of self.old) number at message

@@ -40,7 +40,7 @@ pub(crate) enum Then {
     GoOn,
     /// The call is cleared, as the credit is used up.
     Clear,
-    /// The call is cleared, as the account failed.
+    /// The call is cleared, as a report was a forfeit, or the account refused what was asked.
     Fail,
     /// The dialogue is over.
     Close,

@@ -30,9 +30,9 @@ use table_core::write_text;
 ///
 /// - 0: all of the answer went to `output`.
 /// - 1: a fault of the words or the input.
-/// - 2: the run failed: memory ran out, or an input, an output or a log failed.
+/// - 2: the run failed: memory ran out, or an input, an output, a log or a file failed.
 /// - 3: all of the answer went to `output`, and an audit found an account's history wrong, or a
-///   rating a row.
+///   rating a row that differs or has a fault.
 ///
 /// A fault goes to `faults` as one line, and then nothing goes to `output`; but the rows of `rate`
 /// and of `serve` are printed as they come, so where their input, a log or memory fails in the

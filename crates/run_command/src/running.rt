@@ -27,9 +27,8 @@ use std::thread::Threads;
 /// the call refused them. A run may be played in parts, each of neighbouring accounts and of all
 /// that the script says of them; its text is that of the books and the calls of all parts together.
 ///
-/// The input is judged first, its parts in order, and its first fault is the result. `Workers`
-/// where there can't be so many workers; any other fault of a run comes as `runs_core::serve` has
-/// it.
+/// The input is judged first, its sections in order, and its first fault is the result. `Workers`
+/// where there aren't 1 to 16 workers; any other fault of a run comes as `runs_core::serve` has it.
 ///
 /// While it goes on, `watch` is shown how far it is, after two seconds, each fifth of a second.
 pub fn run<R: Wait + Threads + Sync, W: Watch + Sync>(

@@ -21,7 +21,7 @@ pub(crate) struct Start {
     pub script: Vec<ScriptRow>,
 }
 
-/// What the run of an input begins with. The input is judged, its parts in order, and its first
+/// What the run of an input begins with. The input is judged, its sections in order, and its first
 /// fault is the result.
 pub(crate) fn set_up(alloc: Global, options: &RunOptions, input: &[u8]) -> Result<Start, RunError>
     ensures start { IfOk result (λ start.

@@ -9,7 +9,7 @@ use crate::standing::Standing;
 /// What became of a call: the first of these that fits.
 #[derive(Clone, Copy)]
 pub enum Outcome {
-    /// The calling number is no subscriber.
+    /// The calling number is no subscriber's.
     Unknown,
     /// No prefix of the tariff fits the called number.
     NoRoute,
@@ -33,7 +33,7 @@ pub enum Outcome {
     Ended,
     /// Its credit ended: it was denied after a grant, or has used up its last grant.
     Cut,
-    /// A timer or the service ended it, or it was given up before the orders came.
+    /// A timer or the service ended it, or it was given up before its instructions came.
     Released,
 }
 

@@ -25,7 +25,7 @@ const MAX_ROWS: u32 = 10_000;
 /// or with the older header `kind,key,value`, where no account has a last moment.
 ///
 /// Rows are judged in order as they are read, a row in this order: `Csv` where it hasn't the
-/// header's fields; `TooManyRows` past 10,000 rows and 1,000 accounts; `What` where its first word
+/// header's fields; `TooManyRows` past 10,000 rows or 1,000 accounts; `What` where its first word
 /// is another one; `Number` where an account's number isn't a decimal of 32 bits, an opening credit
 /// not one of 0 to `price_core::MAX_MONEY`, its last moment not one of 0 to `MAX_MOMENT`, or a
 /// subscriber not 1 to 15 digits; `Empty` where a subscriber has a last moment; `Repeated` where it

@@ -13,7 +13,7 @@ use std::fmt;
 pub enum RunFault {
     /// Memory ran out.
     OutOfMemory = 1,
-    /// There can't be so many workers, or none. Nothing was started.
+    /// There aren't 1 to 16 workers. Nothing was started.
     Workers = 2,
     /// A gate answered false.
     GateClosed = 3,

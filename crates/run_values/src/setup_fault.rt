@@ -19,8 +19,8 @@ pub enum SetupFault {
     Repeated = 1,
     /// The account of a subscriber isn't among the accounts.
     Unknown = 2,
-    /// The history limit, the count of accounts or of subscribers, or an opening credit is out of
-    /// its range.
+    /// The history limit, the count of accounts or of subscribers, an opening credit or its last
+    /// moment is out of its range.
     OutOfRange = 3,
     /// Memory ran out.
     OutOfMemory = 4,

@@ -45,7 +45,7 @@ const MAX_WORKERS: u32 = 16;
 ///   the books are what handling all that it has given comes to. `HasRun` says what that is, a
 ///   sentence each.
 /// * `ended`, `agenda`: with books the driver has ended, and always its agenda is what it was.
-/// * `workers`, `nothing`: `Workers` exactly where there can't be so many workers; then nothing is
+/// * `workers`, `nothing`: `Workers` exactly where there aren't 1 to 16 workers; then nothing is
 ///   started.
 /// * `gate`: `GateClosed` only with a gate that may answer false.
 ///

@@ -115,7 +115,7 @@ fn tccd_due(stage: &Stage) -> Option<Moment>
     }
 }
 
-/// When Tssf is due: some time after the last input.
+/// When Tssf is due: some time after it was last started.
 fn tssf_due(stage: &Stage) -> Option<Moment>
     ensures { result ≡ stage_due stage.now Timer.Tssf }
 {

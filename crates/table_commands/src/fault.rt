@@ -1,4 +1,4 @@
-//! What a run of the program may have to refuse.
+//! Why the program prints no answer.
 
 ghost use Rattle.std.specs.Prelude.{◌≡◌, Some};
 ghost use Rattle.table_commands.specs.Faults.{line_of_fault, text_of_table_name, of_words};
@@ -82,8 +82,8 @@ pub enum Fault {
 impl Fault {
     ghost use Rattle.table_commands.specs.Faults.{in_table, no_header, of_rate, of_run_input, status_of};
 
-    /// The exit status: 1 for a fault of the words or the input, 2 where the run itself, its log or
-    /// its files failed.
+    /// The exit status: 1 for a fault of the words or the input, 2 where standard input, memory, a
+    /// run, its log or its files failed.
     pub fn status(self) -> u8
         ensures { result ≡ status_of self }
     {

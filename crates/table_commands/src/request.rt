@@ -22,10 +22,10 @@ pub enum Request<'a> {
     Replay(Opening),
     /// A run of a script, which is printed.
     Run(RunOptions),
-    /// A run of a script, whose lines and tables go into the folder at this path. It is that of a
+    /// A run of a script, whose lines and tables go into the folder at this path. Its output is a
     /// trace, whose clock is that of the calls too.
     RunInto(RunOptions, &'a str),
-    /// The audit of a table of books of this size at most.
+    /// The audit of a table of books.
     Audit(AuditAsk),
     /// What a call to a number costs.
     Quote(QuoteAsk),

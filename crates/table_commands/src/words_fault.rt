@@ -10,7 +10,7 @@ use std::alloc::AllocError;
 pub enum WordsFault {
     /// They ask for nothing that the program does.
     Arguments,
-    /// A time that `run` is asked for is out of its range.
+    /// A time that `run` or `serve` is asked for is out of its range.
     Config,
     /// Memory ran out.
     OutOfMemory,

@@ -33,7 +33,7 @@ const MONEY: Wants = Wants::Number(0, MAX_MONEY);
 /// What a column takes that has a fee or a rate.
 const RATE: Wants = Wants::Number(0, MAX_RATE);
 
-/// What a column takes that has digits of a subscriber.
+/// What a column takes that has the number of a party.
 const PARTY: Wants = Wants::Digits(1, 15);
 
 /// What a column takes that has a seat.
@@ -42,10 +42,10 @@ const SEAT: Wants = Wants::Number(0, 15);
 /// What a column takes that has the moment of an event.
 const MOMENT: Wants = Wants::Moment(MAX_MOMENT);
 
-/// What a column takes that has the end of an account, or nothing: a decimal or a date.
+/// What a column takes that has the last moment of an account, or nothing: a decimal or a date.
 const UNTIL_MOMENT: Wants = Wants::OptionalMoment(MAX_MOMENT);
 
-/// What a column takes that has the end of an account as a decimal, or nothing.
+/// What a column takes that has the last moment of an account as a decimal, or nothing.
 const UNTIL: Wants = Wants::Optional(0, HORIZON);
 
 /// A part of a row, of which some columns take something and the others nothing.
