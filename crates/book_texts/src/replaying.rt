@@ -34,6 +34,12 @@ const OP: usize = 1;
 
 /// One line a row: the account's reply, or the fault that refused the operation. The account opens
 /// with this credit and no last moment, and its history may have as many entries as `limit`.
+///
+/// Rows are judged in order as they are read, a row in this order: `Csv` where it has another
+/// number of fields than the header; `TooManyRows` past 10,000 rows; `What` where the word of its
+/// operation, or of a settle's report, is another one; `Number` where a field isn't a decimal
+/// within its range; `Empty` where a field that must be empty isn't. `Header` is the fault of row
+/// 1.
 pub fn replay<I: Read + Drop>(
     alloc: Global,
     opening: u64,

@@ -16,7 +16,7 @@ pub struct Cause {
 impl Cause {
     ghost use Rattle.cap_values.specs.CauseValues.{unallocated_number, normal_call_clearing, call_rejected, temporary_failure};
 
-    /// The cause of a number.
+    /// The cause of a number; else `ParameterOutOfRange`.
     pub fn new(value: u8) -> Result<Cause, ValueFault>
         ensures made { IsOk result ↔ ((1 ≤ value) × (value ≤ 127)) }
         ensures value { IfOk result (λ cause. cause.value ≡ value) }

@@ -29,7 +29,8 @@ pub struct Charge {
 }
 
 impl Charge {
-    /// The charge of these parameters. A period has to be given.
+    /// The charge of these parameters. `MissingParameter` where no period is given; else
+    /// `ParameterOutOfRange` where the period or the switch is out of its range.
     pub fn new(
         period: Option<u32>,
         switch: Option<u32>,

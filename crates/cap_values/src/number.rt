@@ -26,7 +26,7 @@ pub struct Number {
 impl Number {
     ghost use Rattle.cap_values.specs.NumberDigits.{digits_of_number};
 
-    /// The number that a text writes.
+    /// The number that a text of 1 to `MAX_DIGITS` ASCII digits writes; else `ParameterOutOfRange`.
     pub fn new(text: &str) -> Result<Number, ValueFault>
         ensures made { IsOk result ↔ IsTrue (is_number text.now) }
         ensures digits { IfOk result (λ number. digits_of_number number ≡ text.now) }

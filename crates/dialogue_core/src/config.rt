@@ -23,7 +23,7 @@ pub struct ServiceConfig {
 }
 
 impl ServiceConfig {
-    /// The configuration of these times.
+    /// The configuration of these times; else `ParameterOutOfRange`.
     pub fn new(wanted: u32, least: u32, tccd: u32) -> Result<ServiceConfig, ValueFault>
         ensures made { IsOk result ↔ IsService wanted least tccd }
         ensures wanted { IfOk result (λ config. config.wanted ≡ wanted) }

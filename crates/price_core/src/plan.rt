@@ -37,11 +37,11 @@ impl Error for PlanRange {}
 /// free, and in which steps the rest is billed.
 #[derive(Clone, Copy, Debug, PartialEq, Eq)]
 pub struct Plan {
-    /// Charged once, as soon as any time is talked.
+    /// Charged once, as soon as any time is talked: 0 to `MAX_RATE`.
     pub fee: u64,
-    /// The rate a minute before the tariff switch.
+    /// The rate a minute before the tariff switch: 0 to `MAX_RATE`.
     pub before: u64,
-    /// The rate a minute after the switch, where the plan has one.
+    /// The rate a minute after the switch, where the plan has one: 0 to `MAX_RATE`.
     pub after: Option<u64>,
     /// How many units of 100 ms cost nothing, 0 to `DAY`: the first of the time before the switch,
     /// and where that was shorter, the first after it. The fee is charged all the same.
@@ -63,8 +63,8 @@ pub struct Plan {
 impl Plan {
     ghost use Rattle.price_core.specs.RatesOf.{rates_of};
 
-    /// The plan of a fee and one or two rates a minute, without free units, each unit billed by
-    /// itself.
+    /// The plan of a fee and one or two rates a minute, each 0 to `MAX_RATE`, without free units,
+    /// each unit billed by itself.
     pub fn new(fee: u64, before: u64, after: Option<u64>) -> Result<Plan, PlanRange>
         ensures made { IsOk result ↔ AreRates fee before after }
         ensures rates { IfOk result

@@ -18,10 +18,10 @@ pub const MAX_PRICE: u64 = 2_880_998_333_334;
 const MINUTE: u64 = 600;
 
 /// What it costs to have talked `before` units of 100 ms before the tariff switch and `after` units
-/// after it: nothing where nothing was talked, else the fee and what is billed of each time at its
-/// rate, rounded up once. The time before the switch uses the free units up first, and a billing
-/// step that begins before the switch is billed whole before it. Without a second rate what is
-/// billed after the switch costs nothing.
+/// after it, a day together at most: nothing where nothing was talked, else the fee and what is
+/// billed of each time at its rate, rounded up once. The time before the switch uses the free units
+/// up first, and a billing step that begins before the switch is billed whole before it. Without a
+/// second rate what is billed after the switch costs nothing.
 #[tactic(auto, using(crate::proofs::Prices::billed_grows))]
 pub fn price(plan: &Plan, before: u32, after: u32) -> u64
     requires { before + after ≤ DAY }

@@ -138,7 +138,7 @@ pub enum TimeInfo {
 }
 
 impl TimeInfo {
-    /// A report without a switch.
+    /// A report without a switch; `TimeRange` where its time is out of its range.
     pub fn no_switch(t: u32) -> Result<TimeInfo, TimeRange>
         ensures made { IsOk result ↔ IsNoSwitch t }
         ensures value { IfOk result (λ made. made ≡ info.NoSwitch t) }
@@ -149,7 +149,7 @@ impl TimeInfo {
         Ok(TimeInfo::NoSwitch { t })
     }
 
-    /// A report after a switch.
+    /// A report after a switch; `TimeRange` where a time of it is out of its range.
     pub fn switch(since: u32, interval: Option<u32>) -> Result<TimeInfo, TimeRange>
         ensures made { IsOk result ↔ AreAfterSwitch since interval }
         ensures value { IfOk result (λ made. made ≡ info.Switch since interval) }

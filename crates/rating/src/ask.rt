@@ -5,11 +5,11 @@
 pub enum TimeNames<'a> {
     /// `before` and `after` where the header has both, else `time` where it has that, else `end`.
     UsualNames,
-    /// A column of how long the call lasted.
+    /// A column of how long the call lasted, in units of 100 ms.
     Time(&'a str),
-    /// A column of when it ended.
+    /// A column of the moment at which it ended.
     End(&'a str),
-    /// Columns of its times before the tariff switch and after it.
+    /// Columns of its times before the tariff switch and after it, in units of 100 ms.
     Split(&'a str, &'a str),
 }
 
@@ -18,7 +18,7 @@ pub enum TimeNames<'a> {
 pub struct Names<'a> {
     /// The number that was called.
     pub called: &'a str,
-    /// When the call was answered.
+    /// The moment at which the call was answered.
     pub answer: &'a str,
     /// Its times.
     pub times: TimeNames<'a>,

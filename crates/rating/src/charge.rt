@@ -8,7 +8,8 @@ ghost use Rattle.rating.specs.declared.call.Talk.TheVariants as talks;
 
 use price_core::{DAY, Route, price};
 
-/// The times of a call before the tariff switch and after it, in units of 100 ms, and their price.
+/// The times of a call before the tariff switch and after it, in units of 100 ms, and their price,
+/// in units of money.
 #[derive(Clone, Copy)]
 pub struct PricedTimes {
     /// Before the switch.
@@ -40,8 +41,8 @@ impl PricedTimes {
     }
 }
 
-/// What a call costs that is answered at a moment and lasts so long, its time split at the switch
-/// of its route.
+/// What a call costs that is answered at a moment, before the switch of its route, and lasts so
+/// many units of 100 ms, a day at most: its time is split at the switch.
 pub fn charge_call(route: &Route, at: u64, talk: u32) -> PricedTimes
     requires time { talk ≤ DAY }
     requires switch { IfSome route.now.switch_at (λ switch. at < switch) }

@@ -6,7 +6,7 @@ ghost use Rattle.rating.specs.Scores.{IsBoundedScore, counted, no_rows, passes};
 
 use crate::rated::Rated;
 
-/// What is counted of the rows that were rated, printed or not.
+/// What is counted of the rows that were rated, printed or not. Amounts are in units of money.
 #[derive(Clone, Copy)]
 pub struct Score {
     /// The rows, but for the header.

@@ -22,7 +22,7 @@ const ROUNDS: u32 = 64;
 pub struct Progress {
     /// The last row of the script that was taken, where the header is row 1.
     pub row: u64,
-    /// Its moment.
+    /// Its moment, in units of 100 ms.
     pub moment: u64,
     /// The last row that the script has.
     pub rows: u64,

@@ -12,7 +12,8 @@ use std::fmt::{self, Write};
 const MOST_BYTES: usize = 256;
 
 /// The line, with LF at its end: how often, and by which faults, in the order in which an account
-/// judges them. Nothing where nothing was refused.
+/// judges them. Nothing where nothing was refused. The error would be a line of more bytes than
+/// `MOST_BYTES`.
 pub fn refused_line(refusals: &Refusals) -> Result<ArrayString<MOST_BYTES>, fmt::Error>
     ensures { IfOk result (λ line. line.bytes ≡ refused_line refusals.now) }
 {

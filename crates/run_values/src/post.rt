@@ -20,9 +20,9 @@ pub enum Body {
     Recharge {
         /// The account's number.
         account: u32,
-        /// How much.
+        /// How much, in units of money.
         amount: u64,
-        /// The account's last moment from then on; none leaves it as it is.
+        /// The account's last moment from then on, in units of 100 ms; none leaves it as it is.
         until: Option<u64>,
     },
 }

@@ -107,7 +107,7 @@ impl RunSetup {
     }
 
     /// The setup of a directory with at most `MAX_ACCOUNTS` accounts and `MAX_SUBSCRIBERS`
-    /// subscribers, and of a limit of `MIN_LIMIT` to `MAX_LIMIT`. Only memory may be refused.
+    /// subscribers, and of a limit of `MIN_LIMIT` to `MAX_LIMIT`. The only error is out of memory.
     pub fn of(
         alloc: Global,
         directory: Directory,

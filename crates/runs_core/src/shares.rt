@@ -12,8 +12,7 @@ use run_values::{Answer, Body, Post};
 use std::alloc::{AllocError, Global};
 
 /// What each of so many workers handles of all that a driver has given: the share of worker 0, of
-/// worker 1, and so on, in the order of the items. It takes memory, and its fault is that there is
-/// none.
+/// worker 1, and so on, in the order of the items. The only error is out of memory.
 pub fn handled(
     alloc: Global,
     workers: u32,
@@ -29,7 +28,7 @@ pub fn handled(
 
 /// For each post that a worker handles of what was given, in the order of `handled`, the last fault
 /// that an ask of an account for it got, as the answer to its item says; none where every ask
-/// for it was entered, or there was none. It takes memory, and its fault is that there is none.
+/// for it was entered, or there was none. The only error is out of memory.
 pub fn refusals(
     alloc: Global,
     workers: u32,

@@ -7,7 +7,7 @@ ghost use Rattle.price_core.specs.declared.times.TheConstants.{DAY};
 use crate::SsfFault;
 use price_core::DAY;
 
-/// What becomes of a call whose service doesn't answer in time.
+/// What becomes of a call whose service doesn't answer in time (GSM 03.78, Default Call Handling).
 #[derive(Clone, Copy)]
 pub enum DefaultHandling {
     /// The call goes on without the service.

@@ -88,7 +88,7 @@ impl Ssf {
         next_moment(&self.stage)
     }
 
-    /// The switch invokes it.
+    /// The switch invokes it, once: `UnexpectedComponentSequence` where it did so before.
     pub fn invoke(&mut self, now: Moment) -> Step
         requires { now ≤ HORIZON }
         ensures backwards { now < self.old.last → (self.new ≡ self.old)
@@ -102,7 +102,8 @@ impl Ssf {
         self.input(now, Input::Invoke)
     }
 
-    /// A call triggers it: InitialDp is sent.
+    /// A call triggers it: InitialDP is sent. `UnexpectedComponentSequence` where it wasn't
+    /// invoked, or was triggered before.
     pub fn trigger(&mut self, now: Moment, call: u64, calling: Number, called: Number) -> Step
         requires { now ≤ HORIZON }
         ensures backwards { now < self.old.last → (self.new ≡ self.old)
@@ -124,7 +125,8 @@ impl Ssf {
         )
     }
 
-    /// The service sends an operation.
+    /// The service sends an operation. `UnexpectedComponentSequence` where the state doesn't expect
+    /// it; `ParameterOutOfRange` where a further period passes a day in all, or would be over now.
     pub fn operation(&mut self, now: Moment, op: ScfOp) -> Step
         requires { now ≤ HORIZON }
         ensures backwards { now < self.old.last → (self.new ≡ self.old)
@@ -138,7 +140,7 @@ impl Ssf {
         self.input(now, Input::Operate(op))
     }
 
-    /// The call meets an event.
+    /// The call meets an event. `NoSuchEvent` where the state doesn't expect it.
     pub fn event(&mut self, now: Moment, event: BcsmEvent) -> Step
         requires { now ≤ HORIZON }
         ensures backwards { now < self.old.last → (self.new ≡ self.old)
@@ -152,7 +154,7 @@ impl Ssf {
         self.input(now, Input::Meet(event))
     }
 
-    /// Time passes.
+    /// Time passes. The only fault is `TimeBackwards`.
     pub fn advance(&mut self, now: Moment) -> Step
         requires { now ≤ HORIZON }
         ensures backwards { now < self.old.last → (self.new ≡ self.old)

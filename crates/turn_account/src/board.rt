@@ -33,13 +33,13 @@ pub(crate) const SLOT: usize = 0;
 /// What an account is opened with.
 #[derive(Clone, Copy)]
 pub struct Start {
-    /// The credit.
+    /// The credit, 0 to `MAX_MONEY`.
     pub opening: u64,
-    /// Its last moment, if it has one.
+    /// Its last moment, if it has one, in units of 100 ms.
     pub until: Option<u64>,
     /// How many entries it may have.
     pub limit: u32,
-    /// How many seats it has.
+    /// How many seats it has, 1 to 16.
     pub seats: u32,
 }
 
@@ -176,7 +176,7 @@ impl Join<View> for TakeIn {
     ghost spent = { spent_note };
 }
 
-/// A board with a new account in its slot, and its first chair.
+/// A board with a new account in its slot, and its first chair. A fault is `OutOfMemory`.
 pub fn lay_board(alloc: Global, start: Start) -> Result<(Board, Chair), AccountFault>
     requires opening { start.opening ≤ MAX_MONEY }
     requires some_seats { 1 ≤ start.seats }
