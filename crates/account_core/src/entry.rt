@@ -52,7 +52,7 @@ pub enum Op {
 impl Op {
     ghost use Rattle.account_core.specs.Entries.{asked_of};
 
-    /// The call that is asked for, and 0 where it is none, at a Credit.
+    /// The call that it is of; 0 for a Credit, which is of none.
     pub fn call(&self) -> u64
         ensures { result ≡ call_of (asked_of self.now) }
     {

@@ -48,8 +48,8 @@ pub struct HistoryCheck {
     heard: Heard,
 }
 
-/// What a check has heard. A book may have hundreds of thousands of accounts without entries, so
-/// that a tally lies in memory of its own, from the first entry on.
+/// What a check has heard. A book may have hundreds of thousands of accounts without entries, so a
+/// tally lies in memory of its own, from the first entry on.
 #[derive(Drop)]
 enum Heard {
     /// No entry yet, of an account with this last moment.

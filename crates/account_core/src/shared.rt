@@ -8,7 +8,8 @@ use std::sync::Wait;
 /// An account that is asked from several seats, each in a thread of its own.
 ///
 /// A form of it promises what each call comes to for the seat that makes it: a reply of a kind that
-/// the operation has, and the same entry as the last of the seat's own, or a fault and no entry.
+/// the operation has, which is entered as the last of the seat's own entries, or a fault and no
+/// entry.
 /// When it is closed with a book, the history is legal, that is each reply was the one right answer
 /// in its place, and it has each seat's own entries, in order, and nothing else.
 ///
@@ -16,9 +17,9 @@ use std::sync::Wait;
 /// are asking too, that `NotOpen`, `CallUsed` or `HistoryFull` was right; and nothing of who comes
 /// first, nor that a call returns.
 ///
-/// It also says which refusals a seat knows of (`was`), and which a book shows later (`stood`):
-/// when a seat's own entries were these, it asked for this, and the account, which was this,
-/// refused that with this fault. A fault comes with such a refusal.
+/// It also says which refusals a seat knows of (`was`), and which a book shows later (`stood`). A
+/// refusal is the account as it was, what was asked of it, and the fault; it comes with what the
+/// seat's own entries were then. A fault but `GateClosed` comes with such a refusal.
 ///
 /// And it says that a call led from one state of a seat to the next (`calls`). Nothing but a call
 /// shows this, or a refusal: whoever is generic over the form can't claim an ask that wasn't put,

@@ -47,7 +47,7 @@ impl Tally {
     }
 
     /// Adds an entry to those so far where it is legal after them, and else gives what an account
-    /// answers in its place. Memory is taken where the entry's call is new, which is 0 at a Credit.
+    /// answers in its place. Memory is taken where the entry's call is new.
     #[inline(always)]
     pub fn hear(&mut self, entry: Entry) -> Result<Option<Response>, AllocError>
         requires { (opening : ℕ) × (until : Option ℕ) × (h : List EntryData)

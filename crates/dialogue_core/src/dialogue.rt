@@ -33,7 +33,7 @@ pub enum Turn {
 }
 
 impl Turn {
-    /// The instructions that it sends: none but where it is `Send`.
+    /// The instructions that it sends: `Nothing` unless it is `Send`.
     pub fn instructions(self) -> Instructions
         ensures { orders_in result ≡ orders_sent_by (says_of self) }
     {

@@ -1,4 +1,4 @@
-//! The turns that pay for time.
+//! The turns that grant time.
 
 ghost use Rattle.std.specs.Prelude.{◌≡◌, ◌≤◌, None, [], ◌∷◌};
 ghost use Rattle.std.specs.Option.{ForSome};

@@ -38,8 +38,9 @@ pub trait Asker<P> {
             ends (self.old, way.old) (asked_of op) end (self.new, way.new)) };
 }
 
-/// Puts each ask of a dialogue at once, from its turn `turn` on, and gives the instructions that it
-/// sends when it asks no more. An ask that gets nothing ends the talk, and is still pending then.
+/// Puts the asks of a dialogue, one after another, from its turn `turn` on, and gives the
+/// instructions that it sends when it asks no more. An ask that gets nothing ends the talk, and is
+/// still pending then.
 pub fn converse<P, A: Asker<P>>(
     asker: &mut A,
     way: &mut P,

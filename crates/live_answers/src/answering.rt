@@ -40,8 +40,9 @@ pub(crate) struct Answered {
 /// behind it, but no more than `MAX_GROUP` lines. The accepted ones are written to the log, each
 /// with its LF, by one write, and flushed; then they are handled; then the rows of all of them,
 /// with those of the answers as `run_texts::trace_table` has them, are written to the output in
-/// order, by one write, and flushed. Only then the run waits for a further line. So lines that come
-/// together share a flush of the log and one of the output, and a line alone waits for no other.
+/// order, by one write, and flushed. Only then does the run wait for a further line. So lines that
+/// come together share a flush of the log and one of the output, and a line alone waits for no
+/// other.
 ///
 /// A run that was cut off goes on where the lines of its log are in front of the input: `replay`
 /// says how many they are, and how many of them are heard in silence. LINE doesn't count them.

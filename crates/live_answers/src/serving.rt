@@ -30,9 +30,8 @@ use tariff_core::Clock;
 
 /// Serves an input: a tariff, a line `%%`, a setup, a line `%%`, the header
 /// `moment,number,call,from,what,x1,x2,x3,x4`, and message rows, each a line. The header is printed
-/// and flushed, then the rows that are there are answered as `answer_live` has it
-/// before a further one is waited for, and at the end of the input a line `%%` and what the options
-/// ask for are printed.
+/// and flushed, then the rows that are there are answered before a further one is waited for, and
+/// at the end of the input a line `%%` and what the options ask for are printed.
 ///
 /// Where a log is kept, the lines of accepted messages are in it, on the disk, before the rows that
 /// answer them are printed. The log begins with the options and with what the input has in front of
@@ -40,8 +39,8 @@ use tariff_core::Clock;
 ///
 /// `Input` and then `Header` are faults of what is in front of the rows, and `Log` and `LogRow` of
 /// the log and its lines; nothing is printed then. `Live` says what ended the run before its input:
-/// at `Input` and `Log` all is printed that an input would have that had ended there; at `Output`,
-/// and where the run has no books, a front.
+/// at `Input` and `Log` all is printed as if the input had ended there; at `Output`, and where the
+/// run has no books, a front of that.
 pub fn serve_input<R: Wait + Threads + Sync + Files<File = File>, I: BufRead + Drop, O: Write>(
     rt: &R,
     alloc: Global,

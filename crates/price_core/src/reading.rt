@@ -6,8 +6,8 @@ ghost use Rattle.price_core.specs.Reading.{interval_read, times_read};
 use crate::{DAY, TimeInfo, Times};
 
 /// The times that a report states, where `old` are those known before: cumulative from the answer.
-/// A report after a switch that leaves its interval out keeps the time before the switch, or says
-/// that there was none. None where the times pass a day or a part is out of its range.
+/// A report after a switch that leaves its interval out keeps the time before the switch, where one
+/// is known; else that time is 0. None where the times pass a day or a part is out of its range.
 pub fn read_times(old: Times, info: TimeInfo) -> Option<Times>
     ensures { result ≡ times_read old info }
 {

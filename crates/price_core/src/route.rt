@@ -1,4 +1,4 @@
-//! What a call is charged by, and until when.
+//! What a call is charged by, and when its tariff switches.
 
 ghost use Rattle.std.specs.Prelude.{◌≡◌, is_some};
 

@@ -22,7 +22,7 @@ pub struct Names<'a> {
     pub answer: &'a str,
     /// Its times.
     pub times: TimeNames<'a>,
-    /// What was charged: `paid` where there is such a column, if no name is asked for.
+    /// What was charged. Without a name it is `paid`, where there is such a column.
     pub paid: Option<&'a str>,
 }
 

@@ -3,14 +3,14 @@
 ghost use Rattle.std.specs.Prelude.{◌≡◌};
 ghost use Rattle.rating.specs.Lines.{rate_kind_name};
 
-/// Why a row has no price. No other row is judged by it.
+/// Why a row has no price. The other rows are rated all the same.
 #[derive(Clone, Copy)]
 pub enum RateKind {
     /// Another number of fields than the header has.
     Csv,
     /// A field that is no number in its range: of the called number, 1 to 15 digits.
     Number,
-    /// An end that lies before the answer, or more than a day behind it.
+    /// An end before the answer, or more than a day after it.
     Order,
     /// A row of more than `MAX_ROW` bytes.
     TooLong,

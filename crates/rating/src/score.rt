@@ -50,7 +50,7 @@ impl Score {
         self.differing == 0 && self.faults == 0
     }
 
-    /// One row more.
+    /// Counts one row more.
     pub(crate) fn count(&mut self, rated: &Rated<'_>)
         requires bounded { IsBoundedScore self.old }
         requires room { self.old.rows < 2 ^ 64 - 1 }

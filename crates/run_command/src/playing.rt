@@ -24,8 +24,8 @@ use std::alloc::Global;
 use std::sync::Wait;
 use std::thread::Threads;
 
-/// Plays a script over the accounts of a setup, which is all that is played or a part. It is shown
-/// how far it is, and at its end nothing any more.
+/// Plays a script, the whole one or that of a part, over the accounts of a setup. While it is
+/// played it is shown how far it is, and that is taken away at its end.
 pub(crate) fn play<R: Wait + Threads + Sync, W: Watch>(
     rt: &R,
     alloc: Global,

@@ -30,7 +30,8 @@ use std::thread::Threads;
 /// The input is judged first, its sections in order, and its first fault is the result. `Workers`
 /// where there aren't 1 to 16 workers; any other fault of a run comes as `runs_core::serve` has it.
 ///
-/// While it goes on, `watch` is shown how far it is, after two seconds, each fifth of a second.
+/// While it goes on, `watch` is shown how far it is, after two seconds, and then five times a
+/// second.
 pub fn run<R: Wait + Threads + Sync, W: Watch + Sync>(
     rt: &R,
     alloc: Global,

@@ -24,7 +24,7 @@ pub(crate) struct CallMarks {
     pub forfeited: bool,
     /// Whether it was denied anything.
     pub denied: bool,
-    /// Whether it was so after a grant.
+    /// Whether it was denied anything after a grant.
     pub denied_later: bool,
 }
 

@@ -32,7 +32,7 @@ pub(crate) fn amount(field: &[u8]) -> Result<u64, RowKind>
     decimal(field, MAX_MONEY).ok_or(RowKind::Number)
 }
 
-/// The moment in a field, from 0 to `most`; else the row's kind `Number`.
+/// The moment in a field, from 0 to `most`; else `Number`.
 pub(crate) fn moment_field(field: &[u8], most: u64) -> Result<u64, RowKind>
     ensures value { result ≡ moment_in_field most field.now }
     ensures within { IfOk result (λ at. at ≤ most) }

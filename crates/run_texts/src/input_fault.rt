@@ -1,4 +1,4 @@
-//! Why the input of a run says nothing.
+//! Why the input of a run isn't read.
 
 ghost use Rattle.std.specs.Prelude.{◌≡◌};
 ghost use Rattle.run_texts.specs.declared.input_fault.InputFault.TheVariants as out;
@@ -7,7 +7,7 @@ use std::alloc::{AllocError, AllocFailed};
 use table_core::{RowFault, TableFault};
 use tariff_core::{TariffFault, TariffKind};
 
-/// Why the input of a run says nothing: its first fault, the sections judged in order.
+/// Why the input of a run isn't read: its first fault, the sections judged in order.
 #[derive(Clone, Copy, Debug)]
 pub enum InputFault {
     /// It doesn't have three sections, or a divider that is behind a section isn't there.

@@ -5,7 +5,7 @@
 pub struct LogAsk<'a> {
     /// The path of its file.
     pub path: &'a str,
-    /// The number of the first message in it whose rows are printed again; none of them are where
-    /// there is no number.
+    /// The number of the first message in it whose rows are printed again. Without a number none
+    /// are.
     pub again: Option<u64>,
 }

@@ -1,5 +1,5 @@
 //! Runs: a driver's posts are handled by workers, all but the first in threads of their own, which
-//! get them by mailboxes, and end in the books of the accounts.
+//! get them by mailboxes; a run ends with the books of its accounts.
 #![tactic(auto)]
 
 mod acting;

@@ -71,7 +71,7 @@ pub fn serve<D: Driver, R: Wait + Threads + Sync, G: Gate + Sync>(
     serve_over::<D, TurnAccount, R, G>(rt, alloc, setup, driver, workers, gate)
 }
 
-/// Serves as `serve` does, over shared accounts of a form.
+/// Serves as `serve` does, over shared accounts of the form `S`.
 pub fn serve_over<D: Driver, S: Shared, R: Wait + Threads + Sync, G: Gate + Sync>(
     rt: &R,
     alloc: Global,

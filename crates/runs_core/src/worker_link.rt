@@ -196,7 +196,7 @@ impl<S: Shared, G: Gate> WorkerLink<'_, S, G> {
                 Ok(())
             }
             Err(why) => {
-                // As above.
+                // Dropped by name, as in `start`.
                 drop(inbox);
                 drop(outbox);
                 Err(why)

@@ -62,8 +62,9 @@ pub fn take_due(deliveries: &mut VecDeque<Delivery>, now: Moment) -> Option<Deli
     deliveries.pop_front()
 }
 
-/// The least of three moments, where there are any, up to `HORIZON`, the last one that a gsmSSF
-/// takes: those of what a call meets next, of the next delivery, and at which a timer is due.
+/// The least of these moments: that of what a call meets next, that of the next delivery, and that
+/// at which a timer is due. None where there is none of them, or where it is above `HORIZON`, the
+/// last moment that a gsmSSF takes.
 pub fn next_moment(
     event: Option<Moment>,
     delivery: Option<Moment>,

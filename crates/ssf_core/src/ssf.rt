@@ -78,8 +78,8 @@ impl Ssf {
         state_of(&self.stage)
     }
 
-    /// The least moment at which a timer is due, or none where no timer runs. It doesn't lie behind
-    /// the latest moment that the gsmSSF took.
+    /// The least moment at which a timer is due, or none where no timer runs. It isn't before the
+    /// latest moment that the gsmSSF took.
     pub fn next_due(&self) -> Option<Moment>
         ensures least { (t : List Happening)
             → Stands self.now t → IsNextDue self.now.config t result }

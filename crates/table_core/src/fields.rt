@@ -38,7 +38,7 @@ pub fn has_word(row: &ByteRecord, place: usize, word: &str) -> bool
     is_word(field(row, place), word)
 }
 
-/// The decimal in the field at `place`, from 0 to `most`; else the row's kind `Number`.
+/// The decimal in the field at `place`, from 0 to `most`; else `Number`.
 pub fn number(row: &ByteRecord, place: usize, most: u64) -> Result<u64, RowKind>
     ensures value { result ≡ number_in (fields_of row.now) place most }
     ensures within { IfOk result (λ number. number ≤ most) }
@@ -53,7 +53,8 @@ pub fn is_blank(row: &ByteRecord, place: usize) -> bool
     field(row, place).is_empty()
 }
 
-/// The decimal in the field at `place`, or none where that is empty.
+/// The decimal in the field at `place`, from 0 to `most`, or none where that is empty; else
+/// `Number`.
 pub fn optional(row: &ByteRecord, place: usize, most: u64) -> Result<Option<u64>, RowKind>
     ensures value { result ≡ optional_in (fields_of row.now) place most }
     ensures within { IfOk result (λ number. unwrap_or number 0 ≤ most) }
@@ -64,7 +65,7 @@ pub fn optional(row: &ByteRecord, place: usize, most: u64) -> Result<Option<u64>
     Ok(Some(number(row, place, most)?))
 }
 
-/// What was read of a row, where the fields that must be empty are; else the row's kind `Empty`.
+/// What was read of a row, where the fields that must be empty are; else `Empty`.
 pub fn when_blank<T: Copy>(blank: bool, read: T) -> Result<T, RowKind>
     ensures { result ≡ when_blank blank read }
 {

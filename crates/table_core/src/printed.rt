@@ -2,8 +2,8 @@
 
 ghost use Rattle.table_core.specs.Printed.{DecimalsArePlain, DecimalsAreRead, TablesAreRead};
 
-/// A number of 64 bits that is printed in decimal is read as that number, by `decimal` and in a
-/// field of a table, where no quotes are round it.
+/// A number of 64 bits that is printed in decimal is read as that number by `decimal`. In a table
+/// no quotes are round it.
 pub fn printed_decimals_are_read()
     ensures read { DecimalsAreRead }
     ensures plain { DecimalsArePlain }

@@ -19,7 +19,7 @@ use std::alloc::Global;
 use std::io::Read;
 use std::marker::Model;
 
-/// A weekday: where a prefix has rows from midnight on, on each weekday, it has one on this.
+/// Any weekday would do: a prefix of a tariff has a row from midnight on, on each of them.
 const MONDAY: u8 = 1;
 
 /// A tariff: for each prefix of called numbers the bands of each weekday, with a fee and a rate

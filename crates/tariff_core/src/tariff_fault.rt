@@ -24,7 +24,7 @@ pub enum TariffKind {
     Repeated = 6,
     /// The first row of a prefix that has no row from `00:00` on, on some weekday.
     NoMidnightBand = 7,
-    /// The row found no memory.
+    /// Memory ran out at the row.
     OutOfMemory = 8,
     /// The reader failed at the row.
     Device = 9,
@@ -83,7 +83,7 @@ pub struct TariffFault {
 }
 
 impl TariffFault {
-    /// The fault of a table that is given up at this row, where it isn't a row's own.
+    /// The fault of a tariff by that of its table. One that isn't a row's own is at this row.
     pub(crate) fn at(row: u32, fault: TableFault) -> TariffFault
         ensures { result ≡ fault_from row fault }
     {

@@ -152,8 +152,8 @@ impl TurnAccount {
         result
     }
 
-    /// Two seats meet: the second has then seen the longer of what the two had seen, which the
-    /// other begins, and the first is unchanged.
+    /// Two seats meet: the second has then seen the longer of what the two had seen, which begins
+    /// with what the other had seen, and the first is unchanged.
     ///
     /// It waits for nobody, takes no memory and always succeeds.
     pub fn meet(&self, first: &mut TurnSeat, second: &mut TurnSeat)

@@ -87,7 +87,7 @@ impl TableRule<Option<Account>, View, Start> for Turns {
 /// The words, and the slot, of a turn account.
 pub type Board = atomic_table::Table<Option<Account>, View, Start, Turns, Global>;
 
-/// A place at the board: it makes the steps, and has no bytes.
+/// A place at the board: it makes the steps, and takes no memory.
 pub type Chair = atomic_table::Seat<Option<Account>, View>;
 
 /// A ticket is issued.
