@@ -21,7 +21,7 @@ abbrev pub pays : List Order → Bool
 pays orders = nat_lt 0 (length (paid_by orders))
 
 -- the place of the account at which a call goes on after a message of it, by whether the operations that answer it pay for a period, and by where it went on before, if it did. An
--- InitialDp that is paid for lets it go on at the account of the calling number; a report that isn't paid for ends it, and so does a message that ends a call
+-- InitialDP that is paid for lets it go on at the account of the calling number; a report that isn't paid for ends it, and so does a message that ends a call
 abbrev pub after_message : Setup → Bool → Option ℕ → SsfMsg → Option ℕ
 after_message setup paid was (InitialDp other calling called) = if paid then home_of calling setup else was
 after_message setup paid was (EventReport event leg mode) = if ends_call (EventReport event leg mode) then None else was

@@ -6,7 +6,7 @@ use Rattle.runs_core.specs.Verdicts.{DialogueAt}
 use Rattle.run_values.specs.declared.post.Post.{Post}
 use Rattle.runs_core.specs.Workers.{IsPlaced}
 
--- a dialogue of a call, as `IsPlaced` says, whose call had an InitialDp among the posts
+-- a dialogue of a call, as `IsPlaced` says, whose call had an InitialDP among the posts
 pub record IsOwn (count : ℕ) (posts : List Post) (call : ℕ) (standing : DialogueAt) : Type 0 where
   pub is : IsPlaced count call standing
   pub begun : Contains (begun_of posts) call

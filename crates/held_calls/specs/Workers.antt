@@ -60,7 +60,7 @@ RechargesAreEntered =
 
 -- ---- Reserves
 
--- a call had an InitialDp among posts, from a subscriber of the account at a place to a number with a route at that moment; time of the call is
+-- a call had an InitialDP among posts, from a subscriber of the account at a place to a number with a route at that moment; time of the call is
 -- asked for by the plan of that route, as much as the service wants, and at least what the service takes
 pub record HasBegun (setup : Setup) (place : ℕ) (posts : List Post) (call : ℕ) (plan : Rates) (wanted least : ℕ) : Type 0 where
   pub post : Post
@@ -122,7 +122,7 @@ PostsAreHandled =
 abbrev pub asked_at : List (List EntryData) → ℕ → List Asked
 asked_at lists place = map (λ entry. entry.asked) (slice_index_or lists place [])
 
--- no dialogue of a call began with these posts: none is an InitialDp of it from a subscriber
+-- no dialogue of a call began with these posts: none is an InitialDP of it from a subscriber
 abbrev pub HasNoDialogue : Setup → List Post → ℕ → Type 0
 HasNoDialogue setup posts call =
     All (λ post. (other : ℕ) (calling called : Number) → post.body ≡ Ssf call (InitialDp other calling called) → home_of calling setup ≡ None) posts
@@ -133,7 +133,7 @@ pub record IsReserved (setup : Setup) (call : ℕ) (called : Number) (at : ℕ) 
   pub routed : IsRoute setup.tariff (digits_of_number called) at route
   pub stands : Contains asked (Reserves call (rates_of route.plan) setup.service.wanted setup.service.least at)
 
--- the first InitialDp of a call from a subscriber to a number with a route has its Reserve, at the subscriber's account, or was refused
+-- the first InitialDP of a call from a subscriber to a number with a route has its Reserve, at the subscriber's account, or was refused
 abbrev pub CallsAreReserved : Type 0
 CallsAreReserved =
     (setup : Setup) (number : ℕ) (before : List Post) (post : Post) (lists : List (List EntryData)) (old : Holding) (call other place : ℕ) (calling called : Number)

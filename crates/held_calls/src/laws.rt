@@ -36,7 +36,7 @@ pub fn ended_calls_are_returned<S: Shared>()
 {}
 
 /// A call goes on with what it was granted where the operations that answered it say so: its
-/// InitialDp was answered with an ApplyCharging, at the account of the calling number, and so was
+/// InitialDP was answered with an ApplyCharging, at the account of the calling number, and so was
 /// each report since, and no message has ended it (`specs/Going.antt`).
 pub fn paid_calls_go_on<S: Shared>()
     ensures { (seats : List S.Seat) → PaidCallsGoOn (RefusesAt S.was seats) }

@@ -18,7 +18,7 @@ pub fn run_lists_are_worked<S: Shared>()
 /// In the book of an account each entry of a worker comes from what the worker has handled: each
 /// Settle is of a report and carries its post's number, each Credit is of a recharge of the
 /// account, both in the order of the posts, and each Reserve or Return is of a call that had an
-/// InitialDp.
+/// InitialDP.
 pub fn run_entries_are_served<S: Shared>()
     ensures { RunEntriesAreServed S.stood }
 {

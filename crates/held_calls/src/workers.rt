@@ -15,7 +15,7 @@ pub fn what_is_said_is_sent()
 
 /// Each entry of a worker comes from the posts that it handled: each Settle is of a report and
 /// carries its post's number, each Credit is of a recharge of the account, both in the order of the
-/// posts, and each Reserve or Return is of a call that had an InitialDp.
+/// posts, and each Reserve or Return is of a call that had an InitialDP.
 pub fn entries_come_from_posts()
     ensures { EntriesComeFromPosts }
 {}
@@ -26,7 +26,7 @@ pub fn recharges_are_entered()
     ensures { RechargesAreEntered }
 {}
 
-/// Each Reserve by a worker is for the account of the calling number of its call's InitialDp, with
+/// Each Reserve by a worker is for the account of the calling number of its call's InitialDP, with
 /// the plan of the called number's route at that moment, and for what the service wants and takes
 /// at least. It is asked for at the moment of a message of the call.
 pub fn reserves_are_on_terms()
@@ -39,7 +39,7 @@ pub fn posts_are_handled()
     ensures { PostsAreHandled }
 {}
 
-/// The first InitialDp of a call from a subscriber, to a number with a route, has its Reserve at
+/// The first InitialDP of a call from a subscriber, to a number with a route, has its Reserve at
 /// the subscriber's account, or it was refused.
 pub fn calls_are_reserved()
     ensures { CallsAreReserved }

@@ -22,7 +22,7 @@ abbrev pub first_said : {X : Type 0} → ℕ → (ℕ → SsfMsg → Option X) �
 first_said call tell [] = None
 first_said call tell (post ∷ posts) = option_or (message_of_call call (tell post.0) post.1) (first_said call tell posts)
 
--- an InitialDp starts its call
+-- an InitialDP starts its call
 abbrev pub start_by : ℕ → SsfMsg → Option Start
 start_by at (message.InitialDp call calling called) = Some (record { at = at; calling = calling; called = called })
 start_by at _ = None

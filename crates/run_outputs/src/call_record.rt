@@ -18,7 +18,7 @@ pub struct CallRecord {
     /// The longest prefix of the tariff that the called number begins with, if there is one; of the
     /// empty one no digits.
     pub prefix: Option<Vec<u8>>,
-    /// The moment of its InitialDp.
+    /// The moment of its InitialDP.
     pub start: u64,
     /// The moment at which its answer was reported.
     pub answer: Option<u64>,

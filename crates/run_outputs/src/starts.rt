@@ -10,7 +10,7 @@ use run_values::Body;
 use std::alloc::{AllocError, Global};
 use std::collections::BTreeMap;
 
-/// How a call starts, as its InitialDp says.
+/// How a call starts, as its InitialDP says.
 #[derive(Clone, Copy)]
 pub(crate) struct Start {
     /// The moment, in units of 100 ms.

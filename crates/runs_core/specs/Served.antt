@@ -82,7 +82,7 @@ abbrev pub begun_by : Body → List ℕ
 begun_by (Ssf call message) = begun_in call message
 begun_by (Recharge account amount until) = []
 
--- the calls with an InitialDp among posts
+-- the calls with an InitialDP among posts
 abbrev pub begun_of : List Post → List ℕ
 begun_of posts = flat_map (λ post. begun_by post.body) posts
 
@@ -109,7 +109,7 @@ abbrev pub returns_of : List EntryData → List ℕ
 returns_of mine = flat_map (λ entry. returned_in entry.asked) mine
 
 -- the entries that a seat of an account made for posts: each Settle is of a charging report and carries its post's number, each Credit is of a
--- recharge of the account, both in the order of the posts, and each Reserve or Return is of a call that had an InitialDp
+-- recharge of the account, both in the order of the posts, and each Reserve or Return is of a call that had an InitialDP
 pub record IsServed (account : ℕ) (posts : List Post) (mine : List EntryData) : Type 0 where
   pub settles : IsPart (settles_of mine) (reports_of posts)
   pub credits : IsPart (credits_of mine) (recharges_of account posts)

@@ -41,7 +41,7 @@ abbrev pub recharged : ℕ → Option ℕ → Option ℕ → Verdict
 recharged amount until None = Strays
 recharged amount until (Some place) = Recharges place amount until
 
--- an InitialDp of a call without dialogue, at the place of the caller's account
+-- an InitialDP of a call without dialogue, at the place of the caller's account
 abbrev pub begins : ℕ → Number → Option ℕ → Verdict
 begins call called None = Rejects
 begins call called (Some place) = Begins call place called
@@ -53,7 +53,7 @@ fresh_call setup call (EventReport event leg mode) = Strays
 fresh_call setup call (ChargingReport active info) = Strays
 fresh_call setup call Ended = Strays
 
--- a message of a call with a dialogue, which takes it or refuses it. An InitialDp is refused wherever it is
+-- a message of a call with a dialogue, which takes it or refuses it. An InitialDP is refused wherever it is
 abbrev pub goes_on : ℕ → ℕ → Step → Verdict
 goes_on call place (Ok next) = GoesOn call place next.0 next.1
 goes_on call place (Err fault) = Strays

@@ -68,8 +68,8 @@ impl<'s, S: Shared> Worker<'s, S> {
     /// Handles a post.
     ///
     /// A stray is a recharge of an unknown account, a message that the dialogue of its call
-    /// refuses, among them each further InitialDp, and any other message of a call without
-    /// dialogue: it sends no operation and asks no account. An InitialDp from a number that is no
+    /// refuses, among them each further InitialDP, and any other message of a call without
+    /// dialogue: it sends no operation and asks no account. An InitialDP from a number that is no
     /// subscriber's is answered by ReleaseCall(21), and no account is asked. Else the dialogue of
     /// the call talks with its account until it sends operations or is done, or the account is
     /// recharged. The answer has the last refusal of an ask for the post. Each ask that was
@@ -225,7 +225,7 @@ fn go_on(talk: Talk, number: u64, at: u64, call: u64, msg: SsfMsg) -> Case
     }
 }
 
-/// A message of a call without dialogue: an InitialDp begins one where the caller is a subscriber.
+/// A message of a call without dialogue: an InitialDP begins one where the caller is a subscriber.
 fn begin(setup: &RunSetup, at: u64, call: u64, msg: SsfMsg) -> Case
     requires { at ≤ HORIZON }
     ensures { IsCase setup.now at (fresh_call setup.now call msg) result }

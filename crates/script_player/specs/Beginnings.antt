@@ -9,13 +9,13 @@ use Rattle.ssf_core.specs.declared.config.SsfConfig.{SsfConfig}
 use Rattle.ssf_core.specs.declared.item.Item.TheVariants as item
 use Rattle.ssf_core.specs.declared.item.Out.{Out}
 
--- a gsmSSF is invoked at a moment, and triggered for a call: InitialDp is sent
+-- a gsmSSF is invoked at a moment, and triggered for a call: InitialDP is sent
 abbrev pub begun_trace : ℕ → ℕ → Number → Number → List Happening
 begun_trace at call calling called =
     record { at = at; what = Took (triggers call calling called); sent = item.Msg (message.InitialDp call calling called) ∷ [] }
     ∷ record { at = at; what = Took invokes; sent = [] } ∷ []
 
--- a gsmSSF was invoked and triggered at a moment: all that it has sent is InitialDp
+-- a gsmSSF was invoked and triggered at a moment: all that it has sent is InitialDP
 pub record IsTriggered (config : SsfConfig) (at call : ℕ) (calling called : Number) (view : View) (sent : List Out) : Type 0 where
   pub same_config : view.config ≡ config
   pub moment : view.last ≡ at

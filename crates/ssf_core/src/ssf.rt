@@ -260,7 +260,7 @@ fn invoke(stage: Stage) -> Result<Stage, SsfFault>
     }
 }
 
-/// Trigger: in WaitForRequest; InitialDp is sent, and Tssf starts.
+/// Trigger: in WaitForRequest; InitialDP is sent, and Tssf starts.
 fn trigger(
     config: &SsfConfig,
     stage: Stage,
