@@ -36,17 +36,17 @@ inadmissible h asked = inadmissible_for (known (call_of asked) h) asked
 unfoldable pub units_offered : ℕ → CallFacts → Rates → ℕ → ℕ
 units_offered available known plan wanted = units_afforded (plan_in_force known plan) known.times wanted (available + taken_of known)
 
--- the times that a report gives a call, where it is accepted: they are read, lawful within what was granted, and no report before it was a forfeit
+-- the times that were read, where they are lawful under the plan and within what was granted
 abbrev pub lawful_times : Option Rates → CallFacts → Option Elapsed → Option Elapsed
 lawful_times None known read = None
 lawful_times (Some plan) known None = None
 lawful_times (Some plan) known (Some times) = if is_lawful plan known.times times known.granted then Some times else None
 
--- the times that a report states, where they are accepted
+-- the times that a report gives a call, where it is accepted: they are read, lawful within what was granted, and no report before it was a forfeit
 unfoldable pub accepted_times : CallFacts → TimeInfo → Option Elapsed
 accepted_times known info = if known.forfeited then None else lawful_times known.plan known (times_read known.times info)
 
--- the replies, but for the credit that they show, which is 0 here
+-- the reply to a Credit, but for the credit that it shows, which is 0 here
 abbrev pub credit_verdict : ℕ → ℕ → Reply
 credit_verdict funds amount = if nat_le (funds + amount) MAX_MONEY then reply.Credited 0 else reply.CreditOver 0
 

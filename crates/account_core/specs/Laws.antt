@@ -53,7 +53,7 @@ abbrev pub report_after : Option Reporting → Elapsed → Asked → Option Repo
 report_after last times (Settles call number info) = Some (record { before = times; info = info })
 report_after last times asked = last
 
--- what the last accepted report of a call stated, after a history
+-- the last report of a call after a history, whatever was answered, with the times before it
 abbrev pub last_report : ℕ → List EntryData → Option Reporting
 last_report call [] = None
 last_report call (entry ∷ h) = if call_of entry.asked == call then report_after (last_report call h) (known call h).times entry.asked else last_report call h
@@ -68,7 +68,7 @@ abbrev pub TimesAreReported : Type 0
 TimesAreReported = (opening : ℕ) (until : Option ℕ) (history : List EntryData) (call : ℕ) → opening ≤ MAX_MONEY → IsLegal opening until history
     → (known call (reverse history)).forfeited ≡ false → AreReported (last_report call (reverse history)) (known call (reverse history)).times
 
--- a Settle changes nothing of what is available
+-- an operation that is a Settle
 abbrev pub IsSettle : Asked → Type 0
 IsSettle (Settles call number info) = Unit {0}
 IsSettle asked = ⊥

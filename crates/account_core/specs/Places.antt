@@ -12,7 +12,7 @@ use Rattle.account_core.specs.declared.fault.AccountFault.TheVariants as fault
 abbrev pub places_owed : Bool → Bool → ℕ
 places_owed open_call awaits = if open_call then (if awaits then 2 else 1) else 0
 
--- how many entries it takes to close a call
+-- the places owed to a call
 unfoldable pub owed_to : CallFacts → ℕ
 owed_to known = places_owed (is_open known) known.awaits
 
@@ -27,7 +27,7 @@ places_needed open_call awaits (Reserves call plan wanted least at) = if open_ca
 places_needed open_call awaits (Settles call number info) = if open_call && awaits then 0 else 1
 places_needed open_call awaits (Returns call) = if open_call then 0 else 1
 
--- how many entries an operation of a call may make necessary
+-- the places that an operation takes beyond those owed, by what is known of its call
 abbrev pub needed_by : CallFacts → Asked → ℕ
 needed_by known asked = places_needed (is_open known) known.awaits asked
 

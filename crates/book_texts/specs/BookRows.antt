@@ -52,7 +52,7 @@ is_opening columns = bytes_eq columns.operation.op (codes "opening")
 abbrev pub is_no_answer : Answer → Bool
 is_no_answer a = is_empty_field a.reply && is_empty_field a.y1 && is_empty_field a.y2 && is_empty_field a.y3
 
--- all but the account, the word, x1 and, in version 3, x2 is empty; the reply is not read as a word
+-- all but the account, the word, x1 and, from version 3 on, x2 is empty; the reply is not read as a word
 abbrev pub is_opening_blank : Columns → Bool
 is_opening_blank columns = is_empty_field columns.seat && is_money_blank columns.operation && is_no_answer columns.answer
 

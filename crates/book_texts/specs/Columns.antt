@@ -60,7 +60,7 @@ x9_at version.Two fields at = []
 x9_at version.Three fields at = []
 x9_at version.Four fields at = field_in fields (at + 10)
 
--- the columns of an operation, and of an answer, in the fields of a row, where their word is at a place
+-- the columns of an operation in the fields of a row, where its word is at a place
 abbrev pub operation_at : Version → List (List ℕ) → ℕ → Operation
 operation_at version fields at = record {
   version = version;
@@ -90,7 +90,7 @@ answer_at fields at = record {
   y3 = field_in fields (at + 3);
 }
 
--- a field that isn't named is empty
+-- an operation with nothing in its fields
 abbrev pub no_operation : Version → Operation
 no_operation version = record { version = version; op = []; call = []; x1 = []; x2 = []; x3 = []; x4 = []; x5 = []; x6 = []; x7 = []; x8 = []; x9 = [] }
 
@@ -98,7 +98,7 @@ no_operation version = record { version = version; op = []; call = []; x1 = []; 
 abbrev pub no_answer : Answer
 no_answer = record { reply = []; y1 = []; y2 = []; y3 = [] }
 
--- the opening credit is where an operation would, with its last moment, if it has one
+-- the columns of an opening: its credit is x1, and its last moment, if it has one, x2
 abbrev pub opening_columns : Version → ℕ → Option ℕ → Operation
 opening_columns version opening until = record (no_operation version) { op = codes "opening"; x1 = decimal opening; x2 = number_or_empty until }
 

@@ -10,7 +10,7 @@ use Rattle.price_core.specs.declared.plan.TheConstants.{MAX_MONEY}
 use Rattle.price_core.specs.declared.plan.TheConstants.{MAX_RATE}
 use Rattle.price_core.specs.declared.times.TheConstants.{DAY, HORIZON}
 
--- a number of 64 bits, a time of a day at most, money, a fee or a rate
+-- a number of 64 bits
 abbrev pub IsWide : ℕ → Type 0
 IsWide number = number ≤ 18446744073709551615
 

@@ -12,7 +12,7 @@ pub record Conditions : Type 0 where
   pub least : ℕ
   pub switch : Option ℕ
 
--- what follows a return: nothing, the call goes on, it is cleared for want of credit or of the account, or the dialogue is over
+-- what follows a return: nothing, the call goes on, it is cleared as the credit is used up, or as a report was a forfeit or the account refused what was asked, or the dialogue is over
 pub data Sequel : Type 0 where
   Nothing : Sequel
   Continues : Sequel

@@ -85,7 +85,7 @@ ending (msg.EventReport event leg mode) = Ok (sequel (going_on mode))
 ending (msg.ChargingReport active info) = Err Unexpected
 ending msg.Ended = Ok (Finished, Closed)
 
--- of the mail with this number, at its moment
+-- a message with the number of its mail, at its moment
 abbrev pub on_message : Phase → ℕ → ℕ → SsfMsg → Step
 on_message (FirstAsk t) number at message = Err AskPending
 on_message (Running t) number at message = while_running t number at message

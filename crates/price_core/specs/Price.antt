@@ -8,11 +8,11 @@ use Rattle.price_core.specs.Times.{Elapsed}
 abbrev pub second_rate : Rates → ℕ
 second_rate plan = unwrap_or plan.after 0
 
--- the units that are charged for, before the switch and after it: the time before it uses the free units up first
+-- the units before the switch that are charged for: those beyond the free units
 abbrev pub charged_before : Rates → ℕ → ℕ
 charged_before plan before = before - plan.free
 
--- the units after the switch that are charged, once free units are used up before it
+-- the units after the switch that are charged for: those beyond the free units that the time before it left
 abbrev pub charged_after : Rates → ℕ → ℕ → ℕ
 charged_after plan before after = after - (plan.free - before)
 
@@ -24,7 +24,7 @@ billed plan charged = if charged == 0 then 0 else plan.first + div_ceil (charged
 abbrev pub billed_before : Rates → ℕ → ℕ
 billed_before plan before = billed plan (charged_before plan before)
 
--- the units billed at either rate
+-- the units billed at both rates together
 abbrev pub billed_in_all : Rates → ℕ → ℕ → ℕ
 billed_in_all plan before after = billed plan (charged_before plan before + charged_after plan before after)
 

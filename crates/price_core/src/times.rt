@@ -132,7 +132,7 @@ pub enum TimeInfo {
         /// The time since the switch, or since the answer where that came later, 0 to `DAY`.
         since: u32,
         /// The time from the answer to the switch, 1 to `DAY`; left out where the switch came
-        /// first.
+        /// at the answer or before.
         interval: Option<u32>,
     },
 }

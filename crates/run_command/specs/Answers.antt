@@ -47,7 +47,7 @@ abbrev pub IsRunSaid : Option PartsAsk → RunAsk → List ℕ → RunSaid → T
 IsRunSaid None ask input ran = IsRunOf ask input ran
 IsRunSaid (Some parts) ask input ran = IsRunInParts parts.count ask input ran.text ran.refusals ran.unplaced
 
--- what can end a run of so many workers: `Workers` where there can't be so many, and only then; no gate closes
+-- what can end a run of so many workers: `Workers` where they aren't 1 to 16, and only then; no gate closes
 abbrev pub MayEndRun : ℕ → RunFault → Type 0
 MayEndRun workers run.OutOfMemory = ⊤
 MayEndRun workers run.Workers = are_workers workers ≡ false

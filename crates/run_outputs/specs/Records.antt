@@ -25,7 +25,7 @@ pub record Run : Type 0 where
   pub given : List (ℕ × Body)
   pub books : List Closed
 
--- a call that the switch has ended: by what it has reported first of these, else by its credit, else by a timer, the service, or before its orders came
+-- a call that the switch has ended: by what it has reported first of these, else by its credit, else by a timer, the service, or before its instructions came
 abbrev pub outcome_of_end : CallReports → Standing → Outcome
 outcome_of_end reports standing =
     if reports.busy then outcome.Busy

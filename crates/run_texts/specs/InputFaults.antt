@@ -1,4 +1,4 @@
--- Why the input of a run says nothing, and how an answer meets what an input means.
+-- Why the input of a run isn't read, and how an answer meets what an input means.
 use Rattle.std.specs.Prelude.{◌≡◌, Result, Ok, Err, ⊤}
 use Rattle.run_texts.specs.declared.input_fault.InputFault.{InputFault}
 use Rattle.run_texts.specs.declared.input_fault.InputFault.TheVariants as input

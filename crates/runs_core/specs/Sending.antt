@@ -26,7 +26,7 @@ heard_by link = items_in (taken link.inbox)
 abbrev pub promises_of : {S G T : Type 0} → List (WorkerLink S G T) → List (WorkerPromise S G T)
 promises_of links = map (λ link. link.child.promise) links
 
--- promises of the workers of one run, from this number on
+-- the promise of the worker of this number, of one run
 pub record IsPromised {S G T : Type 0} (setup : Setup) (accounts : List S) (gate : G) (number : ℕ) (promise : WorkerPromise S G T) : Type 0 where
   pub setup_is : promise.setup.now ≡ setup
   pub accounts_are : promise.accounts.now ≡ accounts

@@ -23,7 +23,7 @@ abbrev pub periods : List Happening → ℕ
 periods [] = 0
 periods (e ∷ trace) = periods_after e.what (periods trace)
 
--- one report more, where the item is a report of a call that goes on
+-- one report more, where the item is a charging report
 abbrev pub report_count_after : Item → ℕ → ℕ
 report_count_after (Msg (ChargingReport active info)) before = 1 + before
 report_count_after _ before = before

@@ -3,7 +3,7 @@ use Rattle.std.specs.Prelude.{◌-◌, ℕ, Option, Some, None, nat_le, if◌the
 use Rattle.price_core.specs.declared.times.TimeInfo.{TimeInfo}
 use Rattle.price_core.specs.declared.times.TimeInfo.TheVariants.{NoSwitch, Switch}
 
--- the stretch from the answer to a moment, where the switch came at its moment, if it came by then: what lies after the switch, and the interval before it, which is left out where the switch came before the answer
+-- the stretch from the answer to a moment, where the switch came at its moment, if it came by then: what lies after the switch, and the interval before it, which is left out where the switch came at the answer or before
 abbrev pub split : ℕ → Option ℕ → ℕ → TimeInfo
 split answer None now = NoSwitch (now - answer)
 split answer (Some switch) now =

@@ -74,7 +74,7 @@ abbrev pub output_in : List Row → Option RunOutput
 output_in options =
     output_of (is_some (first_of (codes "into") options)) (has_flag options (codes "book")) (has_flag options (codes "calls")) (has_flag options (codes "trace")) (has_flag options (codes "clock"))
 
--- a run that is asked for, where each of these is known: its workers, its times, what a switch does without orders, what is printed, and its parts
+-- a run that is asked for, where each of these is known: its workers, its times, what a switch does without instructions, what is printed, and its parts
 abbrev pub asked_run : Option ℕ → Option ℕ → Option ℕ → Option ℕ → Option ℕ → Option ℕ → Option DefaultHandling → Option RunOutput → (ℕ → RunOutput → Option (Option PartsAsk)) → Option RunAsk
 asked_run (Some workers) (Some wanted) (Some least) (Some tssf) (Some tccd) (Some delay) (Some default) (Some output) parts_by =
     option_map (λ parts. record {

@@ -16,7 +16,7 @@ row_of rows = rows.row
 
 -- ---- tables
 
--- the row that was taken last, its number, and how many fields the header has
+-- the row that was taken last
 abbrev pub row_of_table : {R : Type 0} → Table R → Row
 row_of_table table = table.rows.row
 
@@ -28,7 +28,7 @@ row_number_of table = table.number
 abbrev pub row_width : {R : Type 0} → Table R → ℕ
 row_width table = table.width
 
--- which of the headers the table has, and how many rows it may have besides
+-- which of the headers the table has, from 0
 abbrev pub header_of : {R : Type 0} → Table R → ℕ
 header_of table = table.header
 

@@ -11,7 +11,7 @@ use Rattle.table_core.specs.declared.fault.RowKind.TheVariants as kind
 
 -- ---- headers
 
--- the names of a header, and of each of some headers
+-- the names of a header
 abbrev pub names_of : List (Bor (List ℕ)) → Fields
 names_of names = map (λ name. name.now) names
 

@@ -53,7 +53,7 @@ kind_from own.Header = kind.Header
 kind_from own.TooManyRows = kind.TooManyRows
 kind_from _ = kind.Csv
 
--- the fault of a table that is given up at a row
+-- the fault of a tariff whose table is given up at a row
 abbrev pub fault_from : ℕ → TableFault → TariffFault
 fault_from row (fault.Row refused) = record { row = refused.row; kind = kind_from refused.kind }
 fault_from row fault.Device = record { row = row; kind = kind.Device }

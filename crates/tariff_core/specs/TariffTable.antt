@@ -29,7 +29,7 @@ unfoldable pub time_of : List ℕ → Option ℕ
 time_of text =
     if (length text == 5) && (slice_index text 2 == 58) then time_at (decimal_of 23 (take 2 text)) (decimal_of 59 (drop 3 text)) else None
 
--- the prefix in a row, its start, and an amount of money in it
+-- the prefix in a row
 abbrev pub prefix_in : List (List ℕ) → Result (List ℕ) TariffKind
 prefix_in fields = if is_prefix (field_in fields 0) then Ok (field_in fields 0) else Err kind.Digits
 
@@ -91,7 +91,7 @@ new_band earlier band = if repeats earlier band then Err kind.Repeated else Ok b
 abbrev pub new_band_in : ℕ → List Band → List (List ℕ) → Result Band TariffKind
 new_band_in tariff_header earlier fields = and_then (band_in tariff_header fields) (new_band earlier)
 
--- `prefix,from,fee,rate`, the same with `free`, that with `first,step`, and that with `days`
+-- the header `prefix,from,fee,rate`
 abbrev pub tariff_header : List (List ℕ)
 tariff_header = codes "prefix" ∷ codes "from" ∷ codes "fee" ∷ codes "rate" ∷ []
 
@@ -136,7 +136,7 @@ complete_by bands (Some number) = Err (record { row = number; kind = kind.NoMidn
 abbrev pub complete : List Band → Result (List Band) TariffFault
 complete bands = complete_by bands (without_midnight bands 2 bands)
 
--- the rows of a table
+-- the rows of a tariff table, judged as a whole
 abbrev pub tariff_of : List (List (List ℕ)) → Result (List Band) TariffFault
 tariff_of rows = and_then (bands_of rows) complete
 

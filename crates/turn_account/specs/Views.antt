@@ -29,7 +29,7 @@ its_ticket Idles = 0
 its_ticket (Waits ticket) = ticket
 its_ticket (Serves ticket) = ticket
 
--- how many seats, and how many tickets, a stage has
+-- how many seats a stage is of
 abbrev pub seats_at : Stage → ℕ
 seats_at Notes = 0
 seats_at stage = 1
@@ -53,7 +53,7 @@ at_stage view stage = record view { stage = stage }
 abbrev pub seeing : View → Ledger → View
 seeing view seen = record view { seen = seen }
 
--- an account before any entry, and none
+-- an account that was never opened
 abbrev pub unopened : Ledger
 unopened = record { opening = 0; until = None; limit = 0; history = [] }
 
@@ -68,7 +68,7 @@ first_view opening until limit = record {
   ended = [];
 }
 
--- the first seat once it has made another, and that seat, under the next number
+-- the view of the first seat once it has made another
 abbrev pub one_seat_more : View → View
 one_seat_more view = record view { made = view.made + 1 }
 
