@@ -19,7 +19,7 @@ pub data EntryDeed : Type 0 where
   Ends : (paid : ℕ) → EntryDeed
   Rests : EntryDeed
 
--- by what was asked and answered. A Credit, and a Reserve that is denied, change no call
+-- what an entry does, by what was asked and answered. A Credit, and a Reserve that is denied, change no call
 abbrev pub deed_of : Asked → Reply → EntryDeed
 deed_of (Reserves call plan wanted least at) (reply.Granted units last available) = Grants plan units
 deed_of (Settles call number info) (reply.Settled paid available) = Reports info

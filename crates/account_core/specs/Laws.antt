@@ -103,6 +103,6 @@ pub record EntryIsInRange (entry : EntryData) : Type 0 where
   pub asked : is_in_range entry.asked ≡ true
   pub reply : IsReplyInRange entry.reply
 
--- every entry of a legal history is
+-- every entry of a legal history is in range
 abbrev pub EntriesAreInRange : Type 0
 EntriesAreInRange = (opening : ℕ) (until : Option ℕ) (history : List EntryData) → opening ≤ MAX_MONEY → IsLegal opening until history → All EntryIsInRange history

@@ -11,7 +11,7 @@ module _ {V : Type 0} where
   abbrev pub IsBelow : ℕ → ℕ × V → Type 0
   IsBelow number item = item.0 < number
 
-  -- of another number
+  -- an item of another number
   abbrev pub IsOther : ℕ → ℕ × V → Type 0
   IsOther number item = item.0 ≢ number
 

@@ -1,4 +1,4 @@
--- What those rest on who share an account among seats.
+-- What sharing an account among seats rests on.
 use Rattle.std.specs.Prelude.{◌≡◌, ◌≢◌, ◌+◌, ◌≤◌, ℕ, Some, List, ◌∷◌}
 use Rattle.account_core.specs.Asked.{Asked, call_of}
 use Rattle.account_core.specs.Entries.{EntryData}

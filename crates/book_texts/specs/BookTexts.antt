@@ -41,7 +41,7 @@ abbrev pub asks_steps : Asked → Bool
 asks_steps (Reserves call plan wanted least at) = has_steps plan
 asks_steps asked = false
 
--- whether any operation of a history does
+-- whether any operation of a history bills in steps
 abbrev pub history_has_steps : List EntryData → Bool
 history_has_steps history = list_any (λ entry. asks_steps entry.asked) history
 

@@ -40,7 +40,7 @@ abbrev pub opened : ℕ → ℕ → Option ℕ → Books → Option Booked → R
 opened account opening until books None = Ok (with_opening account opening until books)
 opened account opening until books (Some booked) = Err kind.Repeated
 
--- and has entries after that
+-- an account has entries once it is open
 abbrev pub entered_in_books : ℕ → EntryData → Books → Option Booked → Result Books RowKind
 entered_in_books account entry books None = Err kind.Unknown
 entered_in_books account entry books (Some booked) = Ok (books_with_entry account booked entry books)

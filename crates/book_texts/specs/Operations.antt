@@ -76,7 +76,7 @@ reserve_in o =
 abbrev pub settle_without_switch : Operation → Result TimeInfo RowKind
 settle_without_switch o = and_then (units_of o.x3) (λ time. Ok (info.NoSwitch time))
 
--- x3 and x4, where it knows one: the time since the switch, and the one before it
+-- x3 and x4 of a settle, where its report knows a switch: the time since the switch, and the one before it
 abbrev pub settle_with_switch : Operation → Result TimeInfo RowKind
 settle_with_switch o = and_then (units_of o.x3) (λ since. and_then (interval_of o.x4) (λ interval. Ok (info.Switch since interval)))
 

@@ -5,7 +5,7 @@ use Rattle.std.specs.Ordering.{nat_cmp, on}
 use Rattle.std.specs.declared.cmp.Ordering.{Ordering}
 use Rattle.cap_values.specs.declared.number.Number.{Number}
 
--- its digits, in ASCII
+-- the digits of a number, in ASCII
 abbrev pub digits_of_number : Number → List ℕ
 digits_of_number number = take number.len number.digits
 

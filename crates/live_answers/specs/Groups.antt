@@ -20,7 +20,7 @@ group_rows replay first answers line next (said ∷ more) =
     rows_of_line replay.quiet (line_behind_log replay next line) next (slice_get answers (next - first)) said
     ++ group_rows replay first answers (line_behind_log replay next line) (next_after next said) more
 
--- the number of the last of them
+-- the number of the last of some lines behind the line of a number
 abbrev pub line_behind : Replay → ℕ → ℕ → List LineView → ℕ
 line_behind replay line next [] = line
 line_behind replay line next (said ∷ more) = line_behind replay (line_behind_log replay next line) (next_after next said) more

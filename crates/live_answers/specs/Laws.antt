@@ -21,7 +21,7 @@ abbrev pub next_behind : ℕ → List Heard → ℕ
 next_behind next [] = next
 next_behind next (one ∷ heard) = next_behind (next_after next one.said) heard
 
--- the moment of the last of them
+-- the moment of the last message that was accepted, after some lines
 abbrev pub last_behind : ℕ → List Heard → ℕ
 last_behind last [] = last
 last_behind last (one ∷ heard) = last_behind (last_after last one.said) heard

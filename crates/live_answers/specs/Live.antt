@@ -19,7 +19,7 @@ next_after next None = next
 next_after next (Some (Ok message)) = next + 1
 next_after next (Some (Err kind)) = next
 
--- the moment of the last of them
+-- the moment of the last message that was accepted, after a line
 abbrev pub last_after : ℕ → LineView → ℕ
 last_after last None = last
 last_after last (Some (Ok message)) = message.at
@@ -65,6 +65,6 @@ text_after replay answers line next (one ∷ heard) =
 abbrev pub replayed_text : Replay → List Answer → List Heard → List ℕ
 replayed_text replay answers heard = text_after replay answers 1 0 heard
 
--- the same where none was
+-- what a live run prints of its lines behind the header, where none was heard before
 abbrev pub live_text : List Answer → List Heard → List ℕ
 live_text answers heard = replayed_text (record { messages = 0; quiet = 0 }) answers heard

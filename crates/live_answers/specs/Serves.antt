@@ -61,12 +61,12 @@ pub record IsServedWhole (output : LiveOutput) (setup : Setup) (replay : Replay)
   pub is_end : IsEndOf output (record { setup = setup; given = served.given; books = served.books }) end
   pub whole : Appends old new (printed replay rows served.answers served.count ++ end)
 
--- the output failed in the rows
+-- the output failed in what is printed of the rows
 pub record IsCutInRows (setup : Setup) (replay : Replay) (rows : List ℕ) (old new : Option (List ℕ)) : Type 0 where
   pub served : AreRowsServed setup rows (Some fault.Output)
   pub front : AppendsFront old new (printed replay rows served.answers served.count)
 
--- or in the end
+-- the output failed in the end that is printed behind the rows
 pub record IsCutInEnd (output : LiveOutput) (setup : Setup) (replay : Replay) (rows : List ℕ) (old new : Option (List ℕ)) : Type 0 where
   pub fault : Option LiveFault
   pub served : AreRowsServed setup rows fault

@@ -46,7 +46,7 @@ pub record IsFiledRun (ask : RunAsk) (text : List ℕ) (answer : Result Printout
   pub is_made : IsTablesAnswer ask text made
   pub printed : MatchResult made (λ tables. (answer ≡ Ok (printout_of_files tables)) ⊎ (answer ≡ Err fault.Into)) (λ why. answer ≡ Err (of_run why))
 
--- what it may make of an input
+-- what `run` may make of an input whose lines and tables go into files
 abbrev pub IsFiledRunOfInput : RunAsk → List ℕ → Result Printout Fault → Type 0
 IsFiledRunOfInput ask input answer = MatchResult (sized input) (λ text. IsFiledRun ask text answer) (λ why. answer ≡ Err why)
 

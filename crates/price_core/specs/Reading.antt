@@ -11,7 +11,7 @@ is_time_info (info.NoSwitch time) = nat_le time DAY
 is_time_info (info.Switch since None) = nat_le since DAY
 is_time_info (info.Switch since (Some interval)) = nat_le since DAY && nat_le 1 interval && nat_le interval DAY
 
--- the times that a report states, after those that were known. Left out, the time before the switch is as known, or none
+-- the times that a report states, after those that were known. Where it is left out, the time before the switch is as known, or 0
 abbrev pub times_stated : Elapsed → TimeInfo → Elapsed
 times_stated old (info.NoSwitch time) = record { before = time; after = 0; switched = false }
 times_stated old (info.Switch since None) = record { before = if old.switched then old.before else 0; after = since; switched = true }

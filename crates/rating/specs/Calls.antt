@@ -49,7 +49,7 @@ needed_moment fields place = ok_or (moment_of MAX_MOMENT (field_in fields place)
 abbrev pub optional_number : Fields → ℕ → ℕ → Result (Option ℕ) RateKind
 optional_number fields place most = if is_blank fields place then Ok None else present (needed_number fields place most)
 
--- the time up to an end, which is at most a day behind the answer
+-- the time up to an end, which is at most a day after the answer
 abbrev pub talk_until : ℕ → ℕ → Result Talk RateKind
 talk_until at end = if nat_lt end at then Err kind.Order else if nat_lt DAY (end - at) then Err kind.Order else Ok (talk.Lasts (end - at))
 

@@ -28,7 +28,7 @@ columns_of (Priced prefix charge paid) =
     prefix ∷ decimal charge.before ∷ decimal charge.after ∷ decimal charge.price ∷ difference charge.price paid ∷ [] ∷ []
 columns_of (Faulty why) = [] ∷ [] ∷ [] ∷ [] ∷ [] ∷ rate_kind_name why ∷ []
 
--- their names
+-- the names of the six columns
 abbrev pub names : Fields
 names = codes "prefix" ∷ codes "before" ∷ codes "after" ∷ codes "price" ∷ codes "difference" ∷ codes "fault" ∷ []
 

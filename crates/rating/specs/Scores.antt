@@ -21,7 +21,7 @@ counted score (Priced prefix charge (Some paid)) = record {
   over = score.over + (paid - charge.price);
 }
 
--- some rows, one after the other
+-- what is counted of some rows
 abbrev pub score_of_rows : List Rating → Score
 score_of_rows ratings = fold counted no_rows ratings
 

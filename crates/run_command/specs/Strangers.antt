@@ -11,7 +11,7 @@ stranger_of subscribers (Starts call calling called) = if is_some (account_of_di
 stranger_of subscribers (Meets call event) = []
 stranger_of subscribers (Recharges account amount until) = []
 
--- all of these in a script, in the order in which they start
+-- the calls in a script whose calling number no subscriber has, in the order in which they start
 abbrev pub strangers_in : List (List ℕ × ℕ) → List RowData → List ℕ
 strangers_in subscribers script = flat_map (λ event. stranger_of subscribers event.what) script
 

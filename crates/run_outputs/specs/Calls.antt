@@ -27,7 +27,7 @@ abbrev pub start_by : ℕ → SsfMsg → Option Start
 start_by at (message.InitialDp call calling called) = Some (record { at = at; calling = calling; called = called })
 start_by at _ = None
 
--- an Ended ends it
+-- an Ended ends its call
 abbrev pub end_by : ℕ → SsfMsg → Option ℕ
 end_by at message.Ended = Some at
 end_by at _ = None
@@ -49,7 +49,7 @@ parties_of call given = option_map (λ start. (start.calling, start.called)) (st
 abbrev pub reported_at : Event → ℕ → List (ℕ × Body) → Option ℕ
 reported_at event call given = first_said call (report_by event) given
 
--- whether it was reported
+-- whether an event of a call was reported
 abbrev pub is_reported : Event → ℕ → List (ℕ × Body) → Bool
 is_reported event call given = is_some (reported_at event call given)
 

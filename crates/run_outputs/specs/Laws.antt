@@ -12,6 +12,6 @@ is_unserved outcome.Denied = true
 is_unserved outcome.Refused = true
 is_unserved _ = false
 
--- such a call has paid nothing
+-- a call that no account has granted anything, as it was denied or refused or has no account, has paid nothing
 abbrev pub UnservedCallsPayNothing : Type 0
 UnservedCallsPayNothing = (run : Run) (call : CallRecord) → IsRecord run call → is_unserved call.outcome ≡ true → call.paid ≡ 0

@@ -44,7 +44,7 @@ payer_of subscribers (row ∷ script) call = option_or (payer_by subscribers cal
 abbrev pub part_script : List ℕ → (ℕ → Option ℕ) → List RowData → ℕ → List RowData
 part_script firsts payer script part = filter (λ row. part_of firsts payer row.what == part) script
 
--- the rows of it
+-- the rows of a part of a script, in order
 abbrev pub part_rows : List ℕ → (ℕ → Option ℕ) → List ScriptRow → ℕ → List ScriptRow
 part_rows firsts payer rows part = filter (λ row. part_of firsts payer (happens_of row.what) == part) rows
 

@@ -23,7 +23,7 @@ denies_call call entry = call_of entry.asked == call && denies entry.asked entry
 abbrev pub is_denied : ℕ → List EntryData → Bool
 is_denied call h = list_any (denies_call call) h
 
--- whether one does after the call was granted something
+-- whether an entry denies the call after it was granted something
 abbrev pub is_denied_later : ℕ → List EntryData → Bool
 is_denied_later call [] = false
 is_denied_later call (entry ∷ h) = denies_call call entry && is_some (known call h).plan || is_denied_later call h

@@ -46,16 +46,19 @@ amount_in_field field = number_in_field MAX_MONEY field
 abbrev pub until_in_field : List ℕ → Result (Option ℕ) RowKind
 until_in_field field = optional_moment_in_field MAX_MOMENT field
 
--- a party, an account, money and a last moment in the field at a place
+-- the number of a party in the field at a place
 abbrev pub party_in : List (List ℕ) → ℕ → Result (List ℕ) RowKind
 party_in fields place = party_in_field (field_in fields place)
 
+-- the number of an account in the field at a place
 abbrev pub account_in : List (List ℕ) → ℕ → Result ℕ RowKind
 account_in fields place = account_in_field (field_in fields place)
 
+-- money in the field at a place
 abbrev pub amount_in : List (List ℕ) → ℕ → Result ℕ RowKind
 amount_in fields place = amount_in_field (field_in fields place)
 
+-- a last moment in the field at a place, if there is one
 abbrev pub until_in : List (List ℕ) → ℕ → Result (Option ℕ) RowKind
 until_in fields place = until_in_field (field_in fields place)
 

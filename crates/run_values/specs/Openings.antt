@@ -7,7 +7,7 @@ use Rattle.price_core.specs.declared.plan.TheConstants.{MAX_MONEY}
 use Rattle.price_core.specs.declared.times.TheConstants.{MAX_MOMENT}
 use Rattle.run_values.specs.declared.directory.OpeningCredit.{OpeningCredit}
 
--- no credit, that doesn't expire
+-- no credit, and no last moment
 abbrev pub no_credit : OpeningCredit
 no_credit = record { amount = 0; until = None }
 

@@ -37,7 +37,7 @@ pub record IsTalkCalled {T : Type 0} (Calls : Asking T) (first : Says × Phase) 
   pub orders : answer.orders ≡ orders_sent_by (talked first gots).0
   pub refused : answer.refused ≡ last_fault gots
 
--- so it is of a dialogue that begins
+-- the calls for the asks of a dialogue that begins, by the route of the called number
 pub record IsBeginningCalled {T : Type 0} (Calls : Asking T) (setup : Setup) (at call : ℕ) (called : Number) (answer : AnswerView) (from to : T) : Type 0 where
   pub route : Option Route
   pub routed : IsRouted setup.tariff (digits_of_number called) at route
@@ -51,7 +51,7 @@ AreCalled Calls setup at (Recharges place amount until) old new answer = GoesAt 
 AreCalled Calls setup at (Begins call place called) old new answer = GoesAt place old new (IsBeginningCalled Calls setup at call called answer)
 AreCalled Calls setup at (GoesOn call place said phase) old new answer = GoesAt place old new (IsTalkCalled Calls (said, phase) answer)
 
--- and by its case
+-- the calls that a post comes to, by its case
 abbrev pub AreCalledIn : {T : Type 0} → Asking T → Case → List T → List T → AnswerView → Type 0
 AreCalledIn Calls case.Stray old new answer = new ≡ old
 AreCalledIn Calls case.Rejected old new answer = new ≡ old

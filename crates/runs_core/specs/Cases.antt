@@ -69,7 +69,7 @@ IsActed numbers case.Rejected old new answer = IsUnasked (Release 21 ∷ []) fal
 IsActed numbers (case.Recharge place amount until) old new answer = IsRecharged numbers place amount until old new answer
 IsActed numbers (case.Talk call talk turn) old new answer = IsTalked numbers call talk.place (says_of turn, phase_of talk.dialogue) old new answer
 
--- a fault that is asked for after others takes their place
+-- the last fault once an ask got this: the one that it got, or else that of the asks before
 abbrev pub or_fault : Option AccountFault → Got → Option AccountFault
 or_fault refused (Ok reply) = refused
 or_fault refused (Err fault) = Some fault

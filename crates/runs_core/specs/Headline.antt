@@ -19,7 +19,7 @@ abbrev pub PaysTheTariff : Closed → Type 0
 PaysTheTariff book = (call : ℕ) (plan : Rates) → IsClosed call plan (reverse book.history)
     → paid_at_return call (reverse book.history) ≡ Some (price_at plan (known call (reverse book.history)).times)
 
--- and these are the times that its last report states
+-- the times of each call that never forfeited are those that its last report states
 abbrev pub ReportsItsTimes : Closed → Type 0
 ReportsItsTimes book = (call : ℕ) → (known call (reverse book.history)).forfeited ≡ false
     → AreReported (last_report call (reverse book.history)) (known call (reverse book.history)).times
@@ -30,6 +30,6 @@ pub record IsRight (book : Closed) : Type 0 where
   pub paid : PaysTheTariff book
   pub times : ReportsItsTimes book
 
--- a book whose opening is money and whose history is legal is right; every book is so
+-- every book is right whose opening is at most `MAX_MONEY` and whose history is legal
 abbrev pub BooksAreRight : Type 0
 BooksAreRight = (book : Closed) → book.opening ≤ MAX_MONEY → IsLegal book.opening book.until book.history → IsRight book

@@ -16,7 +16,7 @@ has_close [] = false
 has_close (Work content ∷ mails) = has_close mails
 has_close (Close ∷ mails) = true
 
--- no mails
+-- whether there are no mails
 abbrev pub is_empty_log : {T : Type 0} → List (Mail T) → Bool
 is_empty_log [] = true
 is_empty_log (mail ∷ mails) = false

@@ -63,12 +63,12 @@ abbrev pub spoken : Setup → ℕ → ℕ → ℕ → SsfMsg → Option Dialogue
 spoken setup number at call message None = fresh_call setup call message
 spoken setup number at call message (Some standing) = goes_on call standing.place (on_message standing.phase number at message)
 
--- what a post is about, by the setup and the dialogues
+-- the verdict on a post with this number, moment and body, by the setup and the dialogues of the worker
 abbrev pub verdict_on : Setup → (ℕ → Option DialogueAt) → ℕ → ℕ → Body → Verdict
 verdict_on setup talks number at (Ssf call message) = spoken setup number at call message (talks call)
 verdict_on setup talks number at (Recharge account amount until) = recharged amount until (place_of account setup)
 
--- by the setup and the dialogues of the worker
+-- the verdict on a post, by the setup and the dialogues of the worker
 abbrev pub verdict : Setup → (ℕ → Option DialogueAt) → Post → Verdict
 verdict setup talks post = verdict_on setup talks post.number post.at post.body
 

@@ -65,7 +65,7 @@ pub record IsPlaced (count call : ℕ) (standing : DialogueAt) : Type 0 where
   pub placed : standing.place < count
   pub about : IsAbout call standing.phase
 
--- each dialogue is so
+-- each dialogue has its account among so many, and is about its call
 abbrev pub ArePlaced : ℕ → (ℕ → Option DialogueAt) → Type 0
 ArePlaced count talks = (call : ℕ) → IfSome (talks call) (λ standing. IsPlaced count call standing)
 

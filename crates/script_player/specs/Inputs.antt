@@ -16,7 +16,7 @@ GoesOnBy before after now (input.Operate op) trace sent fault = TakesAt before a
 GoesOnBy before after now (input.Meet event) trace sent fault = TakesAt before after now (meets event) trace sent fault
 GoesOnBy before after now input.Wait trace sent fault = Advances before after now trace sent × (fault ≡ None)
 
--- a gsmSSF is given an input at a moment, sends this, and may refuse it by a fault; for a moment behind its last one it stays as it is, sends nothing and refuses
+-- a gsmSSF is given an input at a moment, sends this, and may refuse it by a fault; for a moment before its last one it stays as it is, sends nothing and refuses
 pub record IsGiven (before after : View) (now : ℕ) (input : Input) (sent : List Out) : Type 0 where
   pub fault : Option SsfFault
   pub same_config : after.config ≡ before.config
@@ -24,7 +24,7 @@ pub record IsGiven (before after : View) (now : ℕ) (input : Input) (sent : Lis
   pub moment : before.last ≤ now → after.last ≡ now
   pub goes_on : before.last ≤ now → (trace : List Happening) → Stands before trace → GoesOnBy before after now input trace sent fault
 
--- the next timer of a gsmSSF is due at a moment, which isn't behind it, or none runs
+-- the next timer of a gsmSSF is due at a moment, which isn't before its last one, or none runs
 pub record IsNextTimer (view : View) (due : Option ℕ) : Type 0 where
   pub least : (trace : List Happening) → Stands view trace → IsNextDue view.config trace due
   pub ahead : ForSome due (λ at. view.last ≤ at)

@@ -71,7 +71,7 @@ taken_or_refused config now (input.Operate op) timed = with_input now (operates 
 taken_or_refused config now (input.Meet event) timed = with_input now (meets event) timed (on_input timed (phase_after config timed) now (meets event))
 taken_or_refused config now input.Wait timed = timed
 
--- a life goes on by an input: the timers run until its moment, and it is taken or refused as the rules say; behind the latest moment nothing happens
+-- a life goes on by an input: the timers run until its moment, and it is taken or refused as the rules say; for a moment before its last one nothing happens
 pub record LivesOn (config : SsfConfig) (now : ℕ) (input : Input) (before after : Life) : Type 0 where
   pub backwards : now < before.last → after ≡ before
   pub moment : before.last ≤ now → after.last ≡ now

@@ -73,7 +73,7 @@ TheAnswerStays =
     (config : SsfConfig) (later trace : List Happening) (moment : ℕ) → IsTrace config (later ++ trace) → answered trace ≡ Some moment
     → answered (later ++ trace) ≡ Some moment
 
--- nor does the switch
+-- the moment of the switch never changes once it has come
 abbrev pub TheSwitchStays : Type 0
 TheSwitchStays =
     (config : SsfConfig) (later trace : List Happening) (moment : ℕ) → IsTrace config (later ++ trace) → switched trace ≡ Some moment
@@ -84,7 +84,7 @@ abbrev pub ItemIsInRange : Item → Type 0
 ItemIsInRange (Msg (ChargingReport active info)) = is_time_info info ≡ true
 ItemIsInRange _ = ⊤
 
--- so do those of each report that is sent
+-- the times of each charging report that is sent lie within their ranges
 abbrev pub ReportsAreInRange : Type 0
 ReportsAreInRange = (config : SsfConfig) (trace : List Happening) → IsTrace config trace → All (λ out. ItemIsInRange out.item) (sent_in trace)
 

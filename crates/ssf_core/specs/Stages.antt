@@ -60,14 +60,14 @@ initial_due early moment Tcp = None
 initial_due early moment Tccd = None
 initial_due early moment Tssf = Some moment
 
--- which timers run before the answer
+-- when the timers of a call that is monitored before its answer are due
 abbrev pub early_due : Early → Timer → Option ℕ
 early_due early Tsw = switch_due_of early.switch
 early_due early Tcp = None
 early_due early Tccd = None
 early_due early Tssf = None
 
--- which timers run while the end is reported to the service
+-- when the timers are due while the service is told of the end
 abbrev pub down_due : ℕ → Timer → Option ℕ
 down_due moment Tsw = None
 down_due moment Tcp = None
@@ -84,13 +84,13 @@ stage_due (stage.Active active) timer = active_due active timer
 stage_due (stage.Down moment) timer = down_due moment timer
 stage_due stage.Ended timer = None
 
--- the switch isn't behind, unless it came
+-- a switch that is due isn't past, and one that came isn't ahead
 abbrev pub IsSwitchTimely : ℕ → Switch → Type 0
 IsSwitchTimely now switch.Unset = Unit {0}
 IsSwitchTimely now (switch.Due moment) = now ≤ moment
 IsSwitchTimely now (switch.Passed moment) = moment ≤ now
 
--- neither is the end of the period, or of the wait for a further one
+-- the end of the period, or of the wait for a further one, isn't past
 abbrev pub IsChargingTimely : ℕ → ℕ → Charging → Type 0
 IsChargingTimely now end charging.Off = Unit {0}
 IsChargingTimely now end (charging.Running release) = now ≤ end
@@ -103,7 +103,7 @@ pub record IsActiveTimely (now : ℕ) (active : Active) : Type 0 where
   pub charging : IsChargingTimely now (active.answered + active.granted) active.charging
   pub switch : IsSwitchTimely now active.switch
 
--- what was is behind, and no due moment is
+-- what has come isn't ahead, and no moment that is due is past
 abbrev pub IsTimelyStage : ℕ → Stage → Type 0
 IsTimelyStage now stage.Unused = Unit {0}
 IsTimelyStage now stage.Requested = Unit {0}

@@ -63,7 +63,7 @@ pub record ActiveHas (active : AnActive) (modes : Point → Mode) (wish : Option
   pub same_switch : came ≡ passed_switch active.switch
   pub same_awaited : awaited ≡ switch_due_of active.switch
 
--- what a early keeps is what the trace says
+-- what a call keeps before its answer is what the trace says
 abbrev pub EarlyMatches : AnEarly → List Happening → Type 0
 EarlyMatches early trace =
     EarlyHas early (mode_at trace) (pending trace) (granted trace) (period_end trace) (switched trace) (awaited_switch (switched trace) (switch_due trace))

@@ -24,7 +24,7 @@ IsTakenInput config trace now input (Ok effect) (Err fault) before after = ⊥
 IsTakenInput config trace now input (Err fault) (Ok stage) before after = ⊥
 IsTakenInput config trace now input (Err fault) (Err other) before after = (fault ≡ other) × (after ≡ before)
 
--- so it is of each trace that the stage stands for
+-- an input is taken or refused as the rules say, in each trace that the stage stands for
 abbrev pub TakesInput : SsfConfig → Stage → ℕ → Input → Result Stage SsfFault → List Out → List Out → Type 0
 TakesInput config stage now input result before after =
     (trace : List Happening) → StageMatches config stage trace → IsTakenInput config trace now input (on_input trace (ssf_phase_of stage) now input) result before after

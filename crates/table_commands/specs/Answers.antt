@@ -25,7 +25,7 @@ abbrev pub price_of_table : Rates → List ℕ → Result Printout Fault
 price_of_table plan text =
     and_then (meaning_in table_name.Reports (table_reports_of plan (rows_of text))) (λ reports. Ok (plain (price_lines plan 0 reports)))
 
--- and of an input
+-- what `price` makes of an input, which is a table of reports: its lines, or the first fault
 abbrev pub price_of_input : Rates → List ℕ → Result Printout Fault
 price_of_input plan input = and_then (sized input) (price_of_table plan)
 
@@ -33,7 +33,7 @@ price_of_input plan input = and_then (sized input) (price_of_table plan)
 abbrev pub replay_of_table : ℕ → ℕ → List ℕ → Result Printout Fault
 replay_of_table opening limit text = and_then (meaning_in table_name.Ops (replayed opening limit (rows_of text))) (λ lines. Ok (plain lines))
 
--- and of an input
+-- what `replay` makes of an input, which is a table of operations
 abbrev pub replay_of_input : ℕ → ℕ → List ℕ → Result Printout Fault
 replay_of_input opening limit input = and_then (sized input) (replay_of_table opening limit)
 
@@ -52,7 +52,7 @@ abbrev pub IsAuditOfTable : AuditAsk → List ℕ → Result Printout Fault → 
 IsAuditOfTable ask text answer =
     MatchResult (meaning_in table_name.Book (books_of (most_rows ask.size) (rows_of text))) (λ books. IsAuditPrinted ask text books answer) (λ why. answer ≡ Err why)
 
--- and of an input
+-- what `audit` makes of an input, which is a table of books, as it is asked
 abbrev pub IsAuditOfInput : AuditAsk → List ℕ → Result Printout Fault → Type 0
 IsAuditOfInput ask input answer = MatchResult (sized_as ask.size input) (λ text. IsAuditOfTable ask text answer) (λ why. answer ≡ Err why)
 
@@ -66,6 +66,6 @@ pub record IsQuotePrinted (bands : List Band) (wish : QuoteWish) (answer : Resul
 abbrev pub IsQuoteOfTariff : QuoteWish → List ℕ → Result Printout Fault → Type 0
 IsQuoteOfTariff wish text answer = MatchResult (meaning_of_section (tariff_in text)) (λ bands. IsQuotePrinted bands wish answer) (λ why. answer ≡ Err why)
 
--- and of an input
+-- what `quote` makes of an input, which is a tariff
 abbrev pub IsQuoteOfInput : QuoteWish → List ℕ → Result Printout Fault → Type 0
 IsQuoteOfInput wish input answer = MatchResult (sized input) (λ text. IsQuoteOfTariff wish text answer) (λ why. answer ≡ Err why)

@@ -21,7 +21,7 @@ hex_digit number = if nat_lt number 10 then 48 + number else 97 + (number - 10)
 abbrev pub shown_byte : ℕ → List ℕ
 shown_byte byte = if is_printed byte then byte ∷ [] else codes "\\x" ++ (hex_digit (byte / 16) ∷ hex_digit (byte % 16) ∷ [])
 
--- how many columns it takes
+-- how many columns a byte takes as it is shown
 abbrev pub shown_width : ℕ → ℕ
 shown_width byte = if is_printed byte then 1 else 4
 

@@ -55,7 +55,7 @@ handling_of None = Some handling.Release
 handling_of (Some text) =
     if bytes_eq text (codes "release") then Some handling.Release else if bytes_eq text (codes "proceed") then Some handling.Proceed else None
 
--- what the switch does where no answer comes
+-- what the switch does where no answer comes, as the options say
 abbrev pub handling_in : List Row → Option DefaultHandling
 handling_in options = handling_of (first_of (codes "default") options)
 

@@ -58,7 +58,7 @@ optional_in fields place most = optional_in_field most (field_in fields place)
 
 -- ---- a field that is printed
 
--- a number where there is one
+-- a number in decimals, nothing where there is none
 abbrev pub number_or_empty : Option ℕ → List ℕ
 number_or_empty None = []
 number_or_empty (Some number) = decimal number

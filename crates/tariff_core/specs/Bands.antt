@@ -37,7 +37,7 @@ unfoldable pub band_at : List ℕ → ℕ → ℕ → List Band → Option Band
 band_at prefix day start [] = None
 band_at prefix day start (band ∷ bands) = if is_at prefix day start band then Some band else band_at prefix day start bands
 
--- whether there is one
+-- whether there is a row for a prefix, a weekday and a start
 abbrev pub has_band : List ℕ → ℕ → ℕ → List Band → Bool
 has_band prefix day start bands = is_some (band_at prefix day start bands)
 

@@ -58,7 +58,7 @@ abbrev pub handed : At → Sitter → ℕ → Sitter → Type 0
 handed step before found after =
     (after.0 ≡ at_stage before.0 Idles) × (after.1 ≡ rest before.1) × IsLegal before.0.seen.opening before.0.seen.until before.0.seen.history
 
--- the longer of what was seen and what was heard, which the other begins
+-- the longer of what was seen and what was heard, which begins with the other
 pub record HasMet (seen heard : List EntryData) (before after : View) : Type 0 where
   pub stage : after.stage ≡ before.stage
   pub number : after.number ≡ before.number

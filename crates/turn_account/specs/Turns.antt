@@ -99,7 +99,7 @@ pub record IsTakenUp (homes : List (maybe.Option (Option Ledger))) (views : List
   pub there : get_elem? views at ≡ some view
   pub serves : view.stage ≡ Serves ticket
 
--- where nobody has the turn, it is at home
+-- the account is in its slot where nobody has the turn, else with the view that has it
 abbrev pub AccountLiesAt : Ledger → List (maybe.Option (Option Ledger)) → List View → Option ℕ → Type 0
 AccountLiesAt account homes views None = homes ≡ some (Some account) ∷ []
 AccountLiesAt account homes views (Some at) = IsTakenUp homes views at
