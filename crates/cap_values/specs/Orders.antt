@@ -37,19 +37,19 @@ operations_in (instructions.FurtherPeriod charge) = ApplyCharging charge ∷ []
 abbrev pub orders_in : Instructions → List Order
 orders_in said = orders_of (operations_in said)
 
--- a period that an order pays for, in units of 100 ms, and the seconds to a switch
+-- the period of an ApplyCharging, in units of 100 ms, and the seconds to its switch, if it has one
 pub record Paid : Type 0 where
   pub period : ℕ
   pub switch : Option ℕ
 
--- what an order pays for, before what later orders do
+-- the period of an operation, if it is an ApplyCharging, before those of later operations
 abbrev pub with_paid : Order → List Paid → List Paid
 with_paid (Watch arms) later = later
 with_paid (Pay period switch release) later = record { period = period; switch = switch } ∷ later
 with_paid GoOn later = later
 with_paid (Release cause) later = later
 
--- what orders pay for, in order
+-- the periods of operations, in order
 abbrev pub paid_by : List Order → List Paid
 paid_by [] = []
 paid_by (order ∷ orders) = with_paid order (paid_by orders)

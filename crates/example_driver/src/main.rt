@@ -1,5 +1,6 @@
 //! A run that is driven by messages of one's own in place of a script: those of a switch with one
-//! call. Prints what the service orders after each message, and what the account comes to.
+//! call. Prints the operations that the service sends after each message, and what the account
+//! comes to.
 #![tactic(auto)]
 
 mod switch;

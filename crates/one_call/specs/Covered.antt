@@ -1,5 +1,5 @@
 -- What holds between the gsmSSF, the service and the port of one call, so that each report is settled. The gsmSSF is seen by its meter,
--- the service by its phase, the port by what it keeps of the call; an order on its way is a period that is queued.
+-- the service by its phase, the port by what it keeps of the call; an ApplyCharging on its way is a period that is queued.
 use Rattle.std.specs.Prelude.{◌≡◌, ◌+◌, ◌-◌, ◌≤◌, ◌⊎◌, ◌++◌, ℕ, Bool, true, false, Option, Some, None, IsSome, List, [], ◌∷◌, is_some, nat_le, if◌then◌else◌}
 use Rattle.account_core.specs.Answers.{accepted_times}
 use Rattle.account_core.specs.Asked.{Asked, Reserves, Settles, Returns}
@@ -12,12 +12,12 @@ use Rattle.price_core.specs.Times.{Elapsed, no_times}
 use Rattle.price_core.specs.declared.times.TimeInfo.{TimeInfo}
 use Rattle.price_core.specs.declared.times.TheConstants.{DAY}
 
--- the units that queued orders pay for
+-- the units of the periods that are queued
 abbrev pub units_in : List Paid → ℕ
 units_in [] = 0
 units_in (paid ∷ queued) = paid.period + units_in queued
 
--- at most one order is queued: then no period is pending, and it has a switch only where the plan has a second rate
+-- at most one period is queued: then no period is pending, and it has a switch only where the plan has a second rate
 abbrev pub IsSingle : Meter → Rates → List Paid → Type 0
 IsSingle meter plan [] = Unit {0}
 IsSingle meter plan (paid ∷ []) = (meter.pending ≡ false) × (is_some paid.switch ≡ true → is_some plan.after ≡ true)
@@ -97,7 +97,7 @@ abbrev pub IsResting : ℕ → Meter → List Paid → CallFacts → Phase → T
 IsResting call meter queued kept (Running t) = (t.call ≡ call) × IsCovered meter queued kept
 IsResting call meter queued kept phase = Unit {0}
 
--- what was said fits: the orders that are sent are queued
+-- what was said fits: the periods of the operations that are sent are queued
 abbrev pub FitsMeter : ℕ → Meter → List Paid → CallFacts → Phase → Says → Type 0
 FitsMeter call meter queued kept phase (Asks asked) = IsAsking call meter queued kept phase asked
 FitsMeter call meter queued kept phase (Sends orders) = IsResting call meter (queued ++ paid_by orders) kept phase

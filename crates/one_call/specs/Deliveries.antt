@@ -9,7 +9,7 @@ use Rattle.ssf_core.specs.declared.deliveries.Delivery.{Delivery}
 abbrev pub AreSent : ℕ → ℕ → List Delivery → List Delivery → Type 0
 AreSent at call before after = (ops : List ScfOp) × (after ≡ before ++ deliveries_at at call ops)
 
--- the periods that the deliveries pay for, in order
+-- the periods of the deliveries, in order
 abbrev pub queued_in : List Delivery → List Paid
 queued_in [] = []
 queued_in (delivery ∷ deliveries) = with_paid (order_of delivery.op) (queued_in deliveries)

@@ -16,9 +16,8 @@ use dialogue_core::Dialogue;
 use ssf_core::{Delivery, Item, Moment, Out, send};
 use std::collections::VecDeque;
 
-/// Hands a message to the dialogue at its moment, and gives the instructions that it answers
-/// with. A
-/// message that has no place in the dialogue is answered by none.
+/// Hands a message to the dialogue at its moment, and gives the instructions that it answers with.
+/// A message that has no place in the dialogue is answered by none.
 fn hear<P: Port>(
     port: &mut P,
     dialogue: &mut Dialogue,

@@ -13,7 +13,7 @@ use Rattle.ssf_core.specs.declared.ssf.Input.TheVariants.{Operate}
 use Rattle.ssf_core.specs.declared.item.Item.{Item}
 use Rattle.ssf_core.specs.declared.item.Item.TheVariants.{Msg}
 
--- one more at an order of a period
+-- one period more, where an ApplyCharging is accepted
 abbrev pub periods_after : What → ℕ → ℕ
 periods_after (Took (Operate (ApplyCharging charge))) before = 1 + before
 periods_after _ before = before

@@ -67,7 +67,7 @@ abbrev pub MetersItem : Meter → ℕ → Item → Meter → Type 0
 MetersItem before now (Msg (ChargingReport active info)) after = Reports before now active info after
 MetersItem before now _ after = Later before after
 
--- a period is taken: it adds to the sum; a switch is awaited from now on only if it was, or if the order has one
+-- a period is taken: it adds to the sum; a switch is awaited from now on only if it was, or if the ApplyCharging has one
 pub record TakesPeriod (paid : Paid) (before after : Meter) : Type 0 where
   pub more_granted : after.granted ≡ before.granted + paid.period
   pub ordered : after.awaited ≡ true → (before.awaited ≡ true) ⊎ (is_some paid.switch ≡ true)
@@ -76,7 +76,7 @@ pub record TakesPeriod (paid : Paid) (before after : Meter) : Type 0 where
   pub came : (moment : ℕ) → after.switched ≡ Some moment → (moment ≤ after.last) × (after.awaited ≡ true)
   pub no_fall : before.last ≤ after.last
 
--- after all items: an order of a period is refused or taken
+-- after all items: the period of an ApplyCharging is refused or taken
 abbrev pub EndsMeter : List Paid → Meter → Meter → Type 0
 EndsMeter [] before after = Later before after
 EndsMeter (paid ∷ orders) before after = Later before after ⊎ TakesPeriod paid before after
@@ -87,7 +87,7 @@ RunsThrough orders before [] after = (ready : Meter) × (Later before ready × E
 RunsThrough orders before (out ∷ outs) after =
     (ready : Meter) × (Later before ready × ((sent : Meter) × (MetersItem ready out.at out.item sent × RunsThrough orders sent outs after)))
 
--- what an input pays for
+-- the period of an input, if that is an ApplyCharging
 abbrev pub pays_for : What → List Paid
 pays_for (Took (Operate op)) = paid_by (order_of op ∷ [])
 pays_for _ = []
