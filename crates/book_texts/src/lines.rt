@@ -42,7 +42,7 @@ impl Model for RunLines {
 }
 
 impl RunLines {
-    /// Those of no book.
+    /// The lines of no book.
     pub fn new(alloc: Global) -> RunLines
         ensures { AreLinesOf [] result }
     {
@@ -52,7 +52,7 @@ impl RunLines {
         }
     }
 
-    /// Adds those of more books, behind those that there are.
+    /// Adds the lines of more books, behind those that there are.
     pub fn add(&mut self, alloc: Global, books: &[Book]) -> Result<(), AllocError>
         ensures { OnOk result ((before : List Closed) → AreLinesOf before self.old
             → AreLinesOf (before ++ books.now) self.new) }
@@ -64,7 +64,7 @@ impl RunLines {
         Ok(())
     }
 
-    /// Adds those of a book.
+    /// Adds the lines of a book.
     fn add_one(&mut self, of: Summary) -> Result<(), AllocError>
         ensures accounts { OnOk result (self.new.accounts ≡ self.old.accounts
             ++ account_text of.account of.opening of.available of.entries) }
@@ -77,7 +77,7 @@ impl RunLines {
         add_calls(&mut self.calls, account, of.calls.as_slice())
     }
 
-    /// Puts those of other books behind these.
+    /// Adds the lines of other books, behind those that there are.
     pub fn append(&mut self, more: &RunLines) -> Result<(), AllocError>
         ensures { OnOk result ((books later : List Closed) → AreLinesOf books self.old
             → AreLinesOf later more.now → AreLinesOf (books ++ later) self.new) }

@@ -83,7 +83,8 @@ impl Dialogue {
     }
 
     /// Takes a message of the gsmSSF, with its number, at a moment: where more time is asked for
-    /// after a report, it is asked for at the report's moment.
+    /// after a report, it is asked for at the report's moment. `AskPending` while the account's
+    /// reply is awaited, else `Unexpected` where the message has no place.
     pub fn take(&mut self, number: u64, at: u64, message: SsfMsg) -> Result<Turn, DialogueFault>
         ensures ok { IfOk result (λ turn.
             on_message (phase_of self.old) number at message
@@ -97,7 +98,8 @@ impl Dialogue {
         Ok(turn)
     }
 
-    /// Takes the account's reply to what was asked.
+    /// Takes the account's reply to what was asked. `NoAskPending` where nothing was, else
+    /// `Unexpected` where the reply has no place.
     pub fn answer(&mut self, reply: Reply) -> Result<Turn, DialogueFault>
         ensures ok { IfOk result (λ turn.
             on_reply (phase_of self.old) reply ≡ Ok (says_of turn, phase_of self.new)) }
@@ -110,6 +112,7 @@ impl Dialogue {
     }
 
     /// Takes the account's refusal of what was asked; which fault it was makes no difference.
+    /// `NoAskPending` where nothing was asked.
     pub fn refused(&mut self, fault: AccountFault) -> Result<Turn, DialogueFault>
         ensures ok { IfOk result (λ turn.
             on_refusal (phase_of self.old) ≡ Ok (says_of turn, phase_of self.new)) }

@@ -12,7 +12,8 @@ use run_values::{RunOptions, RunSetup};
 use std::alloc::{AllocError, Global};
 
 /// The numbers of the calls of an input whose calling number no subscriber has, in the order in
-/// which they start. A run releases them at once, and no account knows of them.
+/// which they start. A run releases them at once, and no account knows of them. A fault of the
+/// input is the result, as of a run.
 pub fn stranger_calls(
     alloc: Global,
     options: &RunOptions,

@@ -40,7 +40,7 @@ pub struct Ran {
 }
 
 impl Played {
-    /// What is printed of it, over the setup with which it was played.
+    /// What its run prints, over the setup with which it was played.
     pub fn print(
         &self,
         alloc: Global,

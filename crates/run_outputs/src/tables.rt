@@ -29,7 +29,7 @@ pub struct RunTables {
 }
 
 impl Played {
-    /// All that is printed of it, over the setup with which it was played, where all of its answers
+    /// All that its run prints, over the setup with which it was played, where all of its answers
     /// were kept. The moments of the calls and of the trace are printed in this form.
     pub fn print_all(
         &self,

@@ -74,8 +74,9 @@ impl ScriptPlayer {
     ghost use Rattle.run_texts.specs.Views.{rows_are_in_order};
     ghost use Rattle.script_player.specs.Runs.{fresh_play};
 
-    /// The player of these rows, before its first round. Each gsmSSF has this configuration, and
-    /// the delay is 1 to 864,000 units of 100 ms.
+    /// The player of these rows, before its first round. They are in the order of their moments,
+    /// which are at most `MAX_MOMENT`. Each gsmSSF has this configuration, and the delay is 1 to
+    /// 864,000 units of 100 ms.
     pub fn new(
         alloc: Global,
         rows: Vec<ScriptRow>,

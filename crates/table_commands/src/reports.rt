@@ -16,7 +16,8 @@ use table_core::{RowKind, TableFault, TakeFault, TakeRow, number, take_table};
 /// The most rows of a table of reports, its header not counted.
 const MAX_ROWS: u32 = 10_000;
 
-/// The reports, each lawful after the one before it and the first after no time at all.
+/// The reports of a table, each lawful after the one before it and the first after no time at all;
+/// else the first fault of the table.
 pub fn read_reports<I: Read + Drop>(
     alloc: Global,
     plan: &Plan,

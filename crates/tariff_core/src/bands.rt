@@ -52,7 +52,7 @@ impl Model for Bands {
 }
 
 impl Bands {
-    /// The rows of a table, judged one after another as they are read.
+    /// The rows of a tariff table, judged one after another as they are read; else the first fault.
     pub fn read<R: Read + Drop>(alloc: Global, reader: R) -> Result<Bands, TariffFault>
         ensures { IfSome (R.remaining reader) (λ text. GivesBands result (bands_of
             (rows_of text))) }
