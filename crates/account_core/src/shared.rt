@@ -22,8 +22,8 @@ use std::sync::Wait;
 /// seat's own entries were then. A fault but `GateClosed` comes with such a refusal.
 ///
 /// And it says that a call led from one state of a seat to the next (`calls`). Nothing but a call
-/// shows this, or a refusal: whoever is generic over the form can't claim an ask that wasn't put,
-/// not even that memory ran out there, nor keep one to itself.
+/// shows this, or a refusal: code that is generic over the form can't claim an ask that wasn't put,
+/// not even that memory ran out there, nor leave one out.
 ///
 /// What a form says of a seat is `reads`: the key of its account, its number and its own entries.
 /// A seat is of the account whose key it has: the account's number, or whatever else a form says

@@ -48,7 +48,7 @@ pub(crate) enum BookRow {
     },
 }
 
-/// What a row of a table of this version says, wherever it is.
+/// What a row of a table of this version says by itself.
 pub(crate) fn read_row(row: &ByteRecord, version: Version) -> Result<BookRow, RowKind>
     ensures says { result_map_both row_said_of (λ kind. kind) result
         ≡ row_said_in (columns_in version (fields_of row.now)) }

@@ -47,7 +47,7 @@ pub fn log_head(alloc: Global, service: ServiceConfig, input: &[u8]) -> Result<V
 /// the disk.
 ///
 /// The fault is `Other` where it begins otherwise; `OutOfMemory`; else `Device`, also where it is
-/// no plain file, and where another process has it.
+/// no plain file, or another process has locked it.
 pub(crate) fn open_log<R: Files<File = File>>(
     rt: &R,
     alloc: Global,
@@ -77,8 +77,8 @@ fn lock_file<R: Files<File = File>>(rt: &R, path: &str) -> Result<File, LogFault
     Ok(file)
 }
 
-/// The lines that a log holds behind its head, with which its file ends then: a torn last line is
-/// cut off, and a log whose head is torn is begun anew.
+/// The lines that a log holds behind its head. A torn last line is cut off, and a log whose head is
+/// torn is begun anew, so that the file ends with these lines.
 fn take_lines<R: Files<File = File>>(
     rt: &R,
     alloc: Global,

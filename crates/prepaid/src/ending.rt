@@ -61,9 +61,9 @@ pub(crate) fn audit_ending(alloc: Global, ending: Ending<Audit>) -> Ending<Answe
     }
 }
 
-/// What a run comes to: of its fault is said what the input shows, as `Ending::over` has it; and of
-/// an answer which calls the run passed over, since no subscriber has their calling number, and
-/// which events had no place in it.
+/// What a run comes to. Of its fault it says what the input shows, as `Ending::over` does; and of
+/// an answer it says which calls the run passed over, since no subscriber has their calling number,
+/// and which events had no place in it.
 pub(crate) fn run_ending(
     alloc: Global,
     explains: bool,

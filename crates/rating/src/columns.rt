@@ -99,7 +99,7 @@ fn needed(header: &ByteRecord, name: &str) -> Option<usize>
     sought(header, name)?
 }
 
-/// The place of a name, none inside where the header hasn't it; none where it has it twice.
+/// The place of a name: `Some(None)` where the header doesn't have it, none where it has it twice.
 fn sought(header: &ByteRecord, name: &str) -> Option<Option<usize>>
     ensures { result ≡ sought (fields_of header.now) name.now }
 {

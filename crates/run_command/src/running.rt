@@ -28,7 +28,7 @@ use std::thread::Threads;
 /// that the script says of them; its text is that of the books and the calls of all parts together.
 ///
 /// The input is judged first, its sections in order, and its first fault is the result. `Workers`
-/// where there aren't 1 to 16 workers; any other fault of a run comes as `runs_core::serve` has it.
+/// where there aren't 1 to 16 workers; any other fault of a run comes as `runs_core::serve` says.
 ///
 /// While it goes on, `watch` is shown how far it is, after two seconds, and then five times a
 /// second.

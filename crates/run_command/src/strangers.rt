@@ -26,7 +26,7 @@ pub fn stranger_calls(
     Ok(strangers_in(alloc, &setup, script.as_slice())?)
 }
 
-/// The same, of the rows of a script.
+/// The numbers of such calls among the rows of a script.
 fn strangers_in(
     alloc: Global,
     setup: &RunSetup,

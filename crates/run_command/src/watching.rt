@@ -11,7 +11,7 @@ use std::time::Duration;
 /// The milliseconds before it is shown how far a run is.
 const FIRST_PAUSE: u64 = 2000;
 
-/// The milliseconds until it is shown anew.
+/// The milliseconds until it is shown again.
 const PAUSE: u64 = 200;
 
 /// How many rounds are played between two looks at the clock.

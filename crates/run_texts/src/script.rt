@@ -194,7 +194,7 @@ pub enum Happening {
     },
 }
 
-/// What a row says, wherever it is: of five fields, or of six under the second header.
+/// What a row says by itself: it has five fields, or six under the second header.
 fn read_row(row: &ByteRecord) -> Result<ScriptRow, RowKind>
     ensures says { result_map_both row_data (λ kind. kind) result
         ≡ read_in (fields_of row.now) }

@@ -28,7 +28,7 @@ pub(crate) fn program_command<'a>(alloc: Global) -> Result<Command<'a>, AllocErr
     add_commands(alloc, program, &commands)
 }
 
-/// The program with commands besides.
+/// The program with these commands added.
 fn add_commands<'a>(
     alloc: Global,
     mut program: Command<'a>,
@@ -56,7 +56,7 @@ fn command_of<'a>(alloc: Global, words: &CommandWords) -> Result<Command<'a>, Al
     add_options(alloc, command, words.options)
 }
 
-/// The command with options besides.
+/// The command with these options added.
 fn add_options<'a>(
     alloc: Global,
     mut command: Command<'a>,

@@ -27,7 +27,7 @@ pub(crate) struct CommandWords {
     pub(crate) options: &'static [CommandOption],
 }
 
-/// An option as a usage has it.
+/// An option as a usage line writes it.
 macro_rules! option {
     (--$name:ident $help:literal) => {
         CommandOption::Flag(stringify!($name), $help)

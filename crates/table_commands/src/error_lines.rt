@@ -36,7 +36,7 @@ pub fn report<E: io::Write>(faults: &mut E, fault: Fault) -> u8
     fault.status()
 }
 
-/// The same, with what is said of the fault behind its line.
+/// As `report`, with what is said of the fault behind its line.
 pub fn report_with<E: io::Write>(faults: &mut E, fault: Fault, more: &[u8]) -> u8
     ensures status { result ≡ status_of fault }
     ensures line { AppendsFront (E.contents faults.old) (E.contents faults.new)

@@ -85,8 +85,9 @@ fn parts(options: &ArgMatches<'_>, workers: u32, output: RunOutput) -> Option<Op
     parts_of(workers, output, count, threads)
 }
 
-/// The same, by the numbers of the options: at least one part, with one worker at most, and no
-/// trace; at least one thread, which it is where that is left out, and none without parts.
+/// How a run is played in parts, by the numbers of the options: at least one part, with one worker
+/// at most, and without a trace; at least one thread, one where that is left out, and none without
+/// parts.
 fn parts_of(
     workers: u32,
     output: RunOutput,

@@ -29,7 +29,8 @@ pub(crate) fn serve_request<'a>(options: &ArgMatches<'a>) -> Result<Request<'a>,
     }
 }
 
-/// The log that is to be kept; none where there is none of which messages could be printed again.
+/// The log that is to be kept, `Some(None)` for no log. None where `--again` isn't a number, or is
+/// there without a log.
 fn log_ask<'a>(options: &ArgMatches<'a>) -> Option<Option<LogAsk<'a>>>
     ensures { option_map (option_map log_wish_of) result
         ≡ log_in (rows_of (found_of options.now)) }

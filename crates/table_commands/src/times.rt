@@ -24,7 +24,7 @@ pub(crate) fn push_run_times(said: &mut Said, options: &ArgMatches<'_>) {
     }
 }
 
-/// Adds the same of `serve`.
+/// Adds a line about the first time of `serve` that is out of its range, if one is.
 pub(crate) fn push_live_times(said: &mut Said, options: &ArgMatches<'_>) {
     let Some(ask) = live_ask(options) else {
         return;

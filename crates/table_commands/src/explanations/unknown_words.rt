@@ -26,7 +26,7 @@ pub(crate) fn push_unknown_word(said: &mut Said, slip: Slip, names: &ByteRecord,
     }
 }
 
-/// Adds the same of an operation whose columns begin at a place.
+/// Adds it of an operation whose columns begin at a place.
 fn push_operation_word(
     said: &mut Said,
     names: &ByteRecord,
@@ -41,7 +41,7 @@ fn push_operation_word(
     }
 }
 
-/// Adds the same of a row of a book.
+/// Adds it of a row of a table of books.
 fn push_book_word(said: &mut Said, names: &ByteRecord, row: &ByteRecord) {
     let reply = row.len().saturating_sub(4);
     let is_settle = has_word(row, 2, "settle");

@@ -14,11 +14,11 @@ pub(crate) enum Wants {
     Word,
     /// A decimal from the first to the second of these.
     Number(u64, u64),
-    /// The same, or nothing.
+    /// Such a decimal, or nothing.
     Optional(u64, u64),
     /// A moment up to this one.
     Moment(u64),
-    /// The same, or nothing.
+    /// Such a moment, or nothing.
     OptionalMoment(u64),
     /// Digits: as many as the first to the second of these.
     Digits(usize, usize),
