@@ -5,7 +5,6 @@ use Rattle.account_core.specs.Entries.{EntryData}
 use Rattle.account_core.specs.Refusals.{IsRefusedAt, Knowing, Refusal}
 use Rattle.account_core.specs.Seats.{Reads}
 use Rattle.account_core.specs.declared.fault.AccountFault.{AccountFault}
-use Rattle.account_core.specs.declared.fault.AccountFault.TheVariants as fault
 use Rattle.cap_values.specs.Orders.{Order}
 use Rattle.dialogue_core.specs.Phases.{Phase, Says, Asks, Sends, Finished}
 use Rattle.runs_core.specs.Cases.{AtDesk, or_fault}

@@ -183,7 +183,7 @@ fn run_in<'s, 'e, D: Driver, S: Shared, R: Wait + Threads + Sync, G: Gate + Sync
         unreachable!()
     };
     let mut crew = Crew {
-        worker: Worker::new(alloc, 0, setup, accounts, team)?,
+        worker: Worker::new(alloc, 0, setup, accounts, team),
         failed: None,
         links: Vec::new(alloc),
     };

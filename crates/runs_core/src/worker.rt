@@ -43,26 +43,25 @@ impl<'s, S: Shared> Worker<'s, S> {
         setup: &'s RunSetup,
         accounts: &'s [S],
         seats: Vec<S::Seat>,
-    ) -> Result<Worker<'s, S>, RunFault>
+    ) -> Worker<'s, S>
         requires accounts { map (number_by S.terms) accounts.now ≡ keys_of setup.now.accounts }
         requires keys { map S.reads.key seats.items ≡ map S.key accounts.now }
         requires numbers { All (λ seat. S.reads.number seat ≡ number) seats.items }
         requires empty { All (λ seat. S.reads.mine seat ≡ []) seats.items }
-        ensures number { IfOk result (λ worker. number_of worker ≡ number) }
-        ensures setup { IfOk result (λ worker. setup_of worker ≡ setup.now) }
-        ensures accounts { IfOk result (λ worker. accounts_of worker ≡ accounts.now) }
-        ensures seats { IfOk result (λ worker. seats_of worker ≡ seats.items) }
-        ensures talks { IfOk result (λ worker. (call : ℕ) → talks_of worker call ≡ None) }
-        ensures ready { IfOk result (λ worker. IsReady (number_by S.terms) S.key S.reads worker) }
-        ensures fault { IfErr result (λ fault. fault ≡ RunFault.OutOfMemory) }
+        ensures number { number_of result ≡ number }
+        ensures setup { setup_of result ≡ setup.now }
+        ensures accounts { accounts_of result ≡ accounts.now }
+        ensures seats { seats_of result ≡ seats.items }
+        ensures talks { (call : ℕ) → talks_of result call ≡ None }
+        ensures ready { IsReady (number_by S.terms) S.key S.reads result }
     {
-        Ok(Worker {
+        Worker {
             number,
             setup,
             accounts,
             seats,
             talks: RisingMap::new(alloc),
-        })
+        }
     }
 
     /// Handles a post.

@@ -312,7 +312,7 @@ fn serve_posts<S: Shared, R: Wait, G: Gate>(
         (map answer_view (items_in (sent outbox.new))) seats.items) }
     ensures fault { MayAskGate (G.may_shut gate.now) result }
 {
-    let mut worker = Worker::new(alloc, number, setup, accounts, seats)?;
+    let mut worker = Worker::new(alloc, number, setup, accounts, seats);
     answer_rounds(rt, alloc, &mut worker, inbox, outbox, gate)?;
     let _ = outbox.send_mail(rt, Mail::Close);
     Ok(worker.finish())

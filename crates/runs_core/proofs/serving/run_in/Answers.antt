@@ -10,7 +10,7 @@ use Rattle.runs_core.specs.Workers.{number_by}
 
 pub start_and_play-ran-requires-clause-first : goal.start_and_play-ran-requires-clause-first
 start_and_play-ran-requires-clause-first g c = λ _ _.
-    let made = c.in_ok-new.ensures in
+    let made = c.new.ensures in
     let teams = sym c.into_iter-teams.ensures.rest ∙ c.in-Some.ensures.items in
     let fresh = first_fresh g.S.Shared.reads (map g.S.Shared.key c.args.accounts.now) 0 (λ team. team.items) c.args.teams.items c.in-Some.team
     (into_iter_items c.next.new.self) teams c.requires.fresh in
