@@ -38,18 +38,18 @@ abbrev pub orders_in : Instructions → List Order
 orders_in said = orders_of (operations_in said)
 
 -- the period of an ApplyCharging, in units of 100 ms, and the seconds to its switch, if it has one
-pub record Paid : Type 0 where
-  pub period : ℕ
+pub record Period : Type 0 where
+  pub units : ℕ
   pub switch : Option ℕ
 
 -- the period of an operation, if it is an ApplyCharging, before those of later operations
-abbrev pub with_paid : Order → List Paid → List Paid
-with_paid (Watch arms) later = later
-with_paid (Pay period switch release) later = record { period = period; switch = switch } ∷ later
-with_paid GoOn later = later
-with_paid (Release cause) later = later
+abbrev pub with_period : Order → List Period → List Period
+with_period (Watch arms) later = later
+with_period (Pay period switch release) later = record { units = period; switch = switch } ∷ later
+with_period GoOn later = later
+with_period (Release cause) later = later
 
 -- the periods of operations, in order
-abbrev pub paid_by : List Order → List Paid
-paid_by [] = []
-paid_by (order ∷ orders) = with_paid order (paid_by orders)
+abbrev pub periods_in : List Order → List Period
+periods_in [] = []
+periods_in (order ∷ orders) = with_period order (periods_in orders)

@@ -1,7 +1,7 @@
 -- Where a call goes on, by its messages and the operations that answered them.
 use Rattle.std.specs.Prelude.{◌≡◌, ◌==◌, ◌&&◌, ◌++◌, ℕ, Bool, false, Option, Some, None, List, [], ◌∷◌, filter, if◌then◌else◌, length, map, nat_lt}
 use Rattle.std.specs.Option.{option_or}
-use Rattle.cap_values.specs.Orders.{Order, paid_by}
+use Rattle.cap_values.specs.Orders.{Order, periods_in}
 use Rattle.cap_values.specs.declared.message.SsfMsg.{SsfMsg}
 use Rattle.cap_values.specs.declared.message.SsfMsg.TheVariants.{InitialDp, EventReport, ChargingReport, Ended}
 use Rattle.run_values.specs.Setups.{Setup}
@@ -18,7 +18,7 @@ use Rattle.runs_core.specs.Verdicts.{home_of}
 
 -- whether operations pay for a period of a call: an ApplyCharging is among them
 abbrev pub pays : List Order → Bool
-pays orders = nat_lt 0 (length (paid_by orders))
+pays orders = nat_lt 0 (length (periods_in orders))
 
 -- the place of the account at which a call goes on after a message of it, by whether the operations that answer it pay for a period, and by where it went on before, if it did. An
 -- InitialDP that is paid for lets it go on at the account of the calling number; a report that isn't paid for ends it, and so does a message that ends a call

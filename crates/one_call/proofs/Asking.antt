@@ -10,7 +10,7 @@ use Rattle.account_core.specs.Ledger.{entry_by}
 use Rattle.account_core.specs.Standing.{IsGrant, FitsCall}
 use Rattle.account_core.specs.declared.entry.Reply.{Reply}
 use Rattle.account_core.specs.declared.entry.Reply.TheVariants.{Credited, CreditOver, Granted, Denied, Settled, Forfeit, Returned}
-use Rattle.cap_values.specs.Orders.{Paid, Pay}
+use Rattle.cap_values.specs.Orders.{Period, Pay}
 use Rattle.dialogue_core.specs.Phases.{Conditions, Phase, Says, Sequel, FirstAsk, Running, Settling, MoreAsk, Returning, Ending, Closed, Sends, Finished}
 use Rattle.dialogue_core.specs.Phases as phase
 use Rattle.dialogue_core.specs.Rules.{Step, are_units, says_first_period, on_reply, sequel, on_refusal}
@@ -28,7 +28,7 @@ pub deed_is : (call : ℕ) (asked : Asked) (reply : Reply) → call_of asked ≡
 unfolding deed
 deed_is call asked reply same = rw (eq-eqb (call_of asked) call same) refl
 
-pub of_call : (call : ℕ) (meter : Meter) (queued : List Paid) (kept : CallFacts) (phase : Phase) (asked : Asked) → IsAsking call meter queued kept phase asked → IsOfCall call asked
+pub of_call : (call : ℕ) (meter : Meter) (queued : List Period) (kept : CallFacts) (phase : Phase) (asked : Asked) → IsAsking call meter queued kept phase asked → IsOfCall call asked
 of_call call meter queued kept (FirstAsk t) (Reserves of plan wanted least moment) asks = asks.ours
 of_call call meter queued kept (FirstAsk t) (Credits amount until) asks = absurd asks
 of_call call meter queued kept (FirstAsk t) (Settles of number info) asks = absurd asks
@@ -52,7 +52,7 @@ of_call call meter queued kept Closed asked asks = absurd asks
 -- ---- a reply
 
 -- what is said then fits; a reply that has no place leaves the dialogue where it is
-abbrev pub FitsThen : ℕ → Meter → List Paid → CallFacts → Phase → Step → Type 0
+abbrev pub FitsThen : ℕ → Meter → List Period → CallFacts → Phase → Step → Type 0
 FitsThen call meter queued kept phase (Ok next) = FitsMeter call meter queued kept next.1 next.0
 FitsThen call meter queued kept phase (Err fault) = FitsMeter call meter queued kept phase Finished
 
@@ -60,8 +60,8 @@ abbrev pub given : Bool → Says → Phase → Step
 given units said phase = if units then Ok (said, phase) else Err Unexpected
 
 -- the first grant covers the first period
-first_covered : (call of : ℕ) (meter : Meter) (queued : List Paid) (kept : CallFacts) (t : Conditions) (asked : Rates) (wanted least units : ℕ) → IsFreshCall call meter queued kept t asked of
-    → IsGrant kept wanted least units → IsCovered meter (queued ++ record { period = units; switch = t.switch } ∷ []) (known_after kept (known.Grants asked units))
+first_covered : (call of : ℕ) (meter : Meter) (queued : List Period) (kept : CallFacts) (t : Conditions) (asked : Rates) (wanted least units : ℕ) → IsFreshCall call meter queued kept t asked of
+    → IsGrant kept wanted least units → IsCovered meter (queued ++ record { units = units; switch = t.switch } ∷ []) (known_after kept (known.Grants asked units))
 first_covered call of meter queued kept t asked wanted least units fresh grant =
     rw fresh.none_queued (record {
       plan = t.plan;
@@ -75,8 +75,8 @@ first_covered call of meter queued kept t asked wanted least units fresh grant =
     })
 
 -- a further grant covers a further period
-more_covered : (meter : Meter) (queued : List Paid) (kept : CallFacts) (asked : Rates) (wanted least units : ℕ) → IsUsedUp meter queued kept → IsGrant kept wanted least units
-    → IsCovered meter (queued ++ record { period = units; switch = None } ∷ []) (known_after kept (known.Grants asked units))
+more_covered : (meter : Meter) (queued : List Period) (kept : CallFacts) (asked : Rates) (wanted least units : ℕ) → IsUsedUp meter queued kept → IsGrant kept wanted least units
+    → IsCovered meter (queued ++ record { units = units; switch = None } ∷ []) (known_after kept (known.Grants asked units))
 more_covered meter queued kept asked wanted least units used grant =
     rw used.none_queued (record {
       plan = used.covered.plan;
@@ -89,14 +89,14 @@ more_covered meter queued kept asked wanted least units used grant =
       unforfeited = used.covered.unforfeited;
     })
 
-first_given : (b : Bool) (call of : ℕ) (meter : Meter) (queued : List Paid) (kept : CallFacts) (t : Conditions) (asked : Rates) (wanted least units : ℕ) (last : Bool)
+first_given : (b : Bool) (call of : ℕ) (meter : Meter) (queued : List Period) (kept : CallFacts) (t : Conditions) (asked : Rates) (wanted least units : ℕ) (last : Bool)
     → IsFreshCall call meter queued kept t asked of → IsGrant kept wanted least units
     → FitsThen call meter queued (known_after kept (known.Grants asked units)) (FirstAsk t) (given b (says_first_period t units last) (Running t))
 first_given true call of meter queued kept t asked wanted least units last fresh grant =
     (fresh.its_call, first_covered call of meter queued kept t asked wanted least units fresh grant)
 first_given false call of meter queued kept t asked wanted least units last fresh grant = tt
 
-more_given : (b : Bool) (call of : ℕ) (meter : Meter) (queued : List Paid) (kept : CallFacts) (t : Conditions) (asked : Rates) (wanted least units : ℕ) (last : Bool)
+more_given : (b : Bool) (call of : ℕ) (meter : Meter) (queued : List Period) (kept : CallFacts) (t : Conditions) (asked : Rates) (wanted least units : ℕ) (last : Bool)
     → IsMore call meter queued kept t of → IsGrant kept wanted least units
     → FitsThen call meter queued (known_after kept (known.Grants asked units)) (MoreAsk t) (given b (Sends (Pay units None last ∷ [])) (Running t))
 more_given true call of meter queued kept t asked wanted least units last more grant =
@@ -104,7 +104,7 @@ more_given true call of meter queued kept t asked wanted least units last more g
 more_given false call of meter queued kept t asked wanted least units last more grant = tt
 
 -- what follows a return asks nothing, and settles nothing
-pub sequel_fits : (call : ℕ) (meter : Meter) (queued : List Paid) (kept : CallFacts) (after : Sequel) → FitsMeter call meter queued kept (sequel after).1 (sequel after).0
+pub sequel_fits : (call : ℕ) (meter : Meter) (queued : List Period) (kept : CallFacts) (after : Sequel) → FitsMeter call meter queued kept (sequel after).1 (sequel after).0
 sequel_fits call meter queued kept phase.Nothing = tt
 sequel_fits call meter queued kept phase.Continues = tt
 sequel_fits call meter queued kept phase.Clears = tt
@@ -115,7 +115,7 @@ unsettled : (kept : CallFacts) (info : TimeInfo) → IsSome (accepted_times kept
 unsettled kept info accepted none = let some = rw none at accepted in absurd (cc)
 
 -- a reply of the port's kind, to what was asked
-pub answered_fits : (call : ℕ) (meter : Meter) (queued : List Paid) (kept : CallFacts) (phase : Phase) (asked : Asked) (reply : Reply)
+pub answered_fits : (call : ℕ) (meter : Meter) (queued : List Period) (kept : CallFacts) (phase : Phase) (asked : Asked) (reply : Reply)
     → IsAsking call meter queued kept phase asked → FitsCall kept asked reply
     → FitsThen call meter queued (known_after kept (deed_of asked reply)) phase (on_reply phase reply)
 answered_fits call meter queued kept (FirstAsk t) (Credits amount until) reply asks kind = absurd asks
@@ -175,7 +175,7 @@ answered_fits call meter queued kept Closed asked reply asks kind = absurd asks
 -- ---- a refusal
 
 -- a refusal of the port, of what was asked
-pub refused_fits : (call : ℕ) (meter : Meter) (queued : List Paid) (kept : CallFacts) (phase : Phase) (asked : Asked) → IsAsking call meter queued kept phase asked
+pub refused_fits : (call : ℕ) (meter : Meter) (queued : List Period) (kept : CallFacts) (phase : Phase) (asked : Asked) → IsAsking call meter queued kept phase asked
     → FitsThen call meter queued kept phase (on_refusal phase)
 refused_fits call meter queued kept (FirstAsk t) (Credits amount until) asks = absurd asks
 refused_fits call meter queued kept (FirstAsk t) (Reserves of plan wanted least moment) asks = tt
@@ -203,7 +203,7 @@ refused_fits call meter queued kept Closed asked asks = absurd asks
 
 -- ---- no forfeit
 
-accepted_in : (call : ℕ) (meter : Meter) (queued : List Paid) (kept : CallFacts) (phase : Phase) (of number : ℕ) (info : TimeInfo)
+accepted_in : (call : ℕ) (meter : Meter) (queued : List Period) (kept : CallFacts) (phase : Phase) (of number : ℕ) (info : TimeInfo)
     → IsAsking call meter queued kept phase (Settles of number info) → IsSome (accepted_times kept info)
 accepted_in call meter queued kept (FirstAsk t) of number info asks = absurd asks
 accepted_in call meter queued kept (Running t) of number info asks = absurd asks
@@ -214,7 +214,7 @@ accepted_in call meter queued kept Ending of number info asks = absurd asks
 accepted_in call meter queued kept Closed of number info asks = absurd asks
 
 -- no reply of the port's kind is a forfeit
-pub no_forfeit : (call : ℕ) (meter : Meter) (queued : List Paid) (kept : CallFacts) (phase : Phase) (asked : Asked) (reply : Reply) (counts : Counts)
+pub no_forfeit : (call : ℕ) (meter : Meter) (queued : List Period) (kept : CallFacts) (phase : Phase) (asked : Asked) (reply : Reply) (counts : Counts)
     → IsAsking call meter queued kept phase asked → FitsCall kept asked reply → (with_answer counts (Ok reply)).forfeits ≡ counts.forfeits
 no_forfeit call meter queued kept phase asked (Credited a) counts asks kind = refl
 no_forfeit call meter queued kept phase asked (CreditOver a) counts asks kind = refl

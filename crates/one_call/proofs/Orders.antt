@@ -1,30 +1,30 @@
 -- What orders on their way pay for.
 use Rattle.std.proofs.Common.{◌≡◌, ◌++◌, ℕ, List, [], ◌∷◌, refl, ap, ◌∙◌, sym, append_assoc}
-use Rattle.cap_values.specs.Orders.{Order, Paid, Watch, Pay, GoOn, Release, order_of, orders_of, paid_by, with_paid}
+use Rattle.cap_values.specs.Orders.{Order, Period, Watch, Pay, GoOn, Release, order_of, orders_of, periods_in, with_period}
 use Rattle.cap_values.specs.declared.operation.ScfOp.{ScfOp}
 use Rattle.ssf_core.specs.Deliveries.{deliveries_at}
 use Rattle.ssf_core.specs.declared.deliveries.Delivery.{Delivery}
 use Rattle.one_call.specs.Deliveries.{AreSent, queued_in}
 
-with_paid-append : (order : Order) (a b : List Paid) → with_paid order (a ++ b) ≡ with_paid order a ++ b
-with_paid-append (Watch arms) a b = refl
-with_paid-append (Pay period switch release) a b = refl
-with_paid-append GoOn a b = refl
-with_paid-append (Release cause) a b = refl
+with_period-append : (order : Order) (a b : List Period) → with_period order (a ++ b) ≡ with_period order a ++ b
+with_period-append (Watch arms) a b = refl
+with_period-append (Pay period switch release) a b = refl
+with_period-append GoOn a b = refl
+with_period-append (Release cause) a b = refl
 
 -- what was queued, and then what is
 pub queued-append : (first second : List Delivery) → queued_in (first ++ second) ≡ queued_in first ++ queued_in second
 queued-append [] second = refl
 queued-append (delivery ∷ first) second =
-    ap (with_paid (order_of delivery.op)) (queued-append first second) ∙ with_paid-append (order_of delivery.op) (queued_in first) (queued_in second)
+    ap (with_period (order_of delivery.op)) (queued-append first second) ∙ with_period-append (order_of delivery.op) (queued_in first) (queued_in second)
 
-pub queued-sent : (at call : ℕ) (ops : List ScfOp) → queued_in (deliveries_at at call ops) ≡ paid_by (orders_of ops)
+pub queued-sent : (at call : ℕ) (ops : List ScfOp) → queued_in (deliveries_at at call ops) ≡ periods_in (orders_of ops)
 queued-sent at call [] = refl
-queued-sent at call (op ∷ ops) = ap (with_paid (order_of op)) (queued-sent at call ops)
+queued-sent at call (op ∷ ops) = ap (with_period (order_of op)) (queued-sent at call ops)
 
 -- what is handed on, before what stays queued
-pub handed-first : (op : ScfOp) (later : List Paid) → with_paid (order_of op) later ≡ paid_by (order_of op ∷ []) ++ later
-handed-first op later = with_paid-append (order_of op) [] later
+pub handed-first : (op : ScfOp) (later : List Period) → with_period (order_of op) later ≡ periods_in (order_of op ∷ []) ++ later
+handed-first op later = with_period-append (order_of op) [] later
 
 sent-append : (at call : ℕ) (first second : List ScfOp) → deliveries_at at call (first ++ second) ≡ deliveries_at at call first ++ deliveries_at at call second
 sent-append at call [] second = refl

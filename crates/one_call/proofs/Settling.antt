@@ -8,7 +8,7 @@ use Rattle.price_core.proofs.LawfulLemmas.{implies}
 use Rattle.account_core.specs.Answers.{accepted_times}
 use Rattle.account_core.specs.Known.{CallFacts, known_after}
 use Rattle.account_core.specs.Known as known
-use Rattle.cap_values.specs.Orders.{Paid}
+use Rattle.cap_values.specs.Orders.{Period}
 use Rattle.ssf_core.specs.Meters.{Meter, Reports}
 use Rattle.ssf_core.specs.Split.{split}
 use Rattle.price_core.specs.Lawful.{is_lawful}
@@ -140,13 +140,13 @@ known_times_at meter times answer now (inr known_times) answered last =
     rw (known_times.are, same) (known_times_follow answer known_times.moment now known_times.switch meter.switched (le_trans known_times.behind last) known_times.same_switch known_times.later_switch)
 
 -- what is queued is nothing, as a period is pending
-none_queued : (meter : Meter) (plan : Rates) (queued : List Paid) → IsSingle meter plan queued → meter.pending ≡ true → queued ≡ []
+none_queued : (meter : Meter) (plan : Rates) (queued : List Period) → IsSingle meter plan queued → meter.pending ≡ true → queued ≡ []
 none_queued meter plan [] single pending = refl
-none_queued meter plan (paid ∷ []) single pending = let none : meter.pending ≡ false = single.0 in absurd (cc)
-none_queued meter plan (paid ∷ (next ∷ queued)) single pending = absurd single
+none_queued meter plan (period ∷ []) single pending = let none : meter.pending ≡ false = single.0 in absurd (cc)
+none_queued meter plan (period ∷ (next ∷ queued)) single pending = absurd single
 
 -- a report of a covered call is accepted; then nothing is queued, and where the call goes on all that was granted was talked
-pub record Settles (meter : Meter) (queued : List Paid) (kept : CallFacts) (active : Bool) (info : TimeInfo) (after : Meter) : Type 0 where
+pub record Settles (meter : Meter) (queued : List Period) (kept : CallFacts) (active : Bool) (info : TimeInfo) (after : Meter) : Type 0 where
   pub accepted : IsSome (accepted_times kept info)
   pub none_queued : queued ≡ []
   pub goes_on : active ≡ true → IsUsedUp after queued (known_after kept (known.Reports info))
@@ -183,7 +183,7 @@ used_up meter after kept now active info answer new plan answered new_is is_plan
       all = rw (times, total, reports.later.same_granted) (omega (arith, whole));
     }
 
-pub every_report_settles : (meter after : Meter) (queued : List Paid) (kept : CallFacts) (now : ℕ) (active : Bool) (info : TimeInfo)
+pub every_report_settles : (meter after : Meter) (queued : List Period) (kept : CallFacts) (now : ℕ) (active : Bool) (info : TimeInfo)
     → IsCovered meter queued kept → Reports meter now active info after → Settles meter queued kept active info after
 every_report_settles meter after queued kept now active info covered reports =
     let answer : ℕ = reports.answer in

@@ -1,6 +1,6 @@
 -- The operations of a driven call on their way to its gsmSSF.
 use Rattle.std.specs.Prelude.{◌≡◌, ℕ, List, [], ◌∷◌, ◌++◌}
-use Rattle.cap_values.specs.Orders.{Paid, order_of, with_paid}
+use Rattle.cap_values.specs.Orders.{Period, order_of, with_period}
 use Rattle.cap_values.specs.declared.operation.ScfOp.{ScfOp}
 use Rattle.ssf_core.specs.Deliveries.{deliveries_at}
 use Rattle.ssf_core.specs.declared.deliveries.Delivery.{Delivery}
@@ -10,6 +10,6 @@ abbrev pub AreSent : ℕ → ℕ → List Delivery → List Delivery → Type 0
 AreSent at call before after = (ops : List ScfOp) × (after ≡ before ++ deliveries_at at call ops)
 
 -- the periods of the deliveries, in order
-abbrev pub queued_in : List Delivery → List Paid
+abbrev pub queued_in : List Delivery → List Period
 queued_in [] = []
-queued_in (delivery ∷ deliveries) = with_paid (order_of delivery.op) (queued_in deliveries)
+queued_in (delivery ∷ deliveries) = with_period (order_of delivery.op) (queued_in deliveries)

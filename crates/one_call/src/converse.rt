@@ -1,7 +1,7 @@
 //! The service's talk with the port, until it says something else.
 
 ghost use Rattle.std.specs.Prelude.{◌≡◌, ◌++◌, ℕ, List};
-ghost use Rattle.cap_values.specs.Orders.{Paid, orders_in, paid_by};
+ghost use Rattle.cap_values.specs.Orders.{Period, orders_in, periods_in};
 ghost use Rattle.dialogue_core.specs.Views.{phase_of, says_of};
 ghost use Rattle.ssf_core.specs.Meters.{Meter};
 ghost use Rattle.one_call.specs.Covered.{IsAtRest, IsReadyCall};
@@ -39,14 +39,14 @@ pub(crate) fn converse<P: Port>(
     counts: &mut Counts,
     turn: Turn,
 ) -> Instructions
-    ensures kept { (call : ℕ) (meter : Meter) (queued : List Paid)
+    ensures kept { (call : ℕ) (meter : Meter) (queued : List Period)
         → IsReadyCall call meter queued
         (P.state port.old call) (phase_of dialogue.old) (says_of turn)
         → counts.new.forfeits ≡ counts.old.forfeits }
-    ensures rests { (call : ℕ) (meter : Meter) (queued : List Paid)
+    ensures rests { (call : ℕ) (meter : Meter) (queued : List Period)
         → IsReadyCall call meter queued
         (P.state port.old call) (phase_of dialogue.old) (says_of turn)
-        → IsAtRest call meter (queued ++ paid_by (orders_in result))
+        → IsAtRest call meter (queued ++ periods_in (orders_in result))
         (P.state port.new call) (phase_of dialogue.new) }
 {
     match dialogue_core::converse(counts, port, dialogue, turn) {

@@ -1,7 +1,7 @@
 //! What the gsmSSF sends, heard by the service.
 
 ghost use Rattle.std.specs.Prelude.{◌≡◌, ◌++◌, ℕ, List, IfOk, IfErr};
-ghost use Rattle.cap_values.specs.Orders.{Paid, orders_in, paid_by};
+ghost use Rattle.cap_values.specs.Orders.{Period, orders_in, periods_in};
 ghost use Rattle.dialogue_core.specs.Views.{phase_of};
 ghost use Rattle.ssf_core.specs.Meters.{Meter, RunsThrough, MetersItem};
 ghost use Rattle.ssf_core.specs.declared.item.Item.TheVariants as sent;
@@ -25,14 +25,14 @@ fn hear<P: Port>(
     at: Moment,
     message: SsfMsg,
 ) -> Instructions
-    ensures kept { (call now : ℕ) (meter after : Meter) (queued : List Paid)
+    ensures kept { (call now : ℕ) (meter after : Meter) (queued : List Period)
         → IsAtRest call meter queued (P.state port.old call) (phase_of dialogue.old)
         → MetersItem meter now (sent.Msg message) after
         → counts.new.forfeits ≡ counts.old.forfeits }
-    ensures rests { (call now : ℕ) (meter after : Meter) (queued : List Paid)
+    ensures rests { (call now : ℕ) (meter after : Meter) (queued : List Period)
         → IsAtRest call meter queued (P.state port.old call) (phase_of dialogue.old)
         → MetersItem meter now (sent.Msg message) after
-        → IsAtRest call after (queued ++ paid_by (orders_in result))
+        → IsAtRest call after (queued ++ periods_in (orders_in result))
         (P.state port.new call) (phase_of dialogue.new) }
 {
     let number = counts.messages;
@@ -54,12 +54,12 @@ fn hear_one<P: Port>(
     to: u64,
     out: Out,
 ) -> Result<(), DriveFault>
-    ensures kept { (call now : ℕ) (meter after : Meter) (handed : List Paid)
+    ensures kept { (call now : ℕ) (meter after : Meter) (handed : List Period)
         → IsAtRest call meter (handed ++ queued_in deliveries.old.items)
         (P.state port.old call) (phase_of dialogue.old)
         → MetersItem meter now out.item after
         → counts.new.forfeits ≡ counts.old.forfeits }
-    ensures rests { (call now : ℕ) (meter after : Meter) (handed : List Paid)
+    ensures rests { (call now : ℕ) (meter after : Meter) (handed : List Period)
         → IsAtRest call meter (handed ++ queued_in deliveries.old.items)
         (P.state port.old call) (phase_of dialogue.old)
         → MetersItem meter now out.item after
@@ -89,12 +89,12 @@ pub(crate) fn hear_all<P: Port>(
     to: u64,
     sent: &[Out],
 ) -> Result<(), DriveFault>
-    ensures kept { (call : ℕ) (meter after : Meter) (handed : List Paid)
+    ensures kept { (call : ℕ) (meter after : Meter) (handed : List Period)
         → IsAtRest call meter (handed ++ queued_in deliveries.old.items)
         (P.state port.old call) (phase_of dialogue.old)
         → RunsThrough handed meter sent.now after
         → IfOk result (λ _. counts.new.forfeits ≡ counts.old.forfeits) }
-    ensures rests { (call : ℕ) (meter after : Meter) (handed : List Paid)
+    ensures rests { (call : ℕ) (meter after : Meter) (handed : List Period)
         → IsAtRest call meter (handed ++ queued_in deliveries.old.items)
         (P.state port.old call) (phase_of dialogue.old)
         → RunsThrough handed meter sent.now after

@@ -1,7 +1,7 @@
 //! One input of the gsmSSF.
 
 ghost use Rattle.std.specs.Prelude.{◌≡◌, ◌≤◌, ◌++◌, List, drop};
-ghost use Rattle.cap_values.specs.Orders.{Paid};
+ghost use Rattle.cap_values.specs.Orders.{Period};
 ghost use Rattle.ssf_core.specs.Meters.{Metered};
 ghost use Rattle.one_call.specs.Deliveries.{queued_in};
 ghost use Rattle.one_call.specs.Steps.{Given, IsNextGiven};
@@ -24,7 +24,7 @@ pub(crate) fn step(
     ensures next { (given : Given)
         × IsNextGiven now deliveries.old.items (drop played.old script.now)
         given deliveries.new.items (drop played.new script.now) }
-    ensures metered { (handed : List Paid)
+    ensures metered { (handed : List Period)
         × ((queued_in deliveries.old.items ≡ handed ++ queued_in deliveries.new.items)
         × Metered handed ssf.old result.sent.items ssf.new) }
 {

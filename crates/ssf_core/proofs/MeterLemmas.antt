@@ -4,7 +4,7 @@ use Rattle.std.proofs.Math.Nat.{le_refl, le_trans}
 use Rattle.std.proofs.lemmas.Bool.{cases_lt}
 use Rattle.std.proofs.lemmas.List.{append-nil, append_cancel_left}
 use Rattle.std.specs.Prelude.{is_some, unwrap_or, ⊤}
-use Rattle.cap_values.specs.Orders.{Paid}
+use Rattle.cap_values.specs.Orders.{Period}
 use Rattle.cap_values.specs.CauseValues.{temporary_failure}
 use Rattle.cap_values.specs.declared.message.SsfMsg.TheVariants as message
 use Rattle.cap_values.specs.declared.operation.ScfOp.TheVariants.{RequestReport, ApplyCharging, Continue, ReleaseCall}
@@ -12,7 +12,7 @@ use Rattle.price_core.specs.declared.times.TimeInfo.{TimeInfo}
 use Rattle.ssf_core.specs.Calls.{Advances, AreExpiries, IsExpiry, RunsUntil, Stands, TakesAt, View, with_input}
 use Rattle.ssf_core.specs.Happenings.{Happening, What, Took, Expired, sent_at, sent_in}
 use Rattle.ssf_core.specs.Laws.{AllFit, FitsTrace}
-use Rattle.ssf_core.specs.Meters.{EndsMeter, Later, Meter, Metered, Reports, RunsThrough, MetersItem, meter_at, meter_of, pays_for}
+use Rattle.ssf_core.specs.Meters.{EndsMeter, Later, Meter, Metered, Reports, RunsThrough, MetersItem, meter_at, meter_of, periods_of}
 use Rattle.ssf_core.specs.Phases.{SsfPhase, Unused, Requested, Initial, Early, Active, Down, Ended}
 use Rattle.ssf_core.specs.Quantities.{granted, granted_after, last_happening_moment, pending, pending_after, started_switch, switch_due, switch_due_after, switched, switched_after}
 use Rattle.ssf_core.specs.Rules.{Effect, on_expiry, on_input, on_period_end, on_tssf}
@@ -106,11 +106,11 @@ later_both a b c first second = record {
 }
 
 -- what was run later was run
-runs_later : (orders : List Paid) (a b c : Meter) (outs : List Out) → Later a b → RunsThrough orders b outs c → RunsThrough orders a outs c
+runs_later : (orders : List Period) (a b c : Meter) (outs : List Out) → Later a b → RunsThrough orders b outs c → RunsThrough orders a outs c
 runs_later orders a b c [] later run = (run.0, (later_both a b run.0 later run.1.0, run.1.1))
 runs_later orders a b c (out ∷ outs) later run = (run.0, (later_both a b run.0 later run.1.0, run.1.1))
 
-runs_both : (orders : List Paid) (a b c : Meter) (first second : List Out) → RunsThrough [] a first b → RunsThrough orders b second c → RunsThrough orders a (first ++ second) c
+runs_both : (orders : List Period) (a b c : Meter) (first second : List Out) → RunsThrough [] a first b → RunsThrough orders b second c → RunsThrough orders a (first ++ second) c
 runs_both orders a b c [] second run next = runs_later orders a b c second (later_both a run.0 b run.1.0 run.1.1) next
 runs_both orders a b c (out ∷ first) second run next =
     (run.0, (run.1.0, (run.1.1.0, (run.1.1.1.0, runs_both orders run.1.1.0 b c first second run.1.1.1.1 next))))
@@ -147,7 +147,7 @@ ordered (Some seconds) now came before is = inr refl
 
 ends_next : (config : SsfConfig) (t : List Happening) (now : ℕ) (what : What) (sent : List Item) → KnownOf (phase_after config t) t
     → Sound (record { at = now; what = what; sent = sent } ∷ t) now → HasEffect config t now what sent
-    → EndsMeter (pays_for what) (meter_at t now) (meter_of (record { at = now; what = what; sent = sent } ∷ t))
+    → EndsMeter (periods_of what) (meter_at t now) (meter_of (record { at = now; what = what; sent = sent } ∷ t))
 ends_next config t now (Took Invoke) sent k sound has = later_next config t now (Took Invoke) sent k sound has refl (λ none. none) refl
 ends_next config t now (Took (Trigger call calling called)) sent k sound has = later_next config t now (Took (Trigger call calling called)) sent k sound has refl (λ none. none) refl
 ends_next config t now (Took (Operate (RequestReport arms))) sent k sound has = later_next config t now (Took (Operate (RequestReport arms))) sent k sound has refl (λ none. none) refl
@@ -172,7 +172,7 @@ abbrev AllSend : Meter → ℕ → List Item → Type 0
 AllSend meter now [] = ⊤
 AllSend meter now (item ∷ items) = MetersItem meter now item meter × AllSend meter now items
 
-runs_items : (orders : List Paid) (meter after : Meter) (now : ℕ) (items : List Item) → Later meter meter → AllSend meter now items → EndsMeter orders meter after
+runs_items : (orders : List Period) (meter after : Meter) (now : ℕ) (items : List Item) → Later meter meter → AllSend meter now items → EndsMeter orders meter after
     → RunsThrough orders meter (sent_at now items) after
 runs_items orders meter after now [] same all ends = (meter, (same, ends))
 runs_items orders meter after now (item ∷ items) same all ends =
@@ -262,9 +262,9 @@ runs_expiry config t now Tssf sent k before sound runs has =
 runs_at : (config : SsfConfig) (t : List Happening) (now : ℕ) (what : What) (sent : List Item) → KnownOf (phase_after config t) t → Sound t now
     → Sound (record { at = now; what = what; sent = sent } ∷ t) now → ((timer : Timer) (d : ℕ) → due config t timer ≡ Some d → ComesBefore now what d timer)
     → HasEffect config t now what sent
-    → RunsThrough (pays_for what) (meter_at t now) (sent_at now sent) (meter_of (record { at = now; what = what; sent = sent } ∷ t))
+    → RunsThrough (periods_of what) (meter_at t now) (sent_at now sent) (meter_of (record { at = now; what = what; sent = sent } ∷ t))
 runs_at config t now (Took input) sent k before sound ahead has =
-    runs_items (pays_for (Took input)) (meter_at t now) (meter_of (record { at = now; what = Took input; sent = sent } ∷ t)) now sent (passes t now now before (le_refl now))
+    runs_items (periods_of (Took input)) (meter_at t now) (meter_of (record { at = now; what = Took input; sent = sent } ∷ t)) now sent (passes t now now before (le_refl now))
     (all_send t now sent before (taken config t now input sent k ahead has).1) (ends_next config t now (Took input) sent k sound has)
 runs_at config t now (Expired timer) sent k before sound ahead has =
     let (runs, same) = has in
@@ -273,17 +273,17 @@ runs_at config t now (Expired timer) sent k before sound ahead has =
 
 -- a happening, from the meter of the trace before it
 happens : (config : SsfConfig) (e : Happening) (t : List Happening) → IsTrace config (e ∷ t)
-    → RunsThrough (pays_for e.what) (meter_of t) (sent_at e.at e.sent) (meter_of (e ∷ t))
+    → RunsThrough (periods_of e.what) (meter_of t) (sent_at e.at e.sent) (meter_of (e ∷ t))
 happens config e t is =
     let before : Sound t e.at = λ moment some. (le_trans (sound config t is.0 moment some).0 is.1.in_order, (sound config t is.0 moment some).1) in
-    runs_later (pays_for e.what) (meter_of t) (meter_at t e.at) (meter_of (e ∷ t)) (sent_at e.at e.sent)
+    runs_later (periods_of e.what) (meter_of t) (meter_at t e.at) (meter_of (e ∷ t)) (sent_at e.at e.sent)
     (passes t (last_happening_moment t) e.at before is.1.in_order)
     (runs_at config t e.at e.what e.sent (known config t is.0) before (sound config (e ∷ t) is) is.1.none_missed is.1.has_effect)
 
 still : (config : SsfConfig) (t : List Happening) → IsTrace config t → Later (meter_of t) (meter_of t)
 still config t is = passes t (last_happening_moment t) (last_happening_moment t) (sound config t is) (le_refl (last_happening_moment t))
 
-expiry_pays : (what : What) → IsExpiry what → pays_for what ≡ []
+expiry_pays : (what : What) → IsExpiry what → periods_of what ≡ []
 expiry_pays (Took input) is = absurd is
 expiry_pays (Expired timer) is = refl
 
@@ -294,7 +294,7 @@ fired_sent config [] t are is = ([], (sym (append-nil (sent_in t)), (meter_of t,
 fired_sent config (e ∷ fired) t are is =
     let (outs, (sends, run)) = fired_sent config fired t are.0 is.0 in
     let next : RunsThrough [] (meter_of (fired ++ t)) (sent_at e.at e.sent) (meter_of (e ∷ fired ++ t)) =
-    subst (λ (orders : List Paid). RunsThrough orders (meter_of (fired ++ t)) (sent_at e.at e.sent) (meter_of (e ∷ fired ++ t))) (expiry_pays e.what are.1)
+    subst (λ (orders : List Period). RunsThrough orders (meter_of (fired ++ t)) (sent_at e.at e.sent) (meter_of (e ∷ fired ++ t))) (expiry_pays e.what are.1)
     (happens config e (fired ++ t) is) in (
       outs ++ sent_at e.at e.sent,
       (
@@ -310,12 +310,12 @@ timed_sent config now t timed run =
     subst (λ (l : List Happening). (outs : List Out) × ((sent_in l ≡ sent_in t ++ outs) × RunsThrough [] (meter_of t) outs (meter_of l))) (sym run.follows)
     (fired_sent config run.fired t run.expiries is)
 
-refused : (orders : List Paid) (meter : Meter) → Later meter meter → EndsMeter orders meter meter
+refused : (orders : List Period) (meter : Meter) → Later meter meter → EndsMeter orders meter meter
 refused [] meter same = same
-refused (paid ∷ orders) meter same = inl same
+refused (period ∷ orders) meter same = inl same
 
 -- a call that changes nothing
-pub nothing_metered : (orders : List Paid) (view : View) → Metered orders view [] view
+pub nothing_metered : (orders : List Period) (view : View) → Metered orders view [] view
 nothing_metered orders view meter shows =
     let (t, (stands, is)) = shows in
     let same = still view.config t stands.is_trace in
@@ -334,14 +334,14 @@ advance_metered before after now sent advances meter shows =
 outcome_metered : (config : SsfConfig) (after : View) (now : ℕ) (input : Input) (t : List Happening) (outcome : Result Effect SsfFault) → IsTrace config t
     → Stands after (with_input now input t outcome)
     → (rest : List Out) × ((sent_in (with_input now input t outcome) ≡ sent_in t ++ rest)
-    × RunsThrough (pays_for (Took input)) (meter_of t) rest (meter_of (with_input now input t outcome)))
+    × RunsThrough (periods_of (Took input)) (meter_of t) rest (meter_of (with_input now input t outcome)))
 outcome_metered config after now input t (Ok effect) is stands =
     (sent_at now effect.sent, (refl, happens after.config (record { at = now; what = Took input; sent = effect.sent }) t stands.is_trace))
 outcome_metered config after now input t (Err fault) is stands =
-    ([], (sym (append-nil (sent_in t)), (meter_of t, (still config t is, refused (pays_for (Took input)) (meter_of t) (still config t is)))))
+    ([], (sym (append-nil (sent_in t)), (meter_of t, (still config t is, refused (periods_of (Took input)) (meter_of t) (still config t is)))))
 
 pub input_metered : (before after : View) (now : ℕ) (input : Input) (sent : List Out) (fault : Option SsfFault)
-    → ((t : List Happening) → Stands before t → TakesAt before after now input t sent fault) → Metered (pays_for (Took input)) before sent after
+    → ((t : List Happening) → Stands before t → TakesAt before after now input t sent fault) → Metered (periods_of (Took input)) before sent after
 input_metered before after now input sent fault takes meter shows =
     let (t, (stands, is)) = shows in
     let run = takes t stands in
@@ -354,21 +354,21 @@ input_metered before after now input sent fault takes meter shows =
       meter_of last,
       (
         (last, (run.stands, refl)),
-        rw (is, ← same) (runs_both (pays_for (Took input)) (meter_of t) (meter_of run.timed) (meter_of last) outs rest runs next),
+        rw (is, ← same) (runs_both (periods_of (Took input)) (meter_of t) (meter_of run.timed) (meter_of last) outs rest runs next),
       ),
     )
 
 by_order : (before after : View) (now : ℕ) (input : Input) (sent : List Out) (fault reason : Option SsfFault)
     → (now < before.last → (after ≡ before) × (fault ≡ reason) × (sent ≡ []))
     → (before.last ≤ now → (t : List Happening) → Stands before t → TakesAt before after now input t sent fault)
-    → (now < before.last) ⊎ (before.last ≤ now) → Metered (pays_for (Took input)) before sent after
+    → (now < before.last) ⊎ (before.last ≤ now) → Metered (periods_of (Took input)) before sent after
 by_order before after now input sent fault reason backwards trace (inl behind) =
-    let (same, reason_is, none) = backwards behind in rw (same, none) (nothing_metered (pays_for (Took input)) before)
+    let (same, reason_is, none) = backwards behind in rw (same, none) (nothing_metered (periods_of (Took input)) before)
 by_order before after now input sent fault reason backwards trace (inr ahead) = input_metered before after now input sent fault (trace ahead)
 
 -- a call with an input, whether its moment lies behind or not
 pub call_metered : (before after : View) (now : ℕ) (input : Input) (sent : List Out) (fault reason : Option SsfFault)
     → (now < before.last → (after ≡ before) × (fault ≡ reason) × (sent ≡ []))
-    → (before.last ≤ now → (t : List Happening) → Stands before t → TakesAt before after now input t sent fault) → Metered (pays_for (Took input)) before sent after
+    → (before.last ≤ now → (t : List Happening) → Stands before t → TakesAt before after now input t sent fault) → Metered (periods_of (Took input)) before sent after
 call_metered before after now input sent fault reason backwards trace =
     by_order before after now input sent fault reason backwards trace (cases_lt now before.last)

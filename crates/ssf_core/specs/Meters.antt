@@ -1,6 +1,6 @@
 -- The meter of a call: all that charging needs of a trace, and how it moves with each item that is sent.
 use Rattle.std.specs.Prelude.{◌≡◌, ◌+◌, ◌≤◌, ◌⊎◌, ℕ, Bool, true, false, Option, Some, List, [], ◌∷◌, is_some}
-use Rattle.cap_values.specs.Orders.{Paid, order_of, paid_by}
+use Rattle.cap_values.specs.Orders.{Period, order_of, periods_in}
 use Rattle.cap_values.specs.declared.message.SsfMsg.TheVariants.{ChargingReport}
 use Rattle.price_core.specs.declared.times.TimeInfo.{TimeInfo}
 use Rattle.ssf_core.specs.Calls.{Stands, View}
@@ -68,35 +68,35 @@ MetersItem before now (Msg (ChargingReport active info)) after = Reports before 
 MetersItem before now _ after = Later before after
 
 -- a period is taken: it adds to the sum; a switch is awaited from now on only if it was, or if the ApplyCharging has one
-pub record TakesPeriod (paid : Paid) (before after : Meter) : Type 0 where
-  pub more_granted : after.granted ≡ before.granted + paid.period
-  pub ordered : after.awaited ≡ true → (before.awaited ≡ true) ⊎ (is_some paid.switch ≡ true)
+pub record TakesPeriod (period : Period) (before after : Meter) : Type 0 where
+  pub more_granted : after.granted ≡ before.granted + period.units
+  pub ordered : after.awaited ≡ true → (before.awaited ≡ true) ⊎ (is_some period.switch ≡ true)
   pub same_answer : after.answered ≡ before.answered
   pub same_switch : after.switched ≡ before.switched
   pub came : (moment : ℕ) → after.switched ≡ Some moment → (moment ≤ after.last) × (after.awaited ≡ true)
   pub no_fall : before.last ≤ after.last
 
 -- after all items: the period of an ApplyCharging is refused or taken
-abbrev pub EndsMeter : List Paid → Meter → Meter → Type 0
+abbrev pub EndsMeter : List Period → Meter → Meter → Type 0
 EndsMeter [] before after = Later before after
-EndsMeter (paid ∷ orders) before after = Later before after ⊎ TakesPeriod paid before after
+EndsMeter (period ∷ periods) before after = Later before after ⊎ TakesPeriod period before after
 
 -- the items are sent one after the other, and time passes between them
-abbrev pub RunsThrough : List Paid → Meter → List Out → Meter → Type 0
-RunsThrough orders before [] after = (ready : Meter) × (Later before ready × EndsMeter orders ready after)
-RunsThrough orders before (out ∷ outs) after =
-    (ready : Meter) × (Later before ready × ((sent : Meter) × (MetersItem ready out.at out.item sent × RunsThrough orders sent outs after)))
+abbrev pub RunsThrough : List Period → Meter → List Out → Meter → Type 0
+RunsThrough periods before [] after = (ready : Meter) × (Later before ready × EndsMeter periods ready after)
+RunsThrough periods before (out ∷ outs) after =
+    (ready : Meter) × (Later before ready × ((sent : Meter) × (MetersItem ready out.at out.item sent × RunsThrough periods sent outs after)))
 
 -- the period of an input, if that is an ApplyCharging
-abbrev pub pays_for : What → List Paid
-pays_for (Took (Operate op)) = paid_by (order_of op ∷ [])
-pays_for _ = []
+abbrev pub periods_of : What → List Period
+periods_of (Took (Operate op)) = periods_in (order_of op ∷ [])
+periods_of _ = []
 
 -- the gsmSSF shows a meter: that of a trace that it stands for
 abbrev pub Shows : View → Meter → Type 0
 Shows view meter = (trace : List Happening) × (Stands view trace × (meter ≡ meter_of trace))
 
 -- from each meter that was shown a call's items lead to one that is shown now
-abbrev pub Metered : List Paid → View → List Out → View → Type 0
-Metered orders before sent after =
-    (meter : Meter) → Shows before meter → (later : Meter) × (Shows after later × RunsThrough orders meter sent later)
+abbrev pub Metered : List Period → View → List Out → View → Type 0
+Metered periods before sent after =
+    (meter : Meter) → Shows before meter → (later : Meter) × (Shows after later × RunsThrough periods meter sent later)

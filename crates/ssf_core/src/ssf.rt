@@ -50,7 +50,7 @@ impl Ssf {
     ghost use Rattle.std.specs.Prelude.{◌≡◌, ◌≤◌, ◌<◌, ◌∷◌, [], List, Some, None};
     ghost use Rattle.std.specs.Option.{ForSome};
     ghost use Rattle.ssf_core.specs.Calls.{Advances, IsNextDue, Stands, TakesAt};
-    ghost use Rattle.cap_values.specs.Orders.{order_of, paid_by};
+    ghost use Rattle.cap_values.specs.Orders.{order_of, periods_in};
     ghost use Rattle.ssf_core.specs.Meters.{Metered};
     ghost use Rattle.ssf_core.specs.Phases.{state_of_phase};
     ghost use Rattle.ssf_core.specs.Traces.{phase_after};
@@ -135,7 +135,7 @@ impl Ssf {
             × (self.new.config ≡ self.old.config) }
         ensures trace { self.old.last ≤ now → (t : List Happening) → Stands self.old t
             → TakesAt self.old self.new now (taken.Operate op) t result.sent.items result.fault }
-        ensures metered { Metered (paid_by (order_of op ∷ [])) self.old result.sent.items self.new }
+        ensures metered { Metered (periods_in (order_of op ∷ [])) self.old result.sent.items self.new }
     {
         self.input(now, Input::Operate(op))
     }

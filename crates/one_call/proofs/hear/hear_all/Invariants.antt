@@ -1,5 +1,5 @@
 use Rattle.std.proofs.Common.{◌≡◌, ◌++◌, ℕ, List, drop}
-use Rattle.cap_values.specs.Orders.{Paid}
+use Rattle.cap_values.specs.Orders.{Period}
 use Rattle.dialogue_core.specs.Views.{phase_of}
 use Rattle.ssf_core.specs.Meters.{Meter, RunsThrough}
 use Rattle.one_call.specs.Covered.{IsAtRest}
@@ -8,10 +8,10 @@ use Rattle.one_call.proofs.hear.hear_all.Given as goal
 
 abbrev pub invariant-loop-out : goal.invariant-loop-out
 invariant-loop-out g l = record {
-  kept : (call : ℕ) (meter after : Meter) (handed : List Paid)
+  kept : (call : ℕ) (meter after : Meter) (handed : List Period)
       → IsAtRest call meter (handed ++ queued_in l.initial.deliveries.items) (g.P.Port.state l.initial.port call) (phase_of l.initial.dialogue)
       → RunsThrough handed meter l.sent after → l.counts.forfeits ≡ l.initial.counts.forfeits;
-  rests : (call : ℕ) (meter after : Meter) (handed : List Paid)
+  rests : (call : ℕ) (meter after : Meter) (handed : List Period)
       → IsAtRest call meter (handed ++ queued_in l.initial.deliveries.items) (g.P.Port.state l.initial.port call) (phase_of l.initial.dialogue)
       → RunsThrough handed meter l.sent after
       → (now : Meter) × (IsAtRest call now (handed ++ queued_in l.deliveries.items) (g.P.Port.state l.port call) (phase_of l.dialogue)

@@ -1,5 +1,5 @@
 use Rattle.std.proofs.Common.{◌∷◌, [], ap, ◌∙◌, refl}
-use Rattle.cap_values.specs.Orders.{order_of, paid_by}
+use Rattle.cap_values.specs.Orders.{order_of, periods_in}
 use Rattle.one_call.specs.Deliveries.{queued_in}
 use Rattle.one_call.specs.Steps.{Delivers, Meets}
 use Rattle.one_call.proofs.Orders.{handed-first}
@@ -9,7 +9,7 @@ pub returns-in-Some : goal.returns-in-Some
 returns-in-Some c = record {
   next = (Delivers c.in-Some.delivery, (c.in-Some.ensures.takes, refl));
   metered = (
-    paid_by (order_of c.in-Some.delivery.op ∷ []),
+    periods_in (order_of c.in-Some.delivery.op ∷ []),
     (
       ap queued_in c.in-Some.ensures.takes.1 ∙ handed-first c.in-Some.delivery.op (queued_in c.take_due.new.deliveries.items),
       c.operation.ensures.metered,
