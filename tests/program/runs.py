@@ -200,34 +200,57 @@ NO_RUNS = [
     ("prefix,from,fee,rate\r\n%%\r\nkind,key,value\n%%", "script row 1: Header"),
 ]
 
-# Four accounts whose calls go on side by side: three rows of each.
-BESIDE_SETUP = "".join(f"account,{it},1500\n" for it in "1234") + "".join(f"subscriber,49{it},{it}\n" for it in "1234")
+# What a call of each account says, which go on side by side: three rows.
 BESIDE = [(0, "start,49{0},4930"), (100, "answer,,"), (400, "disconnect,1,")]
-BESIDE_SCRIPT = "".join(f"{at + 10 * number},{number},{what.format(number)}\n" for at, what in BESIDE for number in range(1, 5))
-# In how many parts they are played, and of each account the number of its settle, which counts the messages of its part: two
-# parts have two accounts each, and three parts the first two, the third and the fourth.
-PARTS = [(1, (8, 11, 14, 17)), (2, (4, 7, 4, 7)), (3, (4, 7, 2, 2)), (4, (2, 2, 2, 2)), (5, (2, 2, 2, 2))]
+
+# In how many parts accounts are played, and of each account the number of its settle, which counts the messages of its part,
+# or None where it has no call; what the script says besides, and its entries. Of four accounts two parts have two each, and
+# three parts the first two, the third and the fourth.
+PARTS = [
+    (1, (8, 11, 14, 17), "", ""),
+    (2, (4, 7, 4, 7), "", ""),
+    (3, (4, 7, 2, 2), "", ""),
+    (4, (2, 2, 2, 2), "", ""),
+    (5, (2, 2, 2, 2), "", ""),
+    # the second part ends where two parts have their share
+    (3, (4, 7, 4, 7, 4, 7), "", ""),
+    # of no rows for a part the first account is none before which a part ends
+    (7, (None, None, None, None, None, 2, 2), "", ""),
+    # recharges count, and a share is rounded down
+    (2, (None, 4, 7), "0,,recharge,1,1\n" * 5, "".join(f"1,0,credit,,1,,,,,,,credited,,,{1501 + it}\n" for it in range(5))),
+    # what is said of a call of nobody's counts for no part, and goes to one by its number
+    (2, (6, 9, 4, 7), "0,8,start,33,4930\n" + "0,8,answer,,\n" * 3, ""),
+    (2, (2, 4), "0,5,start,33,4930\n", ""),
+]
 
 
-def beside_book(settles):
-    """The book of these calls, by the numbers of their settles."""
-    of_each = (
-        "{0},,opening,,1500,,,,,,,,,,\n"
+def beside(settles, more):
+    """The input of so many accounts, of which those with a settle have a call of their number."""
+    numbers = range(1, len(settles) + 1)
+    setup = "".join(f"account,{it},1500\n" for it in numbers) + "".join(f"subscriber,49{it},{it}\n" for it in numbers)
+    calls = [(at, it, what) for at, what in BESIDE for it, settle in zip(numbers, settles) if settle]
+    return run_input(BAND, setup, more + "".join(f"{at + 10 * it},{it},{what.format(it)}\n" for at, it, what in calls))
+
+
+def beside_book(settles, more):
+    """The book of these calls, by the numbers of their settles, with more entries of the first account."""
+    of_call = (
         "{0},0,reserve,{0},50,1000,,600,50,0,{0}0,granted,600,more,450\n"
         "{0},0,settle,{0},{1},n,300,,,,,settled,550,,450\n"
         "{0},0,return,{0},,,,,,,,returned,550,,950\n"
     )
-    rows = "".join(of_each.format(number, settle) for number, settle in enumerate(settles, 1))
-    return f"account,seat,op,call,x1,x2,x3,x4,x5,x6,x7,reply,y1,y2,y3\n{rows}"
+    books = ["{0},,opening,,1500,,,,,,,,,,\n" + (of_call if settle else "") for settle in settles]
+    rows = [book.format(number, settle) for number, (book, settle) in enumerate(zip(books, settles), 1)]
+    rows.insert(1, more)
+    return f"account,seat,op,call,x1,x2,x3,x4,x5,x6,x7,reply,y1,y2,y3\n{''.join(rows)}"
 
 
 def rows():
     for words, tariff, setup, script, output in PLAYED:
         yield Row(words, run_input(tariff, setup, script), output)
     yield [Row("run --book", run_input(BAND, ACCOUNT, AT_ONCE), book) for book in AT_ONCE_BOOKS]
-    for count, settles in PARTS:
-        text = run_input(BAND, BESIDE_SETUP, BESIDE_SCRIPT)
-        yield Row(f"run --parts {count} --book", text, beside_book(settles))
+    for count, settles, more, entries in PARTS:
+        yield Row(f"run --parts {count} --book", beside(settles, more), beside_book(settles, entries))
     for words, script, output in SILENT:
         yield Row(words, run_input(BAND, ACCOUNT, script), output)
     for words, script, output, line in REFUSING:
