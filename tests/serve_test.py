@@ -16,6 +16,7 @@ import sys
 import tempfile
 import time
 
+from model.command import MAX_INPUT
 from model.tables import Fault
 from serve_days import days, next_day
 from serve_kills import kills
@@ -227,6 +228,19 @@ def bad_lines(trial):
     return f"{len(bad)} lines, {len(torn)} torn ends"
 
 
+def longer_than_an_input(trial):
+    """A log may be longer than an input that is read whole: its last line is heard, and stays in the file."""
+    stray = b"%020d,,%020d,switch,ApplyChargingReport,inactive,n,%020d,\n" % (0, 9, 0)
+    recharge, count = b"0,,,operator,Recharge,7,1,,\n", MAX_INPUT // len(stray) + 1
+    log = trial.talk.log + stray * count + recharge
+    path = trial.new(log)
+    rows = b"".join(b"0,%d,,operator,Recharge,7,1,,\n" % number for number in (count, count + 1))
+    end = b"%%\naccount 7 opening 1500 available 1502 entries 2\n"
+    same("the last lines", trial.run(path, HEAD + recharge, "--again", str(count), "--lines"), (0, HEADER + rows + end, b""))
+    same("bytes", len(read(path)), len(log + recharge))
+    return f"{len(log)} bytes"
+
+
 def again(trial):
     """--again N prints the rows from number N on once more, whatever N is, and the rows that are new in any case."""
     talk, count = trial.talk, 0
@@ -381,7 +395,7 @@ def sync_fails(trial, call, number):
 
 
 TRIES = [cut_at_each_byte, altered_at_each_byte, altered_in_a_row, begun_otherwise, no_log, unreadable, disk_is_full]
-TRIES += [bad_lines, again, sent_again, reader_is_gone, one_by_one, synced_first, synced_together, next_day]
+TRIES += [bad_lines, longer_than_an_input, again, sent_again, reader_is_gone, one_by_one, synced_first, synced_together, next_day]
 TRIES += [days, kills]
 # Those whose logs lie on a disk, where a row takes the time of a sync.
 ON_DISK = [kills]
