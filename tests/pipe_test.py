@@ -1,9 +1,10 @@
 #!/usr/bin/env python3
-"""Tries `prepaid serve` and `prepaid rate` at the other end of a pipe: tests/pipe_test.py [--program FILE]
+"""Tries `prepaid serve`, `prepaid rate` and `prepaid audit --long` at the other end of a pipe: tests/pipe_test.py [--program FILE]
 
 Each message is sent only once the answers to those before it have come, so a service that held anything back would stop
-here. A line of 100 MB is answered in bounded memory, and so are records with a row of 100 MB. Where the reader of its output is gone the service ends without a
-line. socat's line of docs/RECIPES.md is tried on loopback, where socat is installed.
+here. A line of 100 MB is answered in bounded memory, and so are records with a row of 100 MB, many records and a long book.
+Where the reader of its output is gone the service ends without a line. socat's line of docs/RECIPES.md is tried on loopback,
+where socat is installed.
 """
 import argparse
 import os
@@ -148,6 +149,31 @@ def rates_long_rows(program):
     return "; ".join(wrong) or None
 
 
+def keeps_no_rows(program):
+    """Memory doesn't grow with the rows of records and of a long book."""
+    rated = "called,answer,time", "4930,0,600\n"
+    opened = "account,seat,op,call,x1,x2,x3,x4,x5,reply,y1,y2,y3\n7,,opening,,1000000000000000,,,,,,,,\n"
+    tries = [
+        (["--differing"], "rate", f"prefix,from,fee,rate\n49,00:00,50,1000\n%%\n{rated[0]}\n", rated[1],
+         f"{rated[0]},prefix,before,after,price,difference,fault\n"),
+        (["--long"], "audit", opened, "7,0,credit,,1,,,,,over,,,1000000000000000\n", "account 7 yes\n"),
+    ]
+    wrong = []
+    for words, name, head, row, wanted in tries:
+        with start(program, *words, command=name) as it:
+            send(it.stdin, head)
+            for _ in range(1000):
+                it.stdin.write(row.encode() * 2000)
+            it.stdin.flush()
+            memory = most_memory(it.pid)
+            text, faults = it.communicate(timeout=SECONDS)
+        if (text.decode(), faults, it.returncode) != (wanted, b"", 0):
+            wrong.append(f"{name}: {it.returncode}, {text[-200:]}, {faults}")
+        if memory > MOST_MEMORY:
+            wrong.append(f"{name}: {memory} KiB of memory")
+    return "; ".join(wrong) or None
+
+
 def rates_as_they_come(program):
     """Rows are printed before more are waited for, once there are enough of them for one write."""
     count, row, rated = 6000, "4930,0,600,ok\n", "4930,0,600,ok,49,600,0,1050,,\n"
@@ -210,7 +236,7 @@ def main():
     asked = argparse.ArgumentParser(description=__doc__, formatter_class=argparse.RawDescriptionHelpFormatter)
     asked.add_argument("--program", default="bin/prepaid")
     program = os.path.abspath(asked.parse_args().program)
-    tries = [answers_in_turn, bounds_memory, rates_long_rows, rates_as_they_come, ends_with_its_reader]
+    tries = [answers_in_turn, bounds_memory, rates_long_rows, keeps_no_rows, rates_as_they_come, ends_with_its_reader]
     if shutil.which("socat"):
         tries.append(serves_a_port)
     else:
