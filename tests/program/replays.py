@@ -45,6 +45,18 @@ ANSWERED = [
         "0,credit,,1,,,,\n0,credit,,0,,,,\n",
         "over available 1000000000000000\nrefused OutOfRange\n",
     ),
+    # the greatest of each: 864000 at 10^9 a minute are 1440 of these, and the fee
+    (
+        "replay --opening 1441000000000",
+        "0,reserve,18446744073709551615,1000000000,1000000000,1000000000,864000,864000\n"
+        "0,settle,18446744073709551615,18446744073709551615,n,864000,,\n0,return,18446744073709551615,,,,,\n",
+        "granted 864000 more available 0\nsettled paid 1441000000000 available 0\nreturned paid 1441000000000 available 0\n",
+    ),
+    (
+        "replay --opening 1441000000000",
+        "0,reserve,1,1000000000,1000000000,1000000000,864000,864000\n0,settle,1,0,s,864000,,\n",
+        "granted 864000 more available 0\nsettled paid 1441000000000 available 0\n",
+    ),
     (OPENED, "", ""),
 ]
 
@@ -62,6 +74,17 @@ REFUSED = [
     ("0,reserve,1,50,1000,,864001,50\n", "ops row 2: Number"),
     ("0,settle,1,0,s,1,0,\n", "ops row 2: Number"),
     ("0,settle,1,0,n,864001,,\n", "ops row 2: Number"),
+    ("0,settle,1,0,s,864001,,\n", "ops row 2: Number"),
+    ("0,settle,1,0,s,1,864001,\n", "ops row 2: Number"),
+    ("0,reserve,18446744073709551616,50,1000,400,600,50\n", "ops row 2: Number"),
+    ("0,settle,18446744073709551616,0,n,1,,\n", "ops row 2: Number"),
+    ("0,settle,1,18446744073709551616,n,1,,\n", "ops row 2: Number"),
+    ("0,settle,18446744073709551616,0,s,1,,\n", "ops row 2: Number"),
+    ("0,settle,1,18446744073709551616,s,1,,\n", "ops row 2: Number"),
+    ("0,return,18446744073709551616,,,,,\n", "ops row 2: Number"),
+    ("0,reserve,1,1000000001,1000,400,600,50\n", "ops row 2: Number"),
+    ("0,reserve,1,50,1000000001,400,600,50\n", "ops row 2: Number"),
+    ("0,reserve,1,50,1000,,600,864001\n", "ops row 2: Number"),
     ("0,credit,1,1,,,,\n", "ops row 2: Empty"),
     ("0,settle,1,0,n,1,1,\n", "ops row 2: Empty"),
     ("0,settle,1,0,s,1,1,1\n", "ops row 2: Empty"),
