@@ -128,6 +128,18 @@ RATED = [
         "called,answer,before,after,time,paid,prefix,before,after,price,difference,fault\n4930,0,600,600,5,59,49,5,0,59,0,\n",
     ),
     (
+        "rate",
+        "called,answer,before,time\n4930,0,5,600\n",
+        0,
+        "called,answer,before,time,prefix,before,after,price,difference,fault\n4930,0,5,600,49,600,0,1050,,\n",
+    ),
+    (
+        "rate",
+        "called,answer,after,end\n4930,0,5,600\n",
+        0,
+        "called,answer,after,end,prefix,before,after,price,difference,fault\n4930,0,5,600,49,600,0,1050,,\n",
+    ),
+    (
         "rate --called b --answer start --before x --after y --paid cost",
         "b,start,x,y,cost\n4930,0,600,600,1450\n",
         0,
