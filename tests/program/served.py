@@ -1,4 +1,6 @@
 """The service on a pipe: what `serve` prints of messages, and what it refuses."""
+import re
+
 from rows import ACCOUNT, BAND, Row, refused
 from traces import GRANTED, HEADER
 
@@ -41,6 +43,22 @@ ENDS = [
         "serve --calls",
         "%%\ncall,calling,called,account,prefix,start,answer,end,before,after,paid,outcome\n"
         "1,491700001,4930,7,49,0,100,402,300,0,550,ended\n",
+    ),
+]
+
+# Of a call that is answered, how much it has asked for, what it says then, and what its record has behind its answer. A
+# grant of 900 is cut to 870, which are the last.
+TALKED = [
+    (900, "970,,1,switch,ApplyChargingReport,inactive,n,870,\n970,,1,switch,Ended,,,,\n", "970,870,0,1500,cut"),
+    (900, "200,,1,switch,ApplyChargingReport,inactive,n,100,\n200,,1,switch,Ended,,,,\n", "200,100,0,217,released"),
+    (600, "700,,1,switch,ApplyChargingReport,inactive,n,600,\n700,,1,switch,Ended,,,,\n", "700,600,0,1050,released"),
+    # the first message of each kind counts
+    (
+        600,
+        "110,,1,switch,InitialDP,4917,33,,\n120,,1,switch,EventReportBCSM,answer,,notify,\n"
+        "400,,1,switch,ApplyChargingReport,inactive,n,300,\n400,,1,switch,EventReportBCSM,disconnect,1,interrupted,\n"
+        "402,,1,switch,Ended,,,,\n500,,1,switch,Ended,,,,\n",
+        "402,300,0,550,ended",
     ),
 ]
 
@@ -129,6 +147,10 @@ def answers():
     for line, kind in BAD:
         text = input_of(f"{FIRST}\n{line}\n9,1,1,switch,Ended,,,,\n")
         yield Row("serve", text, f"{HEADER}{GRANTED},,,service,fault,{kind},3,,\n9,1,1,switch,Ended,,,,\n")
+    for wanted, more, record in TALKED:
+        text = input_of(f"{FIRST}\n100,,1,switch,EventReportBCSM,answer,,notify,\n{more}")
+        said = re.compile(f"(?s).*%%\n.*outcome\n1,491700001,4930,7,49,0,100,{record}\n".encode())
+        yield Row(f"serve --wanted {wanted} --calls", text, said)
     asked = GRANTED.replace("ApplyCharging,600", "ApplyCharging,120")
     yield Row("serve --wanted 120 --least 60 --tccd 60", input_of(f"{FIRST}\n"), HEADER + asked)
 
