@@ -2,6 +2,16 @@
 from accounts import HEADER as OPERATIONS, credit, reserve, returned, talked
 from audits import HEADER as BOOK
 from rows import BAND, PRICE, Row, refused, run_input
+from traces import HEADER as MESSAGES
+
+# The most bytes of a section that is read as it comes, with its %%.
+MAX_SECTION = 16_777_216
+# Words, what is in front of such a section, the section, what is behind it, and what is printed.
+SECTIONS = [
+    ("rate", "", f"prefix,from,fee,rate\n{BAND}", "called,answer,time\n", "called,answer,time,prefix,before,after,price,difference,fault\n"),
+    ("serve", "", f"prefix,from,fee,rate\n{BAND}", f"kind,key,value\n%%\n{MESSAGES}", MESSAGES),
+    ("serve", f"prefix,from,fee,rate\n{BAND}%%\n", "kind,key,value\n", MESSAGES, MESSAGES),
+]
 
 # A tariff, the line that divides, and the header of records.
 RECORDS = f"prefix,from,fee,rate\n{BAND}%%\ncalled,answer,time,note\n"
@@ -103,8 +113,17 @@ def long_headers():
         yield refused("rate", f"{header}{note}{more}\n{RECORD}", "records row 1: Header")
 
 
+def long_sections():
+    """As many bytes as a section may have that is read as it comes, and one more."""
+    for words, front, section, behind, printed in SECTIONS:
+        filled = section + "\n" * (MAX_SECTION - len(f"{section}%%\n"))
+        yield Row(words, f"{front}{filled}%%\n{behind}", printed)
+        yield refused(words, f"{front}{filled}\n%%\n{behind}", "input: TooLong")
+
+
 def rows():
     yield from numbers_of_rows()
+    yield from long_sections()
     yield from many_calls()
     yield from long_rows()
     yield from long_headers()

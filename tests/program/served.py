@@ -147,6 +147,12 @@ def answers():
     for line, kind in BAD:
         text = input_of(f"{FIRST}\n{line}\n9,1,1,switch,Ended,,,,\n")
         yield Row("serve", text, f"{HEADER}{GRANTED},,,service,fault,{kind},3,,\n9,1,1,switch,Ended,,,,\n")
+    # an Ended of a call that hasn't begun changes nothing, and a call that is over begins no more
+    early, late = "0,{},1,switch,Ended,,,,\n", "402,{},1,switch,InitialDP,491700001,4930,,\n"
+    printed = f"{early}0,{{}},1,service,stray,,,,\n".format(0, 0) + GRANTED.replace("0,0,1,", "0,1,1,")
+    yield Row("serve", input_of(f"{early.format('')}{FIRST}\n"), HEADER + printed)
+    printed = f"{ANSWERED}{late}402,{{}},1,service,stray,,,,\n".format(5, 5)
+    yield Row("serve", input_of(CALL + late.format("")), HEADER + printed)
     for wanted, more, record in TALKED:
         text = input_of(f"{FIRST}\n100,,1,switch,EventReportBCSM,answer,,notify,\n{more}")
         said = re.compile(f"(?s).*%%\n.*outcome\n1,491700001,4930,7,49,0,100,{record}\n".encode())
