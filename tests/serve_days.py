@@ -21,7 +21,7 @@ PATH=${PATH#*:} exec NAME "$@"
 
 def next_day(trial):
     """By the setup of the next day each account opens with what was available to it, so that the sums are the same, and
-    with its last moment. A call that holds money keeps such a setup from being made."""
+    with its last moment. A call that holds money keeps such a setup from being made. Lines of a setup end with LF or CR LF."""
     days, held, seed, texts = 0, 0, 0, [read(f"{ROOT}/examples/{it}.txt") for it in ("evening", "expiring", "call")]
     texts[-1] = texts[-1].replace(b"account,7", b"account,04294967295").replace(b"0001,7", b"0001,4294967295")
     while days < 20:
@@ -35,7 +35,7 @@ def next_day(trial):
         rows = b"".join(it.encode() + b"\n" for it in run.traced if it.split(",")[3] != "service")
         status, output, line = trial.run(trial.new(), b"%%\n".join([tariff, setup, HEADER + rows]), "--book")
         same(f"seed {seed}: the book", (status, output.partition(b"%%\n")[2], line), (0, run.book().encode(), b""))
-        paths = trial.new(setup), trial.new(run.book().encode())
+        paths = trial.new(setup.replace(b"\n", b"\r\n") if seed % 2 else setup), trial.new(run.book().encode())
         ran = subprocess.run(["awk", "-f", f"{ROOT}/examples/next_setup.awk", *paths], capture_output=True, check=False)
         is_held = any(call.is_open for it in run.accounts.values() for call in it.calls.values())
         same(f"seed {seed}: {ran.stderr}", (ran.returncode, b" holds money\n" in ran.stderr), (is_held, is_held))
