@@ -37,9 +37,10 @@ def next_day(trial):
         same(f"seed {seed}: the book", (status, output.partition(b"%%\n")[2], line), (0, run.book().encode(), b""))
         paths = trial.new(setup.replace(b"\n", b"\r\n") if seed % 2 else setup), trial.new(run.book().encode())
         ran = subprocess.run(["awk", "-f", f"{ROOT}/examples/next_setup.awk", *paths], capture_output=True, check=False)
-        is_held = any(call.is_open for it in run.accounts.values() for call in it.calls.values())
-        same(f"seed {seed}: {ran.stderr}", (ran.returncode, b" holds money\n" in ran.stderr), (is_held, is_held))
-        if is_held:
+        calls = ((account, call, it) for account, of in run.accounts.items() for call, it in of.calls.items())
+        named = sorted(f"call {call} of account {account} holds money" for account, call, it in calls if it.is_open)
+        same(f"seed {seed}", (ran.returncode, sorted(ran.stderr.decode().splitlines())), (bool(named), named))
+        if named:
             held += 1
             continue
         accounts, subscribers = read_setup(ran.stdout)
