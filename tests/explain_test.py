@@ -5,7 +5,8 @@ Each slip of a table is told by its line alone, and with `--explain` in front of
 the table behind it; the output stays empty. The same holds with CR LF at the end of each line, without an LF at the end of
 the input, and where the row is at the end of an input of 16 MB. Behind the answer of a run a line says which calls no
 subscriber makes, and a further one which events had no place, in parts or not, with the word alone, and the output stays as
-it is. Of an output that fails, nothing is said without the word, and with it why it failed, at each command.
+it is. Of an output that fails, nothing is said without the word, and with it why it failed, at each command. examples/line_of.awk
+names the line of a row in each table.
 
 On a pseudo-terminal a fault is explained without the word, but not behind `--plain`, and a command says that it waits for its
 input. A run of more than two seconds shows there how far it is, each fifth of a second, and takes that away at its end; one that
@@ -435,11 +436,30 @@ def progress(program):
     return None
 
 
+# An input of a run with empty lines, and of some of its rows the table, the number and the line; and a table by itself.
+LINED = f"{TARIFF}\n44,00:00,1,1\n%%\nkind,key,value\naccount,7,5000\n\naccount,8,5000\n%%\n\n{SCRIPT}20,1,busy,,\n"
+LINES = [("tariff", 1, 1), ("tariff", 3, 4), ("setup", 1, 6), ("setup", 3, 9), ("script", 1, 12), ("script", 3, 14)]
+ALONE = "before,after\n\n600,0\n"
+
+
+def lines_of_rows(_):
+    """What line_of.awk says of a row, which is what an explanation shows of it."""
+    tries = [(LINED, *it) for it in LINES] + [(ALONE, "reports", 2, 3)]
+    for text, section, row, line in tries:
+        wanted = f"line {line}: {text.splitlines()[line - 1]}\n"
+        words = ["awk", "-v", f"section={section}", "-v", f"row={row}", "-f", f"{ROOT}/examples/line_of.awk"]
+        for end in ("\n", "\r\n"):
+            found = subprocess.run(words, input=text.replace("\n", end).encode(), capture_output=True, check=True).stdout.decode()
+            if found != wanted:
+                return f"line_of.awk, {section} row {row}: {found!r} in place of {wanted!r}"
+    return None
+
+
 def main():
     parser = argparse.ArgumentParser(description=__doc__.split("\n")[0])
     parser.add_argument("--program", default=f"{ROOT}/bin/prepaid")
     program = os.path.abspath(parser.parse_args().program)
-    for name, trial in {"slips": slips, "answers": answers, "outputs": outputs, "terminals": terminals, "progress": progress}.items():
+    for name, trial in {"slips": slips, "answers": answers, "outputs": outputs, "terminals": terminals, "progress": progress, "lines": lines_of_rows}.items():
         if wrong := trial(program):
             print(f"explain: {name}: {wrong}")
             return 1
