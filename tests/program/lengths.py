@@ -87,6 +87,7 @@ def many_calls():
     yield Row("audit --lines", f"{BOOK}1,,opening,,0,,,,,,,,\n{entries}", output)
     asked = "".join(credit(1050) + reserve(call, 600) + talked(call, 600) + returned(call) for call in range(1, 2501))
     yield Row("replay --opening 0", OPERATIONS + asked, ANSWERED * 2500)
+    yield refused("replay --opening 0", OPERATIONS + asked + credit(1), "ops row 10002: TooManyRows")
 
 
 def noted(note):

@@ -185,6 +185,9 @@ REFUSED_BESIDE = (
 # A recharge with a last moment.
 EXPIRING = "prefix,from,fee,rate\n%%\nkind,key,value\naccount,7,1500\n%%\nmoment,call,what,x,y,z\n5,,recharge,7,300,9000\n"
 
+# A call that is answered a unit before its tariff switch at 602, at it and behind it, and the times that it reports at 702.
+ANSWERED_AT = [(601, "100,1"), (602, "100,"), (603, "99,")]
+
 # Words of which only one may be there, and dates and times where there are no moments.
 NO_TABLE = [
     "run --trace --calls",
@@ -207,7 +210,19 @@ def recharges():
     yield Row("run --trace --clock", EXPIRING, HEADER + dates)
 
 
+def about_the_switch():
+    """What is said of a call that is answered about its switch."""
+    for answer, times in ANSWERED_AT:
+        text = run_input(f"{BAND}49,00:01,0,400\n", ACCOUNT, f"{START}{answer},1,answer,,\n702,1,disconnect,1,\n")
+        said = (
+            f"{answer},1,1,switch,EventReportBCSM,answer,,notify,\n702,2,1,switch,ApplyChargingReport,inactive,s,{times}\n"
+            "702,3,1,switch,EventReportBCSM,disconnect,1,interrupted,\n702,3,1,service,Continue,,,,\n704,4,1,switch,Ended,,,,\n"
+        )
+        yield Row("run --trace", text, HEADER + GRANTED.replace("ApplyCharging,600,", "ApplyCharging,600,60") + said)
+
+
 def rows():
+    yield from about_the_switch()
     for words, script, said in GOING_ON:
         yield Row(words, run_input(BAND, ACCOUNT, START + script), HEADER + GRANTED + said)
     for words, tariff, setup, script, said in TRACED:
