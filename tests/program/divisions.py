@@ -7,6 +7,7 @@ TARIFF, SETUP, SCRIPT = "prefix,from,fee,rate", "kind,key,value", "moment,call,w
 DIVIDED = [
     f"{TARIFF}\n%%\n{SETUP}\n%%\n{SCRIPT}\n",
     f"{TARIFF}\r\n%%\r\n{SETUP}\r\n%%\r\n{SCRIPT}",
+    f"\ufeff{TARIFF}\n%%\n\ufeff{SETUP}\n%%\n\ufeff{SCRIPT}\n",
 ]
 
 # Inputs with the first fault of what their tables are then.
@@ -42,6 +43,7 @@ UNDIVIDED = [
     "a\r%%\nb\n%%\nc\n",
     "a\n%%\rb\n%%\nc\n",
     "a\n%%\nb\n%%\nc\n%%\n",
+    "a\n\ufeff%%\nb\n%%\nc\n",
     "%%\n%%\n%%",
 ]
 

@@ -166,6 +166,13 @@ RATED = [
         "4930,0,600,ok\n"
         '",49,600,0,1050,,\n',
     ),
+    # a byte order mark, which is passed over, empty lines, and each end of a line
+    (
+        "rate",
+        '\ufeff"called",answer,time\r\n\r\n4930,0,600\r4930,0,600\n\n"4930",0,600\r\n4930,0,600\r',
+        0,
+        "called,answer,time,prefix,before,after,price,difference,fault\n" + "4930,0,600,49,600,0,1050,,\n" * 4,
+    ),
     ("rate", "called,answer,time\n", 0, "called,answer,time,prefix,before,after,price,difference,fault\n"),
 ]
 
