@@ -233,6 +233,21 @@ COUNTED = [
         3,
         "prepaid: rated: 2 rows, 2 differ, 0 faults, charged 1000000000000000, by the tariff 2100, over 999999999998950, under 1050\n",
     ),
+    # what rows with a fault were charged counts for nothing, and one that wasn't answered costs nothing
+    (
+        "rate --summary",
+        "called,answer,time,paid\n4930,0,600,1050\n4930,,,7\n4930,,,\n33,0,1,7\n4930,0,x,9\n4930,0,600\n4930,0,600,\n",
+        3,
+        "prepaid: rated: 7 rows, 1 differ, 3 faults, charged 1057, by the tariff 2100, over 7, under 0\n",
+    ),
+    # more than 64 bits
+    (
+        "rate --summary",
+        "called,answer,time,paid\n" + "4930,0,600,1000000000000000\n" * 20_000,
+        3,
+        "prepaid: rated: 20000 rows, 20000 differ, 0 faults, charged 20000000000000000000, by the tariff 21000000, "
+        "over 19999999999979000000, under 0\n",
+    ),
     (
         "rate --summary",
         "called,answer,time\n",
