@@ -2,7 +2,8 @@
 """Divides inputs by account, runs the parts, and compares the merged lines with those of the whole run.
 
 tests/divide_test.py [--program FILE] [COUNT] takes the examples, COUNT random inputs that run, and one that is larger
-than one run takes. An input that the program refuses must be refused as well when it is divided.
+than one run takes. An input that the program refuses must be refused as well when it is divided. merge.py must refuse what is
+no line of a run.
 """
 import argparse
 import csv
@@ -32,6 +33,22 @@ WRONG = {
 }
 # How many threads play the parts inside the program.
 THREADS = ["1", "2", "4", "64"]
+# Files with lines of parts, and what is merged of them, or the beginning of what refuses them behind `merge: FILE: `.
+ACCOUNT = "account {} opening 5 available 5 entries 0\n"
+CALL = "call {} account {} paid 1 returned\n"
+MERGED = [
+    (["", ACCOUNT.format(7)], ACCOUNT.format(7)),
+    (
+        [ACCOUNT.format(10) + CALL.format(11, 10) + CALL.format(9, 10), ACCOUNT.format(9) + CALL.format(11, 9) + CALL.format(100, 9)],
+        ACCOUNT.format(9) + ACCOUNT.format(10) + CALL.format(9, 10) + CALL.format(11, 9) + CALL.format(11, 10) + CALL.format(100, 9),
+    ),
+    ([ACCOUNT.format(7), ACCOUNT.format(8) + ACCOUNT.format(7)], "account 7 is in two parts"),
+    ([ACCOUNT.format(7)[:-1]], "no whole line of a run"),
+    ([CALL.format(1, 7)[:-1]], "no whole line of a run"),
+    ([ACCOUNT.format(7) + "\n"], "no whole line of a run"),
+    ([ACCOUNT.format(7), "account 8 yes\n"], "no whole line of a run"),
+    ([ACCOUNT.format(7), CALL.format(1, 7).replace("returned", "cut")], "no whole line of a run"),
+]
 # Faults that a part needn't have: the input is only too long for one run.
 TOO_LARGE = ["TooLong", "TooManyRows"]
 
@@ -133,6 +150,19 @@ class Trial:
         return status == 0
 
 
+def merges(trial):
+    """Tries what merge.py prints of files, and what it refuses."""
+    for texts, wanted in MERGED:
+        paths = [trial.new(it.encode()) for it in texts]
+        ran = subprocess.run([sys.executable, f"{TOP}/examples/merge.py", *paths], capture_output=True, text=True)
+        if wanted.endswith("\n"):
+            is_right = (ran.returncode, ran.stdout, ran.stderr) == (0, wanted, "")
+        else:
+            is_right = (ran.returncode, ran.stdout) == (1, "") and ran.stderr.startswith(f"merge: {paths[-1]}: {wanted}")
+        if not is_right:
+            raise SystemExit(f"merge.py over {texts}: {ran.returncode} {ran.stdout!r} {ran.stderr!r}, and not {wanted!r}")
+
+
 def wrong(setup, script):
     """An input of two accounts with more rows."""
     setup = ["kind,key,value", "account,7,1500", "subscriber,491,7", "account,8,1500", "subscriber,492,8", *setup]
@@ -159,6 +189,7 @@ def main():
     words = asked.parse_args()
     with tempfile.TemporaryDirectory() as folder:
         trial = Trial(os.path.abspath(words.program), folder)
+        merges(trial)
         one = ["run", "--workers", "1"]
         for name in ("evening", "call", "free_minute", "expiring"):
             path = os.path.join(TOP, "examples", f"{name}.txt")
