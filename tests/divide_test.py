@@ -118,10 +118,12 @@ class Trial:
                 raise SystemExit(f"{name} {table}: not the same by {THREADS} threads")
 
     def refuses(self, name, words, path, fault):
+        """Looks whether an input is refused, and says why, once it is divided."""
         try:
             found, _ = in_parts(self.program, words, path, self.new(), 2, RUN)
-        except (Wrong, csv.Error):
+        except (Wrong, csv.Error) as why:
             self.refused += 1
+            return str(why)
         else:
             raise SystemExit(f"{name}: the whole is refused, {fault}and its parts are not:\n{found}")
 
@@ -205,7 +207,8 @@ def main():
             fault = run(trial.program, one, path)[2]
             if name.split()[0] not in fault:
                 raise SystemExit(f"{name}: {fault}")
-            trial.refuses(name, one, path, fault)
+            if (said := trial.refuses(name, one, path, fault)) != fault.removeprefix("prepaid: ").strip():
+                raise SystemExit(f"{name}: {said}, and not {fault}")
         evening = os.path.join(TOP, "examples", "evening.txt")
         records = {run(trial.program, ["run", "--calls", "--workers", it], evening) for it in ("1", "2", "16")}
         if len(records) != 1:
