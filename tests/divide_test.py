@@ -3,7 +3,7 @@
 
 tests/divide_test.py [--program FILE] [COUNT] takes the examples, COUNT random inputs that run, and one that is larger
 than one run takes. An input that the program refuses must be refused as well when it is divided. merge.py must refuse what is
-no line of a run.
+no line of a run, and a run in parts must take less memory.
 """
 import argparse
 import csv
@@ -18,6 +18,7 @@ from divide import RUN, Limits, Wrong, divide
 from merge import merge
 from model.command import TABLES
 from model.inputs import make
+from pipe_test import most_memory
 
 # The limits of a run, and smaller ones that divide small inputs into many parts.
 SMALL = [Limits(RUN.bytes, 1, 10, 1_000), Limits(RUN.bytes, 2, 5, 1_000), Limits(2_000, 3, 100, 60)]
@@ -165,6 +166,25 @@ def merges(trial):
             raise SystemExit(f"merge.py over {texts}: {ran.returncode} {ran.stdout!r} {ran.stderr!r}, and not {wanted!r}")
 
 
+def memory(program, words, path):
+    """The most memory that a run has taken by the time it prints, in KiB."""
+    with open(path, "rb") as file, subprocess.Popen([program, *words], stdin=file, stdout=subprocess.PIPE) as it:
+        # more is printed than a pipe holds
+        it.stdout.read(1)
+        most = most_memory(it.pid)
+        it.stdout.read()
+    return most
+
+
+def takes_less(trial):
+    """Once a part is played, only what is printed of it is kept."""
+    text = subprocess.run([sys.executable, f"{TOP}/examples/generate.py", "--calls", "20000"], capture_output=True, check=True).stdout
+    path = trial.new(text)
+    whole, parts = (memory(trial.program, ["run", *words], path) for words in (["--workers", "1"], ["--parts", "16"]))
+    if 2 * parts > whole:
+        raise SystemExit(f"a run in parts takes {parts} KiB, and one in a piece {whole}")
+
+
 def wrong(setup, script):
     """An input of two accounts with more rows."""
     setup = ["kind,key,value", "account,7,1500", "subscriber,491,7", "account,8,1500", "subscriber,492,8", *setup]
@@ -192,6 +212,7 @@ def main():
     with tempfile.TemporaryDirectory() as folder:
         trial = Trial(os.path.abspath(words.program), folder)
         merges(trial)
+        takes_less(trial)
         one = ["run", "--workers", "1"]
         for name in ("evening", "call", "free_minute", "expiring"):
             path = os.path.join(TOP, "examples", f"{name}.txt")
