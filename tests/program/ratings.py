@@ -166,6 +166,14 @@ RATED = [
         "4930,0,600,ok\n"
         '",49,600,0,1050,,\n',
     ),
+    # a further line that is %% alone is a row, and a field is quoted again where it needs that
+    (
+        "rate",
+        'called,answer,time,note\n4930,0,600,"a\rb"\n%%\n"4930",0,600," c "\n',
+        3,
+        "called,answer,time,note,prefix,before,after,price,difference,fault\n"
+        '4930,0,600,"a\rb",49,600,0,1050,,\n%%,,,,,,Csv\n4930,0,600, c ,49,600,0,1050,,\n',
+    ),
     # a byte order mark, which is passed over, empty lines, and each end of a line
     (
         "rate",
