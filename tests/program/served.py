@@ -62,6 +62,9 @@ TALKED = [
     ),
 ]
 
+# What a call meets before its answer, and the outcome of its record.
+MET = [("busy", "busy"), ("noAnswer", "noanswer"), ("routeSelectFailure", "routefail"), ("abandon", "abandoned")]
+
 # The first message without its LF.
 FIRST = "0,,1,switch,InitialDP,491700001,4930,,"
 
@@ -157,6 +160,9 @@ def answers():
         text = input_of(f"{FIRST}\n100,,1,switch,EventReportBCSM,answer,,notify,\n{more}")
         said = re.compile(f"(?s).*%%\n.*outcome\n1,491700001,4930,7,49,0,100,{record}\n".encode())
         yield Row(f"serve --wanted {wanted} --calls", text, said)
+    for event, outcome in MET:
+        text = input_of(f"{FIRST}\n50,,1,switch,EventReportBCSM,{event},,notify,\n50,,1,switch,Ended,,,,\n")
+        yield Row("serve --calls", text, re.compile(f"(?s).*outcome\n1,491700001,4930,7,49,0,,50,0,0,0,{outcome}\n".encode()))
     asked = GRANTED.replace("ApplyCharging,600", "ApplyCharging,120")
     yield Row("serve --wanted 120 --least 60 --tccd 60", input_of(f"{FIRST}\n"), HEADER + asked)
 
