@@ -166,6 +166,28 @@ def merges(trial):
             raise SystemExit(f"merge.py over {texts}: {ran.returncode} {ran.stdout!r} {ran.stderr!r}, and not {wanted!r}")
 
 
+def undivided(trial, path):
+    """Tries what divide.py refuses of an input that runs, of its folder and of the parts that are asked for."""
+    full = trial.new()
+    os.mkdir(full)
+    with open(os.path.join(full, "part"), "wb"):
+        pass
+    tries = [
+        (path, full, 2, RUN, f"{full} is not empty"),
+        (path, trial.new(), 2, SMALL[0], "2 parts are too few"),
+        (trial.new(b"a\n%%\nb\n"), trial.new(), 2, RUN, "input: Parts"),
+        (trial.new(wrong([], []).replace(b"kind,", b"kinds,")), trial.new(), 2, RUN, "setup row 1: Header"),
+        (trial.new(wrong([], []).replace(b"moment,", b"moments,")), trial.new(), 2, RUN, "script row 1: Header"),
+    ]
+    for *given, wanted in tries:
+        try:
+            said = divide(*given)
+        except Wrong as why:
+            said = str(why)
+        if said != wanted:
+            raise SystemExit(f"divide.py: {said}, and not {wanted}")
+
+
 def memory(program, words, path):
     """The most memory that a run has taken by the time it prints, in KiB."""
     with open(path, "rb") as file, subprocess.Popen([program, *words], stdin=file, stdout=subprocess.PIPE) as it:
@@ -231,6 +253,7 @@ def main():
             if (said := trial.refuses(name, one, path, fault)) != fault.removeprefix("prepaid: ").strip():
                 raise SystemExit(f"{name}: {said}, and not {fault}")
         evening = os.path.join(TOP, "examples", "evening.txt")
+        undivided(trial, evening)
         records = {run(trial.program, ["run", "--calls", "--workers", it], evening) for it in ("1", "2", "16")}
         if len(records) != 1:
             raise SystemExit("the records of the evening aren't the same with 1, 2 and 16 workers")
