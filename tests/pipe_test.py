@@ -1,5 +1,5 @@
 #!/usr/bin/env python3
-"""Tries `prepaid serve`, `prepaid rate` and `prepaid audit --long` at the other end of a pipe: tests/pipe_test.py [--program FILE]
+"""Tries `serve`, `rate` and `audit --long` at the other end of a pipe: tests/pipe_test.py [--program FILE]
 
 Each message is sent only once the answers to those before it have come, so a service that held anything back would stop
 here. A line of 100 MB is answered in bounded memory, and so are records with a row of 100 MB, many records and a long book.

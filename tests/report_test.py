@@ -89,7 +89,8 @@ WRONG = [
     ("book.csv", changed("^(101,0,settle,1,)(\\d+)", r"\g<1>9\2"), f"a settle of call 1 {NO_MESSAGE}"),
     ("book.csv", changed("^(101,0,reserve,1,.*,)648700", r"\g<1>648701"), f"a reserve of call 1 {NO_MESSAGE}"),
     ("book.csv", changed("^101,0,credit,,8000", "101,0,credit,,8001"), f"account 101: a credit {NO_MESSAGE}"),
-    ("book.csv", changed("^(101,0,reserve,1,.*,)9050$", r"\g<1>10001"), "account 101: book.csv has more available than there is"),
+    ("book.csv", changed("^(101,0,reserve,1,.*,)9050$", r"\g<1>10001"),
+     "account 101: book.csv has more available than there is"),
     ("book.csv", changed("^101,0", "1o1,0"), "book.csv row 3: no row of this table"),
     ("calls.csv", without("^51,"), f"{SEVERAL}: call 51: calls.csv has none"),
     ("calls.csv", without("^20,"), f"{SEVERAL}: call 20: calls.csv has none"),
@@ -106,7 +107,8 @@ WRONG = [
     ("trace.csv", without("^762994,"), f"{SEVERAL}: call 51: calls.csv has calling 4917140001"),
     ("trace.csv", without("^762[0-9]+,"), f"account 104: a reserve of call 51 {NO_MESSAGE}"),
     ("trace.csv", without(",Recharge,"), "trace.csv: message 126 is missing"),
-    ("trace.csv", changed("^(.*,126,,)operator.*$", r"\g<0>" + r"\n\1service,stray,,,," * 2), "trace.csv: message 126 is no recharge"),
+    ("trace.csv", changed("^(.*,126,,)operator.*$", r"\g<0>" + r"\n\1service,stray,,,," * 2),
+     "trace.csv: message 126 is no recharge"),
     ("trace.csv", changed("Recharge,101,8000", "Recharge,101,8001"), f"account 101: a credit {NO_MESSAGE}"),
 ]
 

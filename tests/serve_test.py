@@ -395,8 +395,8 @@ def sync_fails(trial, call, number):
 
 
 TRIES = [cut_at_each_byte, altered_at_each_byte, altered_in_a_row, begun_otherwise, no_log, unreadable, disk_is_full]
-TRIES += [bad_lines, longer_than_an_input, again, sent_again, reader_is_gone, one_by_one, synced_first, synced_together, next_day]
-TRIES += [days, kills]
+TRIES += [bad_lines, longer_than_an_input, again, sent_again, reader_is_gone, one_by_one, synced_first, synced_together]
+TRIES += [next_day, days, kills]
 # Those whose logs lie on a disk, where a row takes the time of a sync.
 ON_DISK = [kills]
 

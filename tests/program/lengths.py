@@ -8,7 +8,13 @@ from traces import HEADER as MESSAGES
 MAX_SECTION = 16_777_216
 # Words, what is in front of such a section, the section, what is behind it, and what is printed.
 SECTIONS = [
-    ("rate", "", f"prefix,from,fee,rate\n{BAND}", "called,answer,time\n", "called,answer,time,prefix,before,after,price,difference,fault\n"),
+    (
+        "rate",
+        "",
+        f"prefix,from,fee,rate\n{BAND}",
+        "called,answer,time\n",
+        "called,answer,time,prefix,before,after,price,difference,fault\n",
+    ),
     ("serve", "", f"prefix,from,fee,rate\n{BAND}", f"kind,key,value\n%%\n{MESSAGES}", MESSAGES),
     ("serve", f"prefix,from,fee,rate\n{BAND}%%\n", "kind,key,value\n", MESSAGES, MESSAGES),
 ]

@@ -57,7 +57,11 @@ GOOD = [
     (2, b"1,2,1,switch,EventReportBCSM,disconnect,2,interrupted,", "1,2,1,switch,EventReportBCSM,disconnect,2,interrupted,"),
     (2, b"1,2,1,switch,EventReportBCSM,noAnswer,1,transparent,\n", "1,2,1,switch,EventReportBCSM,noAnswer,1,transparent,"),
     (2, b"1,2,1,switch,EventReportBCSM,busy,,notify,\n", "1,2,1,switch,EventReportBCSM,busy,,notify,"),
-    (2, b"1,2,1,switch,EventReportBCSM,routeSelectFailure,,notify,\n", "1,2,1,switch,EventReportBCSM,routeSelectFailure,,notify,"),
+    (
+        2,
+        b"1,2,1,switch,EventReportBCSM,routeSelectFailure,,notify,\n",
+        "1,2,1,switch,EventReportBCSM,routeSelectFailure,,notify,",
+    ),
     (2, b"1,2,1,switch,EventReportBCSM,abandon,,notify,\n", "1,2,1,switch,EventReportBCSM,abandon,,notify,"),
     (2, b"1,2,1,switch,EventReportBCSM,collectedInfo,,notify,\n", "1,2,1,switch,EventReportBCSM,collectedInfo,,notify,"),
     (2, b"1,2,1,switch,ApplyChargingReport,inactive,n,864000,\n", "1,2,1,switch,ApplyChargingReport,inactive,n,864000,"),
