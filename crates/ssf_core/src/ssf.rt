@@ -13,7 +13,7 @@ use crate::events::meet;
 use crate::operations::operate;
 use crate::sending::send;
 use crate::stage::{Early, Stage, Switch, UNARMED, state_of};
-use crate::timers::{next_moment, run_timers};
+use crate::timers::{next_due, run_timers};
 use crate::{BcsmEvent, Item, Moment, Out, SsfConfig, SsfFault, State, Step};
 use arrayvec::ArrayVec;
 use cap_values::{Number, ScfOp, SsfMsg};
@@ -85,7 +85,7 @@ impl Ssf {
             → Stands self.now t → IsNextDue self.now.config t result }
         ensures ahead { ForSome result (λ at. self.now.last ≤ at) }
     {
-        next_moment(&self.stage)
+        next_due(&self.stage)
     }
 
     /// The switch invokes it, once: `UnexpectedComponentSequence` where it did so before.

@@ -136,7 +136,7 @@ fn expiry_at(timer: Timer, due: Option<Moment>) -> Option<Expiry>
 }
 
 /// The sooner of two expiries; the first where both are due at one moment.
-fn sooner(first: Option<Expiry>, second: Option<Expiry>) -> Option<Expiry>
+fn sooner_expiry(first: Option<Expiry>, second: Option<Expiry>) -> Option<Expiry>
     ensures { result ≡ sooner_of first second }
 {
     match (first, second) {
@@ -155,11 +155,11 @@ fn next_expiry(stage: &Stage) -> Option<Expiry>
     let tcp = expiry_at(Timer::Tcp, tcp_due(stage));
     let tccd = expiry_at(Timer::Tccd, tccd_due(stage));
     let tssf = expiry_at(Timer::Tssf, tssf_due(stage));
-    sooner(tsw, sooner(tcp, sooner(tccd, tssf)))
+    sooner_expiry(tsw, sooner_expiry(tcp, sooner_expiry(tccd, tssf)))
 }
 
 /// The moment of the next expiry.
-pub(crate) fn next_moment(stage: &Stage) -> Option<Moment>
+pub(crate) fn next_due(stage: &Stage) -> Option<Moment>
     requires { IsBounded stage.now }
     ensures { result ≡ expiry_moment (next_expiry_of stage.now) }
 {
