@@ -11,7 +11,7 @@ ghost use Rattle.ssf_core.specs.declared.item.Out.{Out as Sent};
 ghost use Rattle.ssf_core.specs.declared.ssf.Input.TheVariants as taken;
 
 use crate::sending::{clear, proceed, send, send_last_report};
-use crate::stage::{Active, Charging, Early, Stage, armed, started, watch_any};
+use crate::stage::{Active, Charging, Early, Stage, any_watched, armed, started};
 use crate::{Item, Moment, Out, SsfConfig, SsfFault};
 use arrayvec::ArrayVec;
 use cap_values::{Arms, Cause, Charge, ScfOp};
@@ -183,7 +183,7 @@ fn go_on(early: Early, sent: &mut ArrayVec<Out, 8>, now: Moment) -> Stage
         (taken.Operate ScfOp.Continue) (Ok result) sent.old.items sent.new.items }
     ensures timely { IsTimelyStage now result }
 {
-    if watch_any(&early.modes) || early.charge.is_some() {
+    if any_watched(&early.modes) || early.charge.is_some() {
         send(sent, now, Item::Proceed);
         return Stage::Early(early);
     }

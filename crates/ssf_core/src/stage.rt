@@ -174,7 +174,7 @@ pub(crate) fn mode_of(modes: &Modes, point: Point) -> Mode
 }
 
 /// Whether any point is not Transparent.
-pub(crate) fn watch_any(modes: &Modes) -> bool
+pub(crate) fn any_watched(modes: &Modes) -> bool
     ensures { result ≡ any_watched (modes_at modes.now) }
 {
     watches(modes.route_select_failure)
