@@ -8,7 +8,7 @@ pub(crate) const PREFIX_DIGITS: usize = 15;
 /// A text of digits, at most `PREFIX_DIGITS`.
 #[derive(Clone, Copy)]
 pub(crate) struct Digits {
-    pub bytes: [u8; 15],
+    pub bytes: [u8; PREFIX_DIGITS],
     pub len: u8,
     pub ghost short: { len ≤ 15 },
 }
@@ -21,7 +21,7 @@ impl Digits {
         requires { length digits.now ≤ 15 }
         ensures { text_of_digits result ≡ digits.now }
     {
-        let mut bytes = [0; 15];
+        let mut bytes = [0; PREFIX_DIGITS];
         bytes[..digits.len()].copy_from_slice(digits);
         Digits {
             bytes,
