@@ -28,6 +28,16 @@ use table_core::Table;
 /// The most rows of a table, its header not counted.
 const MAX_ROWS: u32 = 10_000;
 
+/// The headers of a table, the oldest first; the last has days (`WITH_DAYS`).
+const HEADERS: [&[&str]; 4] = [
+    &["prefix", "from", "fee", "rate"],
+    &["prefix", "from", "fee", "rate", "free"],
+    &["prefix", "from", "fee", "rate", "free", "first", "step"],
+    &[
+        "prefix", "from", "fee", "rate", "free", "first", "step", "days",
+    ],
+];
+
 /// The rows of a tariff table in their order, no two for the same prefix and start on one weekday.
 ///
 /// With days a row is in the index once for each weekday on which it counts, else once.
@@ -57,15 +67,7 @@ impl Bands {
         ensures { IfSome (R.remaining reader) (λ text. GivesBands result (bands_of
             (rows_of text))) }
     {
-        let headers: &[&[&str]] = &[
-            &["prefix", "from", "fee", "rate"],
-            &["prefix", "from", "fee", "rate", "free"],
-            &["prefix", "from", "fee", "rate", "free", "first", "step"],
-            &[
-                "prefix", "from", "fee", "rate", "free", "first", "step", "days",
-            ],
-        ];
-        let mut table = match Table::open(alloc, reader, headers, MAX_ROWS) {
+        let mut table = match Table::open(alloc, reader, &HEADERS, MAX_ROWS) {
             Ok(table) => table,
             Err(fault) => return Err(TariffFault::at(1, fault)),
         };
