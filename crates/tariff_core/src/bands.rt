@@ -140,7 +140,7 @@ impl Bands {
     fn has_midnights(&self, prefix: Digits) -> bool
         ensures { result ≡ has_midnights (text_of_digits prefix) self.now }
     {
-        let (first, end) = keys(self.by_days);
+        let (first, end) = key_days(self.by_days);
         for day in first..end {
             let midnight = BandKey {
                 prefix,
@@ -214,7 +214,7 @@ fn key_of(by_days: bool, day: u8) -> u8
 }
 
 /// The days of all keys, from the first to before the end: each weekday, or 0.
-fn keys(by_days: bool) -> (u8, u8)
+fn key_days(by_days: bool) -> (u8, u8)
     ensures first { result.0 ≡ key_of by_days 1 }
     ensures end { result.1 ≡ key_of by_days 7 + 1 }
 {
@@ -250,7 +250,7 @@ fn is_repeated(index: &BTreeMap<BandKey, Row>, by_days: bool, row: &Row) -> bool
     ensures { (bands : _) → Indexes by_days index.now bands
         → result ≡ repeats bands (band_of row.now) }
 {
-    let (first, end) = keys(by_days);
+    let (first, end) = key_days(by_days);
     for day in first..end {
         if row.counts_on(day) && index.contains_key(&row.key(day)) {
             return true;
@@ -279,7 +279,7 @@ fn index_row(index: &mut BTreeMap<BandKey, Row>, by_days: bool, row: Row) -> Res
     requires { by_days ≡ false → text_of_digits row.days ≡ [] }
     ensures { OnOk result (Finds by_days index.old row index.new) }
 {
-    let (first, end) = keys(by_days);
+    let (first, end) = key_days(by_days);
     for day in first..end {
         if row.counts_on(day) {
             index.insert(row.key(day), row)?;

@@ -10,7 +10,7 @@ use Rattle.tariff_core.proofs.bands.is_repeated.Goals as goal
 use Rattle.tariff_core.proofs.bands.is_repeated.Goals.{else-counts_on-via-then-counts_on+else-contains_key, else-counts_on-via-else-counts_on}
 
 pub loop-day-init : goal.loop-day-init
-loop-day-init c bands indexed weekday low high before = absurd (omega (arith, before, key_above c.args.by_days c.keys-first.result.0 weekday c.keys-first.ensures.first low))
+loop-day-init c bands indexed weekday low high before = absurd (omega (arith, before, key_above c.args.by_days c.key_days-first.result.0 weekday c.key_days-first.ensures.first low))
 
 pub loop-day-preserved : goal.loop-day-preserved
 loop-day-preserved c bands indexed =
@@ -29,7 +29,7 @@ loop-day-preserved c bands indexed =
 pub returns-then-contains_key : goal.returns-then-contains_key
 returns-then-contains_key c bands indexed =
     let band = band_of c.args.row.now in
-    let (weekday, key) = key_day c.args.by_days c.keys-first.result.0 c.keys-first.result.1 c.loop-day.day c.keys-first.ensures.first c.keys-first.ensures.end c.loop-day.auto.day c.loop-day-test.true in
+    let (weekday, key) = key_day c.args.by_days c.key_days-first.result.0 c.key_days-first.result.1 c.loop-day.day c.key_days-first.ensures.first c.key_days-first.ensures.end c.loop-day.auto.day c.loop-day-test.true in
     let asked = rw c.key.ensures at c.contains_key.ensures in
     let p : ℕ → Bool = λ day. counts_on day band && has_band band.prefix day band.start bands in
     sym (some_weekday p weekday key.low key.high (and_from (counts_on weekday band) (has_band band.prefix weekday band.start bands)
@@ -41,4 +41,4 @@ returns c bands indexed =
     let band = band_of c.args.row.now in
     let p : ℕ → Bool = λ day. counts_on day band && has_band band.prefix day band.start bands in
     sym (none_of_weekdays p (λ weekday low high. c.loop-day.invariant bands indexed weekday low high
-    (omega (arith, c.loop-day-test.false, key_below c.args.by_days c.keys-first.result.1 weekday c.keys-first.ensures.end high))))
+    (omega (arith, c.loop-day-test.false, key_below c.args.by_days c.key_days-first.result.1 weekday c.key_days-first.ensures.end high))))
