@@ -26,7 +26,8 @@ impl fmt::Display for PlanRange {
     fn fmt<W: fmt::Write>(&self, f: &mut fmt::Formatter<W>) -> fmt::Result {
         write!(
             f,
-            "a fee or a rate is above {MAX_RATE}, free units or a step are above {DAY}, or a step is 0"
+            "a fee or a rate is above {MAX_RATE}, free units or a step are above {DAY}, \
+             or a step is 0"
         )
     }
 }
