@@ -41,7 +41,10 @@ fn main(rt: HostRuntime) -> ExitCode {
         BufReader::with_capacity(rt.alloc(), READ_AHEAD, rt.reader()),
     ) {
         (Ok(words), Ok(input)) => {
-            if rt.stdin().is_terminal() && rt.stderr().is_terminal() && wait(words.as_slice()) {
+            if rt.stdin().is_terminal()
+                && rt.stderr().is_terminal()
+                && ask_for_command(words.as_slice())
+            {
                 let _ = rt.eprintln(WAITING);
             }
             command(
@@ -85,7 +88,7 @@ fn begins(words: &[String], first: &str) -> bool {
 }
 
 /// Whether words ask for a command, which waits for its input.
-fn wait(words: &[String]) -> bool {
+fn ask_for_command(words: &[String]) -> bool {
     for word in words {
         let word = word.as_str();
         if !FRONT.contains(&word) {
