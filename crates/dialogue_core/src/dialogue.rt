@@ -12,7 +12,7 @@ use crate::operations::{first_period, further_period};
 use crate::state::{State, Terms, Then};
 use crate::{DialogueFault, ServiceConfig};
 use account_core::{AccountFault, Op, Reply};
-use cap_values::{Cause, Event, Instructions, Mode, SsfMsg};
+use cap_values::{Cause, Event, Instructions, MAX_SWITCH, Mode, SsfMsg};
 use price_core::{DAY, Route};
 
 /// The service's dialogue about one call.
@@ -194,7 +194,7 @@ fn on_refusal(state: State) -> Result<(Turn, State), DialogueFault>
 fn seconds_to(now: u64, switch_at: Option<u64>) -> Option<u32>
     requires { ForSome switch_at (λ at. (now < at) × (at ≤ now + DAY)) }
     ensures value { result ≡ seconds_to now switch_at }
-    ensures in_range { ForSome result (λ seconds. (1 ≤ seconds) × (seconds ≤ 86400)) }
+    ensures in_range { ForSome result (λ seconds. (1 ≤ seconds) × (seconds ≤ MAX_SWITCH)) }
 {
     match switch_at {
         None => None,

@@ -8,14 +8,14 @@ ghost use Rattle.dialogue_core.specs.ServiceArms.{service_arms};
 ghost use Rattle.dialogue_core.specs.Views.{says_of};
 
 use crate::Turn;
-use cap_values::{Arming, Arms, Charge, Event, Instructions, Leg, Mode};
+use cap_values::{Arming, Arms, Charge, Event, Instructions, Leg, MAX_SWITCH, Mode};
 use price_core::DAY;
 
 /// The first period of a call: its points are watched, it is charged, and it goes on.
 pub(crate) fn first_period(units: u32, switch: Option<u32>, last: bool) -> Turn
     requires positive { 1 ≤ units }
     requires within_day { units ≤ DAY }
-    requires switch { ForSome switch (λ seconds. (1 ≤ seconds) × (seconds ≤ 86400)) }
+    requires switch { ForSome switch (λ seconds. (1 ≤ seconds) × (seconds ≤ MAX_SWITCH)) }
     ensures { says_of result ≡ Sends (Watch service_arms ∷ Pay units switch last ∷ GoOn ∷ []) }
 {
     let charge = Charge {

@@ -2,6 +2,7 @@
 
 ghost use Rattle.std.specs.Prelude.{◌≤◌};
 ghost use Rattle.std.specs.Option.{ForSome};
+ghost use Rattle.cap_values.specs.declared.charge.TheConstants.{MAX_SWITCH};
 
 use price_core::Plan;
 
@@ -59,5 +60,6 @@ pub(crate) struct Terms {
     pub least: u32,
     /// The seconds to the tariff switch, counted from the beginning.
     pub switch: Option<u32>,
-    pub ghost switch_in_range: { ForSome switch (λ seconds. (1 ≤ seconds) × (seconds ≤ 86400)) },
+    pub ghost switch_in_range: { ForSome switch
+        (λ seconds. (1 ≤ seconds) × (seconds ≤ MAX_SWITCH)) },
 }
