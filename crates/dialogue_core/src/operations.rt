@@ -12,16 +12,16 @@ use cap_values::{Arming, Arms, Charge, Event, Instructions, Leg, MAX_SWITCH, Mod
 use price_core::DAY;
 
 /// The first period of a call: its points are watched, it is charged, and it goes on.
-pub(crate) fn first_period(units: u32, switch: Option<u32>, last: bool) -> Turn
+pub(crate) fn first_period(units: u32, switch: Option<u32>, release: bool) -> Turn
     requires positive { 1 ≤ units }
     requires within_day { units ≤ DAY }
     requires switch { ForSome switch (λ seconds. (1 ≤ seconds) × (seconds ≤ MAX_SWITCH)) }
-    ensures { says_of result ≡ Sends (Watch service_arms ∷ Pay units switch last ∷ GoOn ∷ []) }
+    ensures { says_of result ≡ Sends (Watch service_arms ∷ Pay units switch release ∷ GoOn ∷ []) }
 {
     let charge = Charge {
         period: units,
         switch,
-        release: last,
+        release,
     };
     Turn::Send(Instructions::FirstPeriod(service_arms(), charge))
 }
