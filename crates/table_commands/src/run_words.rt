@@ -18,7 +18,7 @@ use table_core::{decimal, is_decimal};
 const MAX_WORKERS: u64 = 99;
 
 /// The most parts that may be asked for. A run has no more than accounts.
-const MAX_PARTS: u64 = 4_294_967_295;
+const MAX_PARTS: u64 = u32::MAX as u64;
 
 /// The most threads that may be asked for to play parts.
 const MAX_THREADS: u64 = 64;
