@@ -63,10 +63,7 @@ pub(crate) fn option_text<'a>(options: &ArgMatches<'a>, name: &str) -> Option<&'
 pub(crate) fn has_flag(options: &ArgMatches<'_>, name: &str) -> bool
     ensures { result ≡ has_flag (rows_of (found_of options.now)) name.now }
 {
-    match option_text(options, name) {
-        Some(text) => text == "true",
-        None => false,
-    }
+    option_text(options, name) == Some("true")
 }
 
 /// How moments are printed: as dates and times where that was asked for.
