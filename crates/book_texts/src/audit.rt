@@ -112,7 +112,7 @@ fn write_audit(alloc: Global, checked: &Checked, shown: bool) -> Result<Audit, A
     let mut passes = true;
     for (account, _) in &checked.checks {
         let wrong = checked.wrongs.get(*account).copied();
-        passes = passes && wrong.is_none();
+        passes &= wrong.is_none();
         write_verdict(&mut lines, *account, wrong, shown)?;
     }
     Ok(Audit { lines, passes })

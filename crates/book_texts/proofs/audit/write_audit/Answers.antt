@@ -10,7 +10,6 @@ use Rattle.book_texts.specs.Checks.{verdicts_of, wrong_of}
 use Rattle.book_texts.specs.declared.wrong_row.WrongRow.{WrongRow}
 use Rattle.book_texts.proofs.TextLemmas.{next_item}
 use Rattle.book_texts.proofs.audit.write_audit.Goals as goal
-use Rattle.book_texts.proofs.audit.write_audit.Goals.{then-passes, else-passes}
 
 -- the verdicts with that on one account more
 verdict_more : (wrongs : List (ℕ × WrongRow)) (items : List (ℕ × HistoryCheck)) (i : ℕ) (item : ℕ × HistoryCheck) → i < length items → item ≡ get_or items i item
@@ -26,14 +25,8 @@ loop-account-preserved c =
     let so_far = verdicts_of (take c.loop-account.account-index items) wrongs in
     let none_wrong = λ (verdict : AccountVerdict). is_none verdict.1 in
     let wrong_is : c.copied-wrong.result ≡ wrong_of check.0 wrongs = c.copied-wrong.ensures ∙ c.get.ensures in
-    let passed : c.if-passes.passes ≡ (c.loop-account.passes && is_none c.copied-wrong.result) =
-    elim c.if-passes.branch [
-      | then-passes w ↦
-          let none : w.is_none-passes.result ≡ is_none c.copied-wrong.result = search rules in
-          rw w.if-passes.true (w.passes-is ∙ none)
-      | else-passes w ↦ rw w.if-passes.false (w.passes-is ∙ w.if-passes.false)
-    ] in
-    rw (verdict_more wrongs items c.loop-account.account-index check c.loop-account-test.true c.loop-account-item.is, c.in_ok-write_verdict.ensures, passed, wrong_is, c.loop-account.invariant.0, c.loop-account.invariant.1) (
+    let none : c.is_none-passes.result ≡ is_none c.copied-wrong.result = search rules in
+    rw (verdict_more wrongs items c.loop-account.account-index check c.loop-account-test.true c.loop-account-item.is, c.in_ok-write_verdict.ensures, none, wrong_is, c.loop-account.invariant.0, c.loop-account.invariant.1) (
       flat_map_more (verdict_lines c.args.shown) [] so_far (check.0, wrong_of check.0 wrongs),
       sym (list_all-append none_wrong so_far ((check.0, wrong_of check.0 wrongs) ∷ []) ∙ ap (λ last. list_all none_wrong so_far && last) (and-true (is_none (wrong_of check.0 wrongs)))),
     )
