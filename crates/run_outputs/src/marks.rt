@@ -86,10 +86,7 @@ pub(crate) fn marks_in(alloc: Global, history: &[Entry]) -> Result<RisingMap<Cal
 pub(crate) fn marks_of(marks: &RisingMap<CallMarks>, call: u64) -> CallMarks
     ensures { result ≡ marks_in marks.now call }
 {
-    match marks.get(call) {
-        Some(marks) => *marks,
-        None => CallMarks::NONE,
-    }
+    marks.get(call).copied().unwrap_or(CallMarks::NONE)
 }
 
 /// Keeps what an entry says of its call.

@@ -111,10 +111,7 @@ pub(crate) fn reports_in(
 pub(crate) fn reports_of(reports: &RisingMap<CallReports>, call: u64) -> CallReports
     ensures { result ≡ reports_in reports.now call }
 {
-    match reports.get(call) {
-        Some(reports) => *reports,
-        None => CallReports::NONE,
-    }
+    reports.get(call).copied().unwrap_or(CallReports::NONE)
 }
 
 /// Keeps what a post reports of its call.
