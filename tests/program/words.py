@@ -7,7 +7,7 @@ ARGUMENTS = "prepaid: arguments\n"
 CONFIG = "prepaid: input: Config\n"
 WORKERS = "prepaid: run: Workers\n"
 
-# Words that are no request. Between two spaces is an empty word.
+# Words that are no request. Between two spaces is an empty word; `\udcff` is the byte 255, which no UTF-8 has.
 REFUSED = [
     "",
     "prices",
@@ -33,6 +33,9 @@ REFUSED = [
     "audit --long yes",
     "audit --Long",
     "audit more",
+    "audit \udcff",
+    "run --into \udcff",
+    "--explain quote --to \udcff",
 ]
 
 # Words after `run`, the status, and the fault. An empty word is after a space at the end.

@@ -14,7 +14,7 @@ mod terminal;
 
 use program::command;
 use std::alloc::AllocError;
-use std::io::{BufReader, IsTerminal};
+use std::io::{BufReader, ErrorKind, IsTerminal};
 use std::process::ExitCode;
 use std::{env, io};
 use table_commands::{Fault, Noting};
@@ -56,20 +56,28 @@ fn main(rt: HostRuntime) -> ExitCode {
                 &Terminal::new(&rt, watches(&rt, words.as_slice())),
             )
         }
-        _ => {
-            let fault = Fault::from(AllocError);
-            let _ = rt.eprintln(fault);
-            fault.status()
-        }
+        (Err(fault), _) => refuse(&rt, fault),
+        (_, Err(_)) => refuse(&rt, Fault::from(AllocError)),
     };
     ExitCode::from(status)
 }
 
-/// The words after the program's name. Where standard error is a terminal, `--explain` is put in
-/// front of them, but for `--plain` or that word itself.
-fn words(rt: &HostRuntime) -> io::Result<Vec<String>> {
+/// Prints a fault that comes before any command, and gives its status.
+fn refuse(rt: &HostRuntime, fault: Fault) -> u8 {
+    let _ = rt.eprintln(fault);
+    fault.status()
+}
+
+/// The words after the program's name: `Arguments` where one isn't UTF-8. Where standard error is a
+/// terminal, `--explain` is put in front of them, but for `--plain` or that word itself.
+fn words(rt: &HostRuntime) -> Result<Vec<String>, Fault> {
     let alloc = rt.alloc();
-    let mut words: Vec<String> = env::args(rt)?.skip(1).collect(alloc)?;
+    let args = match env::args(rt) {
+        Ok(args) => args,
+        Err(error) if error.kind() == ErrorKind::InvalidData => return Err(Fault::Arguments),
+        Err(_) => return Err(Fault::from(AllocError)),
+    };
+    let mut words: Vec<String> = args.skip(1).collect(alloc)?;
     if rt.stderr().is_terminal() && !begins(&words, "--explain") && !begins(&words, "--plain") {
         words.insert(0, String::from_str(alloc, "--explain")?)?;
     }
