@@ -60,6 +60,13 @@ TALKED = [
         "402,,1,switch,Ended,,,,\n500,,1,switch,Ended,,,,\n",
         "402,300,0,550,ended",
     ),
+    # an event that is a stray counts too
+    (
+        600,
+        "400,,1,switch,ApplyChargingReport,inactive,n,300,\n400,,1,switch,EventReportBCSM,disconnect,1,interrupted,\n"
+        "402,,1,switch,Ended,,,,\n500,,1,switch,EventReportBCSM,busy,,notify,\n",
+        "402,300,0,550,busy",
+    ),
 ]
 
 # What a call meets before its answer, and the outcome of its record.

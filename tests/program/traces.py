@@ -59,6 +59,8 @@ GOING_ON = [
     ),
     ("run --trace", "10,1,abandon,,\n", "10,1,1,switch,EventReportBCSM,abandon,,notify,\n10,2,1,switch,Ended,,,,\n"),
     ("run --trace --tssf 1", "100,1,answer,,\n", "1,1,1,switch,Ended,,,,\n"),
+    # the service isn't told what becomes of a call whose instructions don't come
+    ("run --trace --tssf 1 --default proceed", "100,1,answer,,\n", "1,1,1,switch,Ended,,,,\n"),
     ("run --trace", "1,1,answer,,\n400,1,disconnect,1,\n", ""),
 ]
 
