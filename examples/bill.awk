@@ -4,7 +4,8 @@ function clock(units) {
     return sprintf("%02d:%02d:%02d", units / 36000 % 24, units / 600 % 60, units / 10 % 60)
 }
 BEGIN { FS = "," }
-$2 == number && $7 != "" {
+# Digits are compared as texts: 0491 is another number than 491.
+$2 "" == number && $7 != "" {
     printf "%s %s %.1f s %s\n", clock($6), $3, ($9 + $10) / 10, $11
     total += $11
 }

@@ -3,10 +3,10 @@
 
 examples/report.py [--decimals N] [--output FILE] [--picture ACCOUNT] FOLDER [FOLDER]
 
-A folder has the tables of one run: lines.txt, book.csv, calls.csv and trace.csv. The report shows what was paid by hour
-and by prefix, how the balance of each account fell and rose, its calls over time, and which calls were cut or not taken
-and why. With two folders it shows both beside each other, and what differs. With --picture it is the balance of this
-account alone, as an SVG. The file is written under another name first, so there is never half of one.
+A folder has the tables of one run, without --clock: lines.txt, book.csv, calls.csv and trace.csv. The report shows what
+was paid by hour and by prefix, how the balance of each account fell and rose, its calls over time, and which calls were
+cut or not taken and why. With two folders it shows both beside each other, and what differs. With --picture it is the
+balance of this account alone, as an SVG. The file is written under another name first, so there is never half of one.
 """
 import argparse
 import os

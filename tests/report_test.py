@@ -3,7 +3,8 @@
 
 Each figure of a report is asked of the tables by sqlite3, the paths of its pictures are read, and a parser goes through
 its HTML. It must refuse tables that are missing, cut short or of another run, and leave no file then. Where Chromium is
-installed, the report of the evening is looked at in it, wide and narrow, light and dark.
+installed, the report of the evening is looked at in it, wide and narrow, light and dark. The programs for awk beside it
+are tried with numbers that awk can't tell apart.
 """
 import argparse
 import contextlib
@@ -38,6 +39,7 @@ account,8,900
 %%
 moment,call,what,x,y
 """
+DIAGRAM = "sequenceDiagram\n    participant switch\n    participant service\n"
 IDLE = NONE + b"5,1,start,491,4930\n100,1,answer,,\n400,1,disconnect,1,\n"
 
 
@@ -200,6 +202,19 @@ def picture(evening, folder):
          (True, "http://www.w3.org/2000/svg", "Balance of account 101 over time"))
 
 
+def numbers_as_texts():
+    """A bill and a diagram are of one number alone, also where awk takes another for the same."""
+    bill = "call,calling\n1,491,4930,7,49,0,100,402,300,0,550,ended\n2,0491,4931,7,49,0,100,402,300,0,550,ended\n"
+    trace = "moment,number,call\n0,0,18446744073709551615,switch,Ended\n0,1,18446744073709551614,switch,Stray\n"
+    for words, text, wanted in (
+        (["number=491", "bill"], bill, "00:00:00 4930 30.0 s 550\ntotal 550\n"),
+        (["call=18446744073709551615", "sequence"], trace, f"{DIAGRAM}    switch->>service: Ended\n"),
+    ):
+        awk = ["awk", "-v", words[0], "-f", f"{EXAMPLES}/{words[1]}.awk"]
+        said = subprocess.run(awk, input=text, capture_output=True, text=True, check=True).stdout
+        same(f"{words[1]}.awk of {words[0]}", said, wanted)
+
+
 def large(program, folder):
     """The report of 10,000 calls."""
     words = [sys.executable, f"{EXAMPLES}/generate.py", "--calls", "10000"]
@@ -230,6 +245,7 @@ def main():
         picture(evening, folder)
         refuses(evening, dearer, folder)
         notes(program, folder)
+        numbers_as_texts()
         made = large(program, folder)
         seen = look(f"{folder}/evening.html", [f"{folder}/two.html"], made, words.screenshots or folder)
     print(f"report: {len(compared)} figures and pictures as in the tables; {seen}")
