@@ -1,14 +1,17 @@
 -- What a sound call has paid, and what is held for it.
 use Rattle.std.proofs.Common.{◌≡◌, ℕ, ◌≤◌, Bool, true, false, Option, Some, None, refl, sym, arith, subst}
-use Rattle.std.specs.Prelude.{if◌then◌else◌}
+use Rattle.std.specs.Prelude.{if◌then◌else◌, unwrap_or}
 use Rattle.price_core.specs.Afford.{units_afforded}
 use Rattle.price_core.specs.Ceiling.{ceiling_of}
 use Rattle.price_core.specs.Laws.{AffordedAreCovered, CeilingIsNotPassed}
 use Rattle.price_core.specs.Price.{price_at}
 use Rattle.price_core.specs.Rates.{Rates}
 use Rattle.price_core.specs.Times.{Elapsed}
-use Rattle.account_core.specs.Known.{CallFacts, paid_of, price_under, taken_of, taken_under}
+use Rattle.account_core.specs.Kept.{known_of}
+use Rattle.account_core.specs.Known.{CallFacts, paid_if_granted, paid_of, price_under, taken_of, taken_under}
 use Rattle.account_core.specs.Sound.{IsGrantedCall, IsSound, IsSoundUnder}
+use Rattle.account_core.specs.declared.call_state.CallState.{CallState}
+use Rattle.account_core.specs.declared.call_state.CallState.TheVariants.{Fresh, Granted, Over, Reported}
 
 -- the price of its times is at most its top
 pub price_within : CeilingIsNotPassed → (plan : Rates) (call : CallFacts) → IsGrantedCall plan call → price_at plan call.times ≤ call.top
@@ -38,3 +41,10 @@ pub afforded_covered : AffordedAreCovered → (plan : Rates) (times : Elapsed) (
 afforded_covered covered plan times wanted money units ceiling found dearest some =
     let P : ℕ → Type 0 = λ n. (n ≡ 0 → ⊥) → ceiling_of plan times n ≤ money in
     omega (arith, dearest, subst P (sym found) (λ more. covered plan times wanted money (omega (arith, more))) some)
+
+-- what a call has paid where it was granted anything is what it has paid, and nothing else
+pub paid_or_nothing : (state : CallState) → unwrap_or (paid_if_granted (known_of state)) 0 ≡ paid_of (known_of state)
+paid_or_nothing Fresh = refl
+paid_or_nothing (Granted held) = refl
+paid_or_nothing (Reported held) = refl
+paid_or_nothing (Over held) = refl

@@ -37,10 +37,6 @@ plus_zero n = omega arith
 differs_below : (number other : ℕ) → other < number → other ≢ number
 differs_below number other less same = omega (arith, less, same)
 
-pub if_none : {A P Q : Type 0} (found : Option A) → (P → Q) → IfNone found P → IfNone found Q
-if_none None so holds = so holds
-if_none (Some a) so holds = tt
-
 module _ {V : Type 0} where
   -- ---- a list and its parts
 

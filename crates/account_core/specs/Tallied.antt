@@ -1,12 +1,10 @@
 -- What is kept of a legal history while its entries are judged one after another.
 use Rattle.std.specs.Prelude.{◌≡◌, ◌+◌, ◌≤◌, ℕ, Option, List}
 use Rattle.account_core.specs.Answers.{IsLegalPast}
-use Rattle.account_core.specs.Asked.{call_of}
 use Rattle.account_core.specs.Available.{available, credits}
 use Rattle.account_core.specs.Entries.{EntryData}
 use Rattle.account_core.specs.Expiry.{last_moment}
 use Rattle.account_core.specs.Kept.{KnowsEach}
-use Rattle.account_core.specs.Known.{CallFacts, known}
 use Rattle.account_core.specs.declared.call_states.CallStates.{CallStates}
 use Rattle.account_core.specs.declared.tally.Tally.{Tally}
 use Rattle.price_core.specs.declared.plan.TheConstants.{MAX_MONEY}
@@ -23,12 +21,3 @@ pub record IsTallied (opening : ℕ) (until : Option ℕ) (h : List EntryData) (
   pub funds_are : tally.funds ≡ opening + credits h
   pub credit_is : tally.available ≡ available opening h
   pub last_is : tally.last_moment ≡ last_moment until h
-
--- the history is legal from this opening, and what is known of the entry's call, the funds, the credit and the last moment are those of the history
-pub record IsKnownOf (opening : ℕ) (until : Option ℕ) (h : List EntryData) (entry : EntryData) (call : CallFacts) (funds credit : ℕ) (last : Option ℕ) : Type 0 where
-  pub small : opening ≤ MAX_MONEY
-  pub legal : IsLegalPast opening until h
-  pub call_is : call ≡ known (call_of entry.asked) h
-  pub funds_are : funds ≡ opening + credits h
-  pub credit_is : credit ≡ available opening h
-  pub last_is : last ≡ last_moment until h

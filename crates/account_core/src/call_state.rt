@@ -5,12 +5,11 @@ ghost use Rattle.account_core.specs.Answers.{accepted_times, misplaced, units_of
 ghost use Rattle.account_core.specs.CallStages.{stage_of};
 ghost use Rattle.account_core.specs.Entries.{asked_of};
 ghost use Rattle.account_core.specs.Kept.{known_of};
-ghost use Rattle.account_core.specs.Known.{deed_of, is_open, known_after, paid_if_granted, paid_of, plan_in_force, taken_of, Forfeits, Grants, Reports};
+ghost use Rattle.account_core.specs.Known.{deed_of, known_after, paid_if_granted, plan_in_force, taken_of, Grants};
 ghost use Rattle.account_core.specs.Places.{needed_by, owed_to, refusal_for};
-ghost use Rattle.account_core.specs.Replies.{reserve_reply, return_reply, settle_reply, credit_reply, reply_for};
+ghost use Rattle.account_core.specs.Replies.{reserve_reply, return_reply, settle_reply, reply_for};
 ghost use Rattle.account_core.specs.Sound.{GrantsWithinDay, IsSound};
 ghost use Rattle.account_core.specs.Asked.{is_in_range};
-ghost use Rattle.account_core.specs.Expiry.{is_past};
 ghost use Rattle.price_core.specs.RatesOf.{rates_of};
 
 use crate::held_call::HeldCall;
@@ -18,7 +17,7 @@ use crate::kept_plan::KeptPlan;
 use crate::{AccountFault, CallStage, Op, Reply};
 use price_core::{
     DAY, MAX_MONEY, Plan, TimeInfo, Times, afford, afforded_is_greatest, ceiling,
-    ceiling_is_greatest,
+    ceiling_is_greatest, read_times,
 };
 
 /// What an account knows of a call.
@@ -128,7 +127,7 @@ impl CallState {
         ensures { result ≡ return_reply available (known_of self.now) }
     {
         ceiling_is_greatest();
-        let paid = self.paid();
+        let paid = self.paid_if_granted().unwrap_or(0);
         Reply::Returned {
             paid,
             available: available + self.taken() - paid,
@@ -160,11 +159,31 @@ impl CallState {
         requires room { GrantsWithinDay (known_of self) (deed_of (asked_of op) reply) }
         ensures { known_of result ≡ known_after (known_of self) (deed_of (asked_of op) reply) }
     {
-        match (op, reply) {
-            (Op::Reserve { plan, .. }, Reply::Granted { units, .. }) => self.granted(plan, units),
-            (Op::Settle { info, .. }, Reply::Settled { .. }) => self.reported(info),
-            (Op::Settle { .. }, Reply::Forfeit { .. }) => self.forfeited(),
-            (Op::Return { .. }, Reply::Returned { .. }) => self.ended(),
+        match (self, op, reply) {
+            (_, Op::Reserve { plan, .. }, Reply::Granted { units, .. }) => {
+                self.granted(plan, units)
+            }
+            (
+                CallState::Granted(held) | CallState::Reported(held),
+                Op::Settle { info, .. },
+                Reply::Settled { .. },
+            ) => CallState::Reported(HeldCall {
+                times: read_times(held.times, info).unwrap_or(held.times),
+                ..held
+            }),
+            (
+                CallState::Granted(held) | CallState::Reported(held),
+                Op::Settle { .. },
+                Reply::Forfeit { .. },
+            ) => CallState::Reported(HeldCall {
+                forfeited: true,
+                ..held
+            }),
+            (
+                CallState::Granted(held) | CallState::Reported(held),
+                Op::Return { .. },
+                Reply::Returned { .. },
+            ) => CallState::Over(held),
             _ => self,
         }
     }
@@ -186,58 +205,6 @@ impl CallState {
             top: ceiling(&plan, times, units),
             forfeited: self.is_forfeited(),
         })
-    }
-
-    /// What is known after a report that was accepted.
-    #[inline(always)]
-    fn reported(self, info: TimeInfo) -> CallState
-        requires { is_open (known_of self) ≡ true }
-        ensures { known_of result ≡ known_after (known_of self) (Reports info) }
-    {
-        match self {
-            CallState::Granted(held) | CallState::Reported(held) => {
-                CallState::Reported(held.reported(info))
-            }
-            CallState::Fresh | CallState::Over(_) => self,
-        }
-    }
-
-    /// What is known after a report that wasn't.
-    fn forfeited(self) -> CallState
-        requires { is_open (known_of self) ≡ true }
-        ensures { known_of result ≡ known_after (known_of self) Forfeits }
-    {
-        match self {
-            CallState::Granted(held) | CallState::Reported(held) => {
-                CallState::Reported(HeldCall {
-                    forfeited: true,
-                    ..held
-                })
-            }
-            CallState::Fresh | CallState::Over(_) => self,
-        }
-    }
-
-    /// What is known after the Return.
-    fn ended(self) -> CallState
-        requires { is_open (known_of self) ≡ true }
-        ensures { known_of result ≡ record (known_of self) { returned = true; awaits = false } }
-    {
-        match self {
-            CallState::Granted(held) | CallState::Reported(held) => CallState::Over(held),
-            CallState::Fresh | CallState::Over(_) => self,
-        }
-    }
-
-    /// What the call has paid so far, and nothing where it was never granted anything.
-    fn paid(&self) -> u64
-        ensures { result ≡ paid_of (known_of self.now) }
-    {
-        match self {
-            CallState::Fresh => 0,
-            CallState::Granted(held) | CallState::Reported(held) | CallState::Over(held) =>
-                held.paid(),
-        }
     }
 
     /// The plan that a grant goes by: the call's first one.
@@ -341,41 +308,21 @@ pub(crate) fn reply(
     ensures { result ≡ reply_for available funds last_moment (known_of state.now) (asked_of op) }
 {
     match op {
-        Op::Credit { amount, .. } => credit(amount, funds, available),
+        Op::Credit { amount, .. } if funds + amount <= MAX_MONEY => Reply::Credited {
+            available: available + amount,
+        },
+        Op::Credit { .. } => Reply::CreditOver { available },
         Op::Reserve {
             plan,
             wanted,
             least,
             at,
             ..
-        } => state.reserve(plan, wanted, least, is_past(last_moment, at), available),
+        } => {
+            let late = matches!(last_moment, Some(last) if last < at);
+            state.reserve(plan, wanted, least, late, available)
+        }
         Op::Settle { info, .. } => state.settle(info, available),
         Op::Return { .. } => state.give_back(available),
-    }
-}
-
-/// Whether a moment is past the last one, if there is one.
-fn is_past(last_moment: Option<u64>, at: u64) -> bool
-    ensures { result ≡ is_past last_moment at }
-{
-    match last_moment {
-        Some(last) => at > last,
-        None => false,
-    }
-}
-
-/// The reply to a Credit: it is added where the funds stay within the largest money.
-fn credit(amount: u64, funds: u64, available: u64) -> Reply
-    requires amount { amount ≤ MAX_MONEY }
-    requires capped { funds ≤ MAX_MONEY }
-    requires money { available ≤ MAX_MONEY }
-    ensures { result ≡ credit_reply available funds amount }
-{
-    if funds + amount <= MAX_MONEY {
-        Reply::Credited {
-            available: available + amount,
-        }
-    } else {
-        Reply::CreditOver { available }
     }
 }

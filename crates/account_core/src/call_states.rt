@@ -93,24 +93,15 @@ fn add_sum(sums: &mut Vec<CallSum>, call: u64, state: &CallState) -> Result<(), 
     ensures { OnOk result (sums.new.items ≡
         sums.old.items ++ option_to_list (sum_of call (known_of state.now))) }
 {
-    if let Some(sum) = sum_of(call, state) {
-        sums.push(sum)?;
-    }
-    Ok(())
-}
-
-/// What a call comes to, where it was granted anything.
-fn sum_of(call: u64, state: &CallState) -> Option<CallSum>
-    ensures { result ≡ sum_of call (known_of state.now) }
-{
     let (held, fate) = match state {
-        CallState::Fresh => return None,
+        CallState::Fresh => return Ok(()),
         CallState::Granted(held) | CallState::Reported(held) => (held, Fate::Holding),
         CallState::Over(held) => (held, Fate::Returned),
     };
-    Some(CallSum {
+    sums.push(CallSum {
         call,
         paid: held.paid(),
         fate: if held.forfeited { Fate::Forfeit } else { fate },
-    })
+    })?;
+    Ok(())
 }

@@ -1,13 +1,12 @@
 //! What an account keeps of a call that was granted something.
 
-ghost use Rattle.std.specs.Prelude.{◌≡◌, Bool, Some, false, unwrap_or};
+ghost use Rattle.std.specs.Prelude.{◌≡◌, Bool, Some, false};
 ghost use Rattle.account_core.specs.Answers.{accepted_times};
 ghost use Rattle.account_core.specs.Kept.{facts_of_held};
 ghost use Rattle.account_core.specs.KeptPlans.{rates_kept};
 ghost use Rattle.account_core.specs.Known.{paid_of, price_under};
 ghost use Rattle.account_core.specs.Replies.{settle_reply};
 ghost use Rattle.price_core.specs.RatesOf.{rates_of};
-ghost use Rattle.price_core.specs.Reading.{times_read};
 
 use crate::Reply;
 use crate::kept_plan::KeptPlan;
@@ -80,18 +79,6 @@ impl HeldCall {
                 paid: self.top,
                 available,
             },
-        }
-    }
-
-    /// What is kept after a report that was accepted.
-    pub fn reported(self, info: TimeInfo) -> HeldCall
-        ensures { result ≡ record self {
-          times = unwrap_or (times_read self.times info) self.times;
-        } }
-    {
-        match read_times(self.times, info) {
-            Some(times) => HeldCall { times, ..self },
-            None => self,
         }
     }
 

@@ -102,7 +102,16 @@ impl HistoryCheck {
             ≡ nothing_known) }
     {
         self.begin()?;
-        self.judge(entry)
+        let Heard::Legal(tally) = &mut self.heard else {
+            self.entries = self.entries.saturating_add(1);
+            return Ok(None);
+        };
+        let wrong = tally.hear(entry)?;
+        self.entries = self.entries.saturating_add(1);
+        if wrong.is_some() {
+            self.heard = Heard::Illegal;
+        }
+        Ok(wrong)
     }
 
     /// Whether the entries so far are a legal history.
@@ -120,66 +129,17 @@ impl HistoryCheck {
         ensures { IfOk result (λ sum. (opening : ℕ) (until : Option ℕ) (h : List EntryData)
             → IsCheckOf opening until h self.now → SumsUp opening until h sum) }
     {
-        match &self.heard {
-            Heard::Nothing { .. } => Ok(Some(self.come_to(self.opening, Vec::new(alloc)))),
-            Heard::Legal(tally) => {
-                let calls = tally.calls.sums(alloc)?;
-                Ok(Some(self.come_to(tally.available, calls)))
-            }
-            Heard::Illegal => Ok(None),
-        }
-    }
-
-    /// An account of this opening and so many entries, with this credit left and these calls.
-    fn come_to(&self, available: u64, calls: Vec<CallSum>) -> AccountSum
-        ensures { result ≡ record {
-          opening = self.now.opening;
-          available = available;
-          entries = self.now.entries;
-          calls = calls;
-        } }
-    {
-        AccountSum {
+        let (available, calls) = match &self.heard {
+            Heard::Nothing { .. } => (self.opening, Vec::new(alloc)),
+            Heard::Legal(tally) => (tally.available, tally.calls.sums(alloc)?),
+            Heard::Illegal => return Ok(None),
+        };
+        Ok(Some(AccountSum {
             opening: self.opening,
             available,
             entries: self.entries,
             calls,
-        }
-    }
-
-    /// Takes one entry more, where there is a tally, or no need of one.
-    #[inline(always)]
-    fn judge(&mut self, entry: Entry) -> Result<Option<Response>, AllocError>
-        requires begun { HasOpening self.old }
-        requires of { (opening : ℕ) × (until : Option ℕ) × (h : List EntryData)
-            × IsCheckOf opening until h self.old }
-        ensures heard { OnOk result ((opening : ℕ) (until : Option ℕ) (h : List EntryData) →
-            IsCheckOf opening until h self.old
-            → IsCheckOf opening until (entry_data entry ∷ h) self.new) }
-        ensures right { IfOk result (λ wrong. wrong ≡ None →
-            (opening : ℕ) (until : Option ℕ) (h : List EntryData) →
-            IsCheckOf opening until h self.old → IsLegalPast opening until h →
-            IsAnswered opening until h (entry_data entry)) }
-        ensures wrong { IfOk result (λ wrong. IfSome wrong (λ response.
-            (opening : ℕ) (until : Option ℕ) (h : List EntryData) →
-            IsCheckOf opening until h self.old →
-            IsLegalPast opening until h × IsWrong opening until h (entry_data entry) response)) }
-        ensures kept { OnErr result ((opening : ℕ) (until : Option ℕ) (h : List EntryData) →
-            IsCheckOf opening until h self.old → IsCheckOf opening until h self.new) }
-        ensures fresh { OnErr result ((opening : ℕ) (until : Option ℕ) (h : List EntryData) →
-            IsCheckOf opening until h self.old → known (call_of (asked_of entry.op)) h
-            ≡ nothing_known) }
-    {
-        let Heard::Legal(tally) = &mut self.heard else {
-            self.entries = self.entries.saturating_add(1);
-            return Ok(None);
-        };
-        let wrong = tally.hear(entry)?;
-        self.entries = self.entries.saturating_add(1);
-        if wrong.is_some() {
-            self.heard = Heard::Illegal;
-        }
-        Ok(wrong)
+        }))
     }
 
     /// Makes the tally where there is none yet.

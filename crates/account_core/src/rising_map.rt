@@ -1,6 +1,6 @@
 //! A map by number: a list while the numbers rise.
 
-ghost use Rattle.std.specs.Prelude.{◌≡◌, ◌≤◌, [], IfOk, IsSome, OnErr, OnOk, None, true, All, IfNone, IfSome, drop, length};
+ghost use Rattle.std.specs.Prelude.{◌≡◌, [], IfOk, IsSome, OnErr, OnOk, None, true, All, IfNone, IfSome, drop};
 ghost use Rattle.std.specs.BTreeMap.{insert_entry, is_at};
 ghost use Rattle.std.specs.Map.{lookup};
 ghost use Rattle.std.specs.Option.{option_copied};
@@ -114,8 +114,16 @@ impl<V: Copy> RisingMap<V> {
         ensures { self.new ≡ insert_entry nat_cmp self.old number value }
     {
         match &mut self.form {
-            Form::Rising(list) => set_listed(list, number, value),
-            Form::Mixed(map) => set_mapped(map, number, value),
+            Form::Rising(list) => {
+                if let Some(place) = place_of(list.as_slice(), number) {
+                    list[place].1 = value;
+                }
+            }
+            Form::Mixed(map) => {
+                if let Some(kept) = map.get_mut(&number) {
+                    *kept = value;
+                }
+            }
         }
     }
 
@@ -143,29 +151,6 @@ fn mapped<V: Copy>(list: &[(u64, V)], alloc: Global) -> Result<BTreeMap<u64, V>,
         map.insert(number, value)?;
     }
     Ok(map)
-}
-
-/// Gives a number of a list this value.
-#[inline(always)]
-fn set_listed<V: Copy>(list: &mut Vec<(u64, V)>, number: u64, value: V)
-    requires rising { AreRising list.old.items }
-    requires present { IsSome (lookup (is_at (nat_cmp number)) list.old.items) }
-    ensures set { list.new.items ≡ insert_entry nat_cmp list.old.items number value }
-    ensures rising { AreRising list.new.items }
-{
-    if let Some(place) = place_of(list.as_slice(), number) {
-        list[place].1 = value;
-    }
-}
-
-/// Gives a number of a map this value.
-fn set_mapped<V: Copy>(map: &mut BTreeMap<u64, V>, number: u64, value: V)
-    requires { IsSome (lookup (is_at (nat_cmp number)) map.old.entries) }
-    ensures { map.new.entries ≡ insert_entry nat_cmp map.old.entries number value }
-{
-    if let Some(kept) = map.get_mut(&number) {
-        *kept = value;
-    }
 }
 
 /// Whether a number is above all of a list.
@@ -198,16 +183,6 @@ pub fn place_of<V>(list: &[(u64, V)], number: u64) -> Option<usize>
     if list[first].0 == number {
         return Some(first);
     }
-    place_from(list, first, number)
-}
-
-/// Where a number is in a list from a place on, if it is there.
-fn place_from<V>(list: &[(u64, V)], first: usize, number: u64) -> Option<usize>
-    requires rising { AreRising list.now }
-    requires within { first ≤ length list.now }
-    ensures found { IfSome result (StandsAt list.now number) }
-    ensures absent { IfNone result (All (IsOther number) (drop first list.now)) }
-{
     match list[first..].binary_search_by_key(&number, |item| item.0) {
         Ok(place) => Some(first + place),
         Err(_) => None,

@@ -1,15 +1,13 @@
 //! What a legal history comes to.
 
-ghost use Rattle.std.specs.Prelude.{◌≡◌, ◌+◌, ◌≤◌, ◌∷◌, [], ℕ, List, None, Option, OnErr, IfErr, IfOk, IfSome};
-ghost use Rattle.account_core.specs.Answers.{IsAnswered, shown_by};
+ghost use Rattle.std.specs.Prelude.{◌≡◌, ◌+◌, ◌≤◌, ◌∷◌, [], ℕ, List, None, Option, OnErr, IfOk, IfSome};
+ghost use Rattle.account_core.specs.Answers.{shown_by};
 ghost use Rattle.account_core.specs.Asked.{call_of};
 ghost use Rattle.account_core.specs.Available.{credited};
-ghost use Rattle.account_core.specs.CallStates.{AreSame, call_state_of};
 ghost use Rattle.account_core.specs.Entries.{entry_data, EntryData, asked_of};
 ghost use Rattle.account_core.specs.Expiry.{last_moment_after};
-ghost use Rattle.account_core.specs.Kept.{KnowsEach, known_of};
 ghost use Rattle.account_core.specs.Known.{known, nothing_known};
-ghost use Rattle.account_core.specs.Tallied.{IsTallied, IsKnownOf, tally_of};
+ghost use Rattle.account_core.specs.Tallied.{IsTallied, tally_of};
 ghost use Rattle.account_core.specs.Wrong.{IsWrong};
 
 use crate::call_state::{CallState, inadmissible, reply};
@@ -67,17 +65,24 @@ impl Tally {
             ≡ nothing_known) }
     {
         laws::legal_pasts_are_sound();
-        let wrong = renew_state(
-            &mut self.calls,
-            entry,
+        let call = entry.op.call();
+        let state = self.calls.state(call);
+        if let Some(fault) = inadmissible(&entry.op, &state) {
+            return Ok(Some(Err(fault)));
+        }
+        let right = reply(
+            entry.op,
+            &state,
             self.funds,
             self.available,
             self.last_moment,
-        )?;
-        if wrong.is_none() {
-            self.count(&entry);
+        );
+        if right != entry.reply {
+            return Ok(Some(Ok(right)));
         }
-        Ok(wrong)
+        self.calls.renew(call, state.after(entry.op, right))?;
+        self.count(&entry);
+        Ok(None)
     }
 
     /// Adds an entry to the totals, and to the last moment.
@@ -93,75 +98,4 @@ impl Tally {
         self.available = entry.reply.available();
         self.last_moment = entry.last_moment(self.last_moment);
     }
-}
-
-/// Keeps what is known of a call after an entry of it, where the entry is legal after a history
-/// with these funds, of which so much is available, and this last moment; else gives what an
-/// account answers in its place.
-#[inline(always)]
-fn renew_state(
-    calls: &mut CallStates,
-    entry: Entry,
-    funds: u64,
-    available: u64,
-    last_moment: Option<u64>,
-) -> Result<Option<Response>, AllocError>
-    requires { (opening : ℕ) × (until : Option ℕ) × (h : List EntryData) ×
-        IsTallied opening until h (tally_of calls.old funds available last_moment) }
-    ensures legal { IfOk result (λ wrong. wrong ≡ None
-        → (opening : ℕ) (until : Option ℕ) (h : List EntryData)
-        → IsTallied opening until h (tally_of calls.old funds available last_moment)
-        → IsAnswered opening until h (entry_data entry)
-        × KnowsEach calls.new (entry_data entry ∷ h)) }
-    ensures wrong { IfOk result (λ wrong. IfSome wrong (λ right.
-        (opening : ℕ) (until : Option ℕ) (h : List EntryData)
-        → IsTallied opening until h (tally_of calls.old funds available last_moment)
-        → IsWrong opening until h (entry_data entry) right)) }
-    ensures kept { OnErr result (AreSame calls.old calls.new) }
-    ensures fresh { OnErr result (call_state_of calls.old (call_of (asked_of entry.op))
-        ≡ CallState.Fresh) }
-{
-    let call = entry.op.call();
-    let state = calls.state(call);
-    match after_legal(entry, &state, funds, available, last_moment) {
-        Ok(after) => {
-            calls.renew(call, after)?;
-            Ok(None)
-        }
-        Err(right) => Ok(Some(right)),
-    }
-}
-
-/// What is known of a call after an entry of it, where the entry is legal after a history with
-/// these funds, of which so much is available, and this last moment; else what an account answers
-/// in its place.
-#[inline(always)]
-fn after_legal(
-    entry: Entry,
-    state: &CallState,
-    funds: u64,
-    available: u64,
-    last_moment: Option<u64>,
-) -> Result<CallState, Response>
-    requires { (opening : ℕ) × (until : Option ℕ) × (h : List EntryData) ×
-        IsKnownOf opening until h (entry_data entry) (known_of state.now)
-        funds available last_moment }
-    ensures legal { IfOk result (λ after. (opening : ℕ) (until : Option ℕ) (h : List EntryData) →
-        IsKnownOf opening until h (entry_data entry) (known_of state.now)
-        funds available last_moment →
-        IsAnswered opening until h (entry_data entry)
-        × (known_of after ≡ known (call_of (asked_of entry.op)) (entry_data entry ∷ h))) }
-    ensures wrong { IfErr result (λ right. (opening : ℕ) (until : Option ℕ)
-        (h : List EntryData) → IsKnownOf opening until h (entry_data entry) (known_of state.now)
-        funds available last_moment → IsWrong opening until h (entry_data entry) right) }
-{
-    laws::legal_pasts_are_sound();
-    if let Some(fault) = inadmissible(&entry.op, state) {
-        return Err(Err(fault));
-    }
-    let right = reply(entry.op, state, funds, available, last_moment);
-    if right != entry.reply {
-        return Err(Ok(right));
-    }
-    Ok(state.after(entry.op, right))
 }

@@ -95,7 +95,7 @@ impl Teller {
             IsOwed (reverse ledger.history) (asked_of op) → IsOk result }
     {
         let call = self.asked_state(&op);
-        match self.judge(&op, &call) {
+        match judge(&op, &call, self.entries, self.owed, self.limit) {
             Some(fault) => Err(fault),
             None => Ok(Admitted { op, call }),
         }
@@ -143,7 +143,7 @@ impl Teller {
     /// What is known of the call that is asked for. A Credit is of none, so that nothing is looked
     /// up for it.
     #[inline(always)]
-    pub(crate) fn asked_state(&self, op: &Op) -> CallState
+    fn asked_state(&self, op: &Op) -> CallState
         ensures { (ledger : Ledger) → IsTellerOf ledger self.now →
             known_of result ≡ known_asked (asked_of op.now) (reverse ledger.history) }
     {
@@ -153,20 +153,6 @@ impl Teller {
                 self.tally.calls.state(call)
             }
         }
-    }
-
-    /// Why an operation would be refused, by what is known of its call.
-    #[inline(always)]
-    pub(crate) fn judge(&self, op: &Op, call: &CallState) -> Option<AccountFault>
-        requires { (ledger : Ledger) × IsTellerOf ledger self.now }
-        ensures value { (ledger : Ledger) → IsTellerOf ledger self.now →
-            known_of call.now ≡ known_asked (asked_of op.now) (reverse ledger.history) →
-            result ≡ refusal_of ledger (asked_of op.now) }
-        ensures owed { (ledger : Ledger) → IsTellerOf ledger self.now →
-            known_of call.now ≡ known_asked (asked_of op.now) (reverse ledger.history) →
-            IsOwed (reverse ledger.history) (asked_of op.now) → result ≡ None }
-    {
-        judge(op, call, self.entries, self.owed, self.limit)
     }
 
     /// The answer to an operation that is admitted.
