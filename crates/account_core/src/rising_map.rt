@@ -90,15 +90,12 @@ impl<V: Copy> RisingMap<V> {
             Form::Rising(list) => {
                 if let Some(place) = place_of(list.as_slice(), number) {
                     list[place].1 = value;
-                    return Ok(());
-                }
-                if is_above(list.as_slice(), number) {
+                } else if is_above(list.as_slice(), number) {
                     list.push((number, value))?;
-                    return Ok(());
+                } else {
+                    let map = mapped(list.as_slice(), *list.allocator(), number, value)?;
+                    self.form = Form::Mixed(map);
                 }
-                let mut map = mapped(list.as_slice(), *list.allocator())?;
-                map.insert(number, value)?;
-                self.form = Form::Mixed(map);
             }
             Form::Mixed(map) => {
                 map.insert(number, value)?;
@@ -139,17 +136,23 @@ impl<V: Copy> RisingMap<V> {
     }
 }
 
-/// A map of what a list has.
+/// A map of what a list has, with this value of a number.
 #[cold]
 #[inline(never)]
-fn mapped<V: Copy>(list: &[(u64, V)], alloc: Global) -> Result<BTreeMap<u64, V>, AllocError>
+fn mapped<V: Copy>(
+    list: &[(u64, V)],
+    alloc: Global,
+    number: u64,
+    value: V,
+) -> Result<BTreeMap<u64, V>, AllocError>
     requires { AreRising list.now }
-    ensures { IfOk result (λ map. map.entries ≡ list.now) }
+    ensures { IfOk result (λ map. map.entries ≡ insert_entry nat_cmp list.now number value) }
 {
     let mut map = BTreeMap::new(alloc);
-    for &(number, value) in list {
-        map.insert(number, value)?;
+    for &(listed, kept) in list {
+        map.insert(listed, kept)?;
     }
+    map.insert(number, value)?;
     Ok(map)
 }
 
