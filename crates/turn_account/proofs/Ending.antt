@@ -6,7 +6,7 @@ use Rattle.std.proofs.lemmas.List.{get_or-map, length-map}
 use Rattle.account_core.specs.Ledger.{Ledger}
 use Rattle.turn_account.specs.Ended.{HasEnded, HaveEnded}
 use Rattle.account_core.specs.Own.{IsMerged, own}
-use Rattle.account_core.specs.Seats.{are_all, are_numbered}
+use Rattle.account_core.specs.Seats.{are_numbered}
 use Rattle.turn_account.specs.TurnViews.{TurnSeatView, own_of}
 use Rattle.account_core.proofs.Numbering.{numbered_at}
 
@@ -78,8 +78,3 @@ pub numbered_on : {T : Type 0} (number : T → ℕ) (first : ℕ) (seats rest : 
 numbered_on number first seats rest seat is are =
     let parts = and_parts (number seat == first) (are_numbered (first + 1) (map number rest)) (rw is at are) in
     (eqb-true (number seat) first parts.0, parts.1)
-
--- all seats of an account are as many as it has
-pub as_many : {T : Type 0} (number : T → ℕ) (count : ℕ) (seats : List T) → are_all count (map number seats) ≡ true → length seats ≡ count
-as_many number count seats are =
-    sym (length-map seats number) ∙ eqb-true (length (map number seats)) count (and_parts (length (map number seats) == count) (are_numbered 0 (map number seats)) are).0

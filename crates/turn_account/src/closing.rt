@@ -37,18 +37,11 @@ pub(crate) fn close_board(
     ensures seats { (result ≡ Err close.Seats)
         ↔ (are_all count (map (λ seat. seat.number) seats.items) ≡ false) }
 {
-    if !are_all(count, seats.as_slice()) {
+    if seats.len() != count as usize || !are_numbered(seats.as_slice()) {
         return Err(CloseFault::Seats);
     }
     let chair = gather(&board, seats);
     Ok(Book::new(number, clear_board(board, chair)))
-}
-
-/// Whether these are all seats of an account, in the order of their numbers.
-fn are_all(count: u32, seats: &[TurnSeat]) -> bool
-    ensures { result ≡ are_all count (map (λ seat. seat.number) seats.now) }
-{
-    seats.len() == count as usize && are_numbered(seats)
 }
 
 /// Whether the numbers of seats go on from 0 by ones.

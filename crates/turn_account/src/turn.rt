@@ -19,7 +19,8 @@ use std::marker::Brand;
 use std::sync::Wait;
 use std::thread::yield_now;
 
-/// Draws a ticket and waits until it is served. The account in the slot is the chair's then.
+/// Draws a ticket, and looks until it is served: the account in the slot is the chair's then.
+/// Behind the door of a turn account the first look finds it so.
 pub fn take_turn<R: Wait>(rt: &R, board: &Board, chair: &mut Chair)
     requires at { IsAt board.now.shared.table_id chair.old.table_id }
     requires idle { chair.old.me.0.stage ≡ Idles }
@@ -30,17 +31,6 @@ pub fn take_turn<R: Wait>(rt: &R, board: &Board, chair: &mut Chair)
     ensures hands { chair.new.me.1 ≡ (0, Some chair.new.me.0.seen) ∷ [] }
 {
     let ticket = draw(board, chair);
-    wait(rt, board, chair, ticket);
-}
-
-/// Looks until a ticket is served. Behind the door of a turn account the first look finds it so.
-fn wait<R: Wait>(rt: &R, board: &Board, chair: &mut Chair, ticket: u64)
-    requires at { IsAt board.now.shared.table_id chair.old.table_id }
-    requires waits { chair.old.me.0.stage ≡ Waits (its_ticket chair.old.me.0.stage) }
-    requires ticket { ticket ≡ its_ticket chair.old.me.0.stage % 2 ^ 64 }
-    ensures table { chair.new.table_id ≡ chair.old.table_id }
-    ensures come { HasCome chair.old.me chair.new.me }
-{
     for _ in rt.forever() {
         if look(board, chair) == ticket {
             return;

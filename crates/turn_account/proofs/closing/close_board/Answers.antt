@@ -1,36 +1,31 @@
-use Rattle.std.proofs.Common.{◌≡◌, List, length, map, sym, ◌∙◌, subst, true, refl, rules}
-use Rattle.std.specs.Prelude.{◌<◌, ◌≤◌, ◌==◌, All}
-use Rattle.std.proofs.lemmas.Bool.{and_parts}
+use Rattle.std.proofs.Common.{◌≡◌, List, ap, length, map, sym, ◌∙◌, subst, true, refl}
+use Rattle.std.specs.Prelude.{◌<◌, ◌≤◌, All}
 use Rattle.account_core.specs.Ledger.{Ledger}
 use Rattle.account_core.specs.Closed.{Closed, IsBookOf}
 use Rattle.turn_account.specs.Ended.{HaveEnded}
 use Rattle.account_core.specs.Prefixes.{IsPrefix}
-use Rattle.account_core.specs.Seats.{are_all, are_numbered}
+use Rattle.account_core.specs.Seats.{are_numbered}
 use Rattle.turn_account.specs.Seen.{IsOpenedAs}
 use Rattle.turn_account.specs.TurnViews.{TurnSeatView, own_of}
 use Rattle.turn_account.specs.Views.{unopened}
-use Rattle.turn_account.proofs.Ending.{as_many, each_closed, merged_closed}
+use Rattle.turn_account.proofs.Ending.{each_closed, merged_closed}
 use Rattle.turn_account.proofs.closing.close_board.Goals as goal
 
 pub gather-chair-requires-clause-some_seats : goal.gather-chair-requires-clause-some_seats
 gather-chair-requires-clause-some_seats c =
-    let all = rw c.as_slice.ensures.value at (sym c.are_all.ensures ∙ c.if-not-are_all.false) in
-    subst (λ n. 1 ≤ n) (sym (as_many (λ (s : TurnSeatView). s.number) c.args.count c.args.seats.items all)) c.requires.board.some_seats
+    let many : length c.args.seats.items ≡ c.args.count = ap length (sym c.as_slice.ensures.value) ∙ (c.as_slice.ensures.len ∙ (sym c.len.ensures ∙ c.if-len-count.false)) in
+    subst (λ n. 1 ≤ n) (sym many) c.requires.board.some_seats
 
 pub clear_board-requires-clause-last : goal.clear_board-requires-clause-last
 clear_board-requires-clause-last c =
-    let all = rw c.as_slice.ensures.value at (sym c.are_all.ensures ∙ c.if-not-are_all.false) in
-    c.gather-chair.ensures.last ∙ (as_many (λ (s : TurnSeatView). s.number) c.args.count c.args.seats.items all ∙ sym c.requires.board.seats)
+    let many : length c.args.seats.items ≡ c.args.count = ap length (sym c.as_slice.ensures.value) ∙ (c.as_slice.ensures.len ∙ (sym c.len.ensures ∙ c.if-len-count.false)) in
+    c.gather-chair.ensures.last ∙ (many ∙ sym c.requires.board.seats)
 
 pub returns-clause-book : goal.returns-clause-book
 returns-clause-book c =
     let seats : List TurnSeatView = c.args.seats.items in
     let account : Ledger = c.clear_board.result in
-    let response : c.are_all.result ≡ true = grind rules in
-    let whole : c.are_all.result ≡ are_all c.args.count (map (λ (s : TurnSeatView). s.number) seats) =
-    subst (λ (xs : List TurnSeatView). c.are_all.result ≡ are_all c.args.count (map (λ (s : TurnSeatView). s.number) xs)) c.as_slice.ensures.value c.are_all.ensures in
-    let all : are_all c.args.count (map (λ (s : TurnSeatView). s.number) seats) ≡ true = sym whole ∙ response in
-    let numbered = (and_parts (length (map (λ (s : TurnSeatView). s.number) seats) == c.args.count) (are_numbered 0 (map (λ (s : TurnSeatView). s.number) seats)) all).1 in
+    let numbered : are_numbered 0 (map (λ (s : TurnSeatView). s.number) seats) ≡ true = rw c.as_slice.ensures.value at (sym c.if-not-are_numbered.ensures) in
     let have : HaveEnded account 0 (map (λ (s : TurnSeatView). s.view) seats) = subst (HaveEnded account 0) c.gather-chair.ensures.taken c.clear_board.ensures.each in
     let others : All (λ entry. entry.seat < length (map (λ (s : TurnSeatView). s.view) seats)) account.history =
     subst (λ (lasts : List Ledger). All (λ entry. entry.seat < length lasts) account.history) c.gather-chair.ensures.taken c.clear_board.ensures.no_others in
