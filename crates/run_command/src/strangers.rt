@@ -1,6 +1,6 @@
 //! The calls of numbers that no subscriber has.
 
-ghost use Rattle.std.specs.Prelude.{◌≡◌, ◌++◌, ◌∷◌, [], IfErr, IfOk, OnOk, if◌then◌else◌, is_some, map};
+ghost use Rattle.std.specs.Prelude.{◌≡◌, ◌++◌, IfErr, IfOk, OnOk, map};
 ghost use Rattle.run_command.specs.Starts.{MayNotStart};
 ghost use Rattle.run_command.specs.Strangers.{AreStrangersOf, stranger_of, strangers_in};
 ghost use Rattle.run_texts.specs.Views.{happens_of, row_data, with_digits};
@@ -47,21 +47,10 @@ fn add_stranger(calls: &mut Vec<u64>, setup: &RunSetup, what: Happening) -> Resu
     ensures { OnOk result (calls.new.items
         ≡ calls.old.items ++ stranger_of (with_digits setup.now.subscribers) (happens_of what)) }
 {
-    match what {
-        Happening::Start { call, calling, .. } => {
-            add_unknown(calls, call, setup.account_of(calling))
+    if let Happening::Start { call, calling, .. } = what {
+        if setup.account_of(calling).is_none() {
+            calls.push(call)?;
         }
-        Happening::Meets { .. } | Happening::Recharge { .. } => Ok(()),
-    }
-}
-
-/// Adds a call that has no account.
-fn add_unknown(calls: &mut Vec<u64>, call: u64, account: Option<u32>) -> Result<(), AllocError>
-    ensures { OnOk result (calls.new.items
-        ≡ calls.old.items ++ (if is_some account then [] else call ∷ [])) }
-{
-    if account.is_none() {
-        calls.push(call)?;
     }
     Ok(())
 }
