@@ -3,7 +3,7 @@
 ghost use Rattle.std.specs.Prelude.{◌≡◌, ◌+◌, ◌<◌, ◌≤◌, Ok, Err, IfOk, IfErr};
 ghost use Rattle.std.specs.Option.{ForSome};
 ghost use Rattle.cap_values.specs.Orders.{orders_in};
-ghost use Rattle.dialogue_core.specs.Rules.{on_begin, on_reply, seconds_to, on_message, on_refusal, ending, give_back, going_on, event_reported, while_running, active_reply, are_units, first_reply, last_reply, more_reply, reserve, on_return_reply, sequel};
+ghost use Rattle.dialogue_core.specs.Rules.{on_begin, on_reply, seconds_to, on_message, on_refusal, ending, give_back, going_on, while_running, are_units, reserve, sequel};
 ghost use Rattle.dialogue_core.specs.Talks.{after_got, asks_after, asks_left, orders_sent_by};
 ghost use Rattle.dialogue_core.specs.Views.{FollowsRules, phase_at, phase_of, says_of, conditions_of, sequel_of};
 ghost use Rattle.dialogue_core.specs.Phases.{Asks};
@@ -163,13 +163,33 @@ fn on_message(
 fn on_reply(state: State, reply: Reply) -> Result<(Turn, State), DialogueFault>
     ensures { FollowsRules result (on_reply (phase_at state) reply) }
 {
-    match state {
-        State::FirstAsk(terms) => first_reply(terms, reply),
-        State::Settling { terms, active, at } if active => active_reply(terms, at, reply),
-        State::Settling { terms, .. } => last_reply(terms, reply),
-        State::MoreAsk(terms) => more_reply(terms, reply),
-        State::Returning(next) => return_reply(next, reply),
-        State::Running(_) | State::Ending | State::Closed => Err(DialogueFault::NoAskPending),
+    match (state, reply) {
+        (State::FirstAsk(terms), Reply::Granted { units, last, .. }) if are_units(units) => {
+            let period = first_period(units, terms.switch, last);
+            Ok((period, State::Running(terms)))
+        }
+        (State::FirstAsk(_), Reply::Denied { .. }) => Ok((
+            Turn::Send(Instructions::Release(Cause::call_rejected())),
+            State::Ending,
+        )),
+        (State::Settling { terms, active, at }, Reply::Settled { .. }) if active => {
+            Ok((reserve(terms, at), State::MoreAsk(terms)))
+        }
+        (State::Settling { terms, active, .. }, Reply::Forfeit { .. }) if active => {
+            Ok(give_back(terms, Then::Fail))
+        }
+        (State::Settling { terms, .. }, Reply::Settled { .. } | Reply::Forfeit { .. }) => {
+            Ok(give_back(terms, Then::Nothing))
+        }
+        (State::MoreAsk(terms), Reply::Granted { units, last, .. }) if are_units(units) => {
+            Ok((further_period(units, last), State::Running(terms)))
+        }
+        (State::MoreAsk(terms), Reply::Denied { .. }) => Ok(give_back(terms, Then::Clear)),
+        (State::Returning(next), Reply::Returned { .. }) => Ok(sequel(next)),
+        (State::Running(_) | State::Ending | State::Closed, _) => {
+            Err(DialogueFault::NoAskPending)
+        }
+        _ => Err(DialogueFault::Unexpected),
     }
 }
 
@@ -202,7 +222,7 @@ fn seconds_to(now: u64, switch_at: Option<u64>) -> Option<u32>
     }
 }
 
-/// A message of a call that was granted time, and its moment.
+/// A message of a call that was granted time, and its moment: any event but the answer ends it.
 fn running(
     terms: Terms,
     number: u64,
@@ -213,23 +233,17 @@ fn running(
 {
     match message {
         SsfMsg::InitialDp { .. } => Err(DialogueFault::Unexpected),
-        SsfMsg::EventReport { event, mode, .. } => reported(terms, event, mode),
+        SsfMsg::EventReport {
+            event: Event::Answer,
+            ..
+        } => Ok((Turn::Send(Instructions::Nothing), State::Running(terms))),
+        SsfMsg::EventReport { mode, .. } => Ok(give_back(terms, going_on(mode))),
         SsfMsg::ChargingReport { active, info } => {
             let call = terms.call;
             let ask = Turn::Ask(Op::Settle { call, number, info });
             Ok((ask, State::Settling { terms, active, at }))
         }
         SsfMsg::Ended => Ok(give_back(terms, Then::Close)),
-    }
-}
-
-/// An event of a call that was granted time: any but the answer ends it.
-fn reported(terms: Terms, event: Event, mode: Mode) -> Result<(Turn, State), DialogueFault>
-    ensures { FollowsRules result (event_reported (conditions_of terms) event mode) }
-{
-    match event {
-        Event::Answer => Ok((Turn::Send(Instructions::Nothing), State::Running(terms))),
-        _ => Ok(give_back(terms, going_on(mode))),
     }
 }
 
@@ -251,67 +265,6 @@ fn going_on(mode: Mode) -> Then
     match mode {
         Mode::Interrupted => Then::GoOn,
         Mode::NotifyAndContinue | Mode::Transparent => Then::Nothing,
-    }
-}
-
-/// The reply to the first reserve.
-fn first_reply(terms: Terms, reply: Reply) -> Result<(Turn, State), DialogueFault>
-    ensures { FollowsRules result (first_reply (conditions_of terms) reply) }
-{
-    match reply {
-        Reply::Granted { units, last, .. } if are_units(units) => {
-            let period = first_period(units, terms.switch, last);
-            Ok((period, State::Running(terms)))
-        }
-        Reply::Denied { .. } => Ok((
-            Turn::Send(Instructions::Release(Cause::call_rejected())),
-            State::Ending,
-        )),
-        _ => Err(DialogueFault::Unexpected),
-    }
-}
-
-/// The reply to a report of a call that goes on, taken at a moment.
-fn active_reply(terms: Terms, at: u64, reply: Reply) -> Result<(Turn, State), DialogueFault>
-    ensures { FollowsRules result (active_reply (conditions_of terms) at reply) }
-{
-    match reply {
-        Reply::Settled { .. } => Ok((reserve(terms, at), State::MoreAsk(terms))),
-        Reply::Forfeit { .. } => Ok(give_back(terms, Then::Fail)),
-        _ => Err(DialogueFault::Unexpected),
-    }
-}
-
-/// The reply to the last report of a call.
-fn last_reply(terms: Terms, reply: Reply) -> Result<(Turn, State), DialogueFault>
-    ensures { FollowsRules result (last_reply (conditions_of terms) reply) }
-{
-    match reply {
-        Reply::Settled { .. } | Reply::Forfeit { .. } => Ok(give_back(terms, Then::Nothing)),
-        _ => Err(DialogueFault::Unexpected),
-    }
-}
-
-/// The reply to a further reserve.
-fn more_reply(terms: Terms, reply: Reply) -> Result<(Turn, State), DialogueFault>
-    ensures { FollowsRules result (more_reply (conditions_of terms) reply) }
-{
-    match reply {
-        Reply::Granted { units, last, .. } if are_units(units) => {
-            Ok((further_period(units, last), State::Running(terms)))
-        }
-        Reply::Denied { .. } => Ok(give_back(terms, Then::Clear)),
-        _ => Err(DialogueFault::Unexpected),
-    }
-}
-
-/// The reply to a return.
-fn return_reply(next: Then, reply: Reply) -> Result<(Turn, State), DialogueFault>
-    ensures { FollowsRules result (on_return_reply (sequel_of next) reply) }
-{
-    match reply {
-        Reply::Returned { .. } => Ok(sequel(next)),
-        _ => Err(DialogueFault::Unexpected),
     }
 }
 
