@@ -8,7 +8,7 @@ ghost use Rattle.script_player.specs.Dues.{IsPutDown, Replaces};
 ghost use Rattle.script_player.specs.Beginnings.{IsTriggered};
 ghost use Rattle.script_player.specs.Inputs.{IsGiven};
 ghost use Rattle.script_player.specs.Networks.{Feeds, SsfGoesOn};
-ghost use Rattle.script_player.specs.Posts.{post_of, posts_of};
+ghost use Rattle.script_player.specs.Posts.{posts_of};
 
 use arrayvec::ArrayVec;
 use cap_values::{Number, ScfOp};
@@ -314,18 +314,8 @@ fn post(given: &mut Vec<(u64, Body)>, call: u64, sent: &[Out])
     ensures items { given.new.items ≡ given.old.items ++ posts_of call sent.now }
 {
     for out in sent {
-        post_one(given, call, *out);
-    }
-}
-
-/// Posts what the gsmSSF of a call has sent, if it is a message.
-fn post_one(given: &mut Vec<(u64, Body)>, call: u64, out: Out)
-    requires room { vec_len given.old < vec_capacity given.old }
-    ensures items { given.new.items ≡ given.old.items ++ post_of call out.at out.item }
-    ensures room { vec_len given.new ≤ vec_len given.old + 1 }
-    ensures capacity { vec_capacity given.old ≤ vec_capacity given.new }
-{
-    if let Item::Msg(msg) = out.item {
-        given.push((out.at, Body::Ssf { call, msg })).unwrap();
+        if let Item::Msg(msg) = out.item {
+            given.push((out.at, Body::Ssf { call, msg })).unwrap();
+        }
     }
 }

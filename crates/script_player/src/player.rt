@@ -1,15 +1,13 @@
 //! The driver that plays a script.
 
 ghost use Rattle.std.specs.Prelude.{◌≡◌, ◌≤◌, ◌+◌, ◌*◌, ◌++◌, All, IfOk, OnErr, OnOk, drop, length, take};
-ghost use Rattle.cap_values.specs.Orders.{operations_in};
 ghost use Rattle.script_player.specs.Networks.{Grows};
 ghost use Rattle.script_player.specs.Rows.{Adds, FollowsRows, TakesRow, next_row};
 ghost use Rattle.script_player.specs.Steps.{DeliversDue};
 ghost use Rattle.script_player.specs.Unplaced.{PlaysDueWithout, PlaysRowWithFault, where_refused};
-ghost use Rattle.script_player.specs.Deliveries.{deliveries_of, deliveries_to};
+ghost use Rattle.script_player.specs.Deliveries.{deliveries_of};
 
 use crate::network::{Input, MAX_SENT, Network};
-use cap_values::Instructions;
 use price_core::{DAY, HORIZON, MAX_MOMENT};
 use run_texts::{Happening, ScriptRow};
 use run_values::{Answer, Body, Driver};
@@ -327,7 +325,7 @@ fn take_row(network: &mut Network, row: ScriptRow) -> Result<Option<SsfFault>, A
 }
 
 /// Puts down the operations of answers, one after the other, each for the call of its post and a
-/// delay after the post's moment.
+/// delay after the post's moment. A recharge has none.
 fn put_down(
     deliveries: &mut VecDeque<Delivery>,
     delay: u32,
@@ -341,30 +339,13 @@ fn put_down(
 {
     for answer in answers {
         if let Some(item) = given.get(answer.number as usize) {
-            send_to(deliveries, delay, *item, answer.instructions)?;
+            let (at, body) = *item;
+            if let Body::Ssf { call, .. } = body {
+                send(deliveries, at + u64::from(delay), call, answer.instructions)?;
+            }
         }
     }
     Ok(())
-}
-
-/// Puts down the operations that answer an item. A recharge has none.
-fn send_to(
-    deliveries: &mut VecDeque<Delivery>,
-    delay: u32,
-    item: (u64, Body),
-    instructions: Instructions,
-) -> Result<(), AllocError>
-    requires delay { delay ≤ DAY }
-    requires in_range { item.0 ≤ HORIZON }
-    ensures { OnOk result (deliveries.new.items
-        ≡ deliveries.old.items ++ deliveries_to delay (operations_in instructions)
-        item.0 item.1) }
-{
-    let (at, body) = item;
-    match body {
-        Body::Ssf { call, .. } => send(deliveries, at + u64::from(delay), call, instructions),
-        Body::Recharge { .. } => Ok(()),
-    }
 }
 
 /// Delivers the operations that are due by now, in order.
