@@ -4,7 +4,7 @@ ghost use Rattle.std.specs.Prelude.{◌≡◌, ◌<◌, ◌≤◌, ◌-◌, ◌^
 ghost use Rattle.std.specs.Result.{result_map_both};
 ghost use Rattle.live_answers.specs.Live.{next_after};
 ghost use Rattle.live_answers.specs.Said.{IsInRange, line_view_of};
-ghost use Rattle.live_answers.specs.Standing.{in_time, last_item_moment, placed, said_after};
+ghost use Rattle.live_answers.specs.Standing.{last_item_moment, placed, said_after};
 ghost use Rattle.run_texts.specs.MessageViews.{view_of};
 ghost use Rattle.table_core.specs.Judging.{and_then};
 
@@ -71,19 +71,9 @@ fn place(next: u64, last: u64, read: Result<Message, RowKind>) -> Result<Message
     match message.number {
         Some(number) if number < next => Err(RowKind::Repeated),
         Some(number) if number > next => Err(RowKind::Order),
-        _ => in_time(last, message),
+        _ if message.at < last => Err(RowKind::Order),
+        _ => Ok(message),
     }
-}
-
-/// A message whose moment is not below that of the last one.
-fn in_time(last: u64, message: Message) -> Result<Message, RowKind>
-    ensures says { result_map_both view_of (λ kind. kind) result ≡ in_time last (view_of message) }
-    ensures in_range { message.at ≤ HORIZON → IfOk result (λ message. message.at ≤ HORIZON) }
-{
-    if message.at < last {
-        return Err(RowKind::Order);
-    }
-    Ok(message)
 }
 
 /// The moment of the last item, 0 before the first.

@@ -1,8 +1,8 @@
 //! The rows that a run hears: those of its log, and those of its input.
 
-ghost use Rattle.std.specs.Prelude.{◌≡◌, IfErr, IfOk};
+ghost use Rattle.std.specs.Prelude.{IfErr, IfOk};
 ghost use Rattle.live_answers.specs.Heads.{IsOfLog};
-ghost use Rattle.live_answers.specs.Replays.{HearsLog, quiet_of};
+ghost use Rattle.live_answers.specs.Replays.{HearsLog};
 
 use crate::checking::check_replay;
 use crate::{Replay, ServeError};
@@ -31,16 +31,9 @@ pub(crate) fn replay_of(
     ensures fault { IfErr result IsOfLog }
 {
     let messages = check_replay(alloc, lines)?;
-    let quiet = quiet_of(again, messages);
-    Ok(Replay { messages, quiet })
-}
-
-/// How many of the messages of a log are heard in silence.
-fn quiet_of(again: Option<u64>, messages: usize) -> usize
-    ensures { result ≡ quiet_of again messages }
-{
-    match again {
+    let quiet = match again {
         Some(first) if first < messages as u64 => first as usize,
         _ => messages,
-    }
+    };
+    Ok(Replay { messages, quiet })
 }
