@@ -3,7 +3,7 @@
 ghost use Rattle.std.specs.Prelude.{◌≡◌, IfOk};
 ghost use Rattle.std.specs.Option.{option_or};
 ghost use Rattle.std.specs.Result.{result_err};
-ghost use Rattle.cap_values.specs.Armings.{mode_asked_at, disconnected, arming_fault, point_of, uninterrupted};
+ghost use Rattle.cap_values.specs.Armings.{mode_asked_at, arming_fault, point_of, uninterrupted};
 ghost use Rattle.cap_values.specs.Arms.{arm_at, arms_of};
 ghost use Rattle.cap_values.specs.declared.arming.Point.{Point as APoint};
 
@@ -94,7 +94,10 @@ fn point_of(arming: &Arming) -> Result<Point, ValueFault>
         Event::CalledPartyBusy => Ok(Point::CalledPartyBusy),
         Event::NoAnswer => Ok(Point::NoAnswer),
         Event::Answer => uninterrupted(Point::Answer, arming.mode),
-        Event::Disconnect => disconnected(arming.leg),
+        Event::Disconnect => {
+            let leg = arming.leg.ok_or(ValueFault::MissingParameter)?;
+            Ok(Point::Disconnect(leg))
+        }
         Event::Abandon => uninterrupted(Point::Abandon, arming.mode),
     }
 }
@@ -106,15 +109,5 @@ fn uninterrupted(point: Point, mode: Mode) -> Result<Point, ValueFault>
     match mode {
         Mode::Interrupted => Err(ValueFault::ParameterOutOfRange),
         Mode::NotifyAndContinue | Mode::Transparent => Ok(point),
-    }
-}
-
-/// The point of a Disconnect, which has to name its leg.
-fn disconnected(leg: Option<Leg>) -> Result<Point, ValueFault>
-    ensures { result ≡ disconnected leg }
-{
-    match leg {
-        Some(leg) => Ok(Point::Disconnect(leg)),
-        None => Err(ValueFault::MissingParameter),
     }
 }
