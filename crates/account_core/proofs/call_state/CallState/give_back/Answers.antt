@@ -1,4 +1,4 @@
-use Rattle.std.proofs.Common.{◌≡◌, ◌∙◌, ap, arith, refl}
+use Rattle.std.proofs.Common.{◌≡◌, ◌∙◌, ap, arith, rules}
 use Rattle.std.specs.Prelude.{unwrap_or}
 use Rattle.account_core.specs.Kept.{known_of}
 use Rattle.account_core.specs.Known.{paid_of}
@@ -15,4 +15,4 @@ pub returns : goal.returns
 returns c =
     let paid : c.unwrap_or-paid.result ≡ paid_of (known_of c.args.self.now) =
     c.unwrap_or-paid.ensures ∙ (ap (λ paid. unwrap_or paid 0) c.paid_if_granted.ensures ∙ paid_or_nothing c.args.self.now) in
-    rw (paid, c.taken.ensures) refl
+    rw paid (search rules)
