@@ -5,17 +5,17 @@ ghost use Rattle.std.specs.Prelude.{◌≡◌, false};
 /// Is asked on the way of a call, from many threads. A gate that answers false refuses the call;
 /// one that takes its time holds it.
 ///
-/// It states whether it may answer false.
+/// Its type states whether it may answer false.
 pub trait Gate {
-    ghost may_shut: { Self → Type 0 };
+    ghost may_shut: { Type 0 };
 
     /// Asked by a worker before it takes up a message of a call.
     fn before(&self, worker: u32, call: u64) -> bool
-        ensures { result ≡ false → may_shut self.now };
+        ensures { result ≡ false → may_shut };
 
     /// Asked while an account is held for an operation, before its entry.
     fn inside(&self, account: u32) -> bool
-        ensures { result ≡ false → may_shut self.now };
+        ensures { result ≡ false → may_shut };
 
     /// Called by a worker after it has answered a message of a call.
     fn after(&self, worker: u32, call: u64);
@@ -26,7 +26,7 @@ pub trait Gate {
 pub struct OpenGate;
 
 impl Gate for OpenGate {
-    ghost may_shut = { λ _. ⊥ };
+    ghost may_shut = { ⊥ };
 
     fn before(&self, _worker: u32, _call: u64) -> bool {
         true

@@ -124,7 +124,7 @@ pub trait Shared: Sync + Drop {
         ensures owed { IsAlone (was seat.new) (call_of (asked_of op))
             → IsOwed (reverse (reads.mine seat.old)) (asked_of op)
             → IfErr result (λ fault. fault ≡ out.GateClosed) }
-        ensures gate { result ≡ Err out.GateClosed → G.may_shut gate.now }
+        ensures gate { result ≡ Err out.GateClosed → G.may_shut }
         ensures returning { IsReturn (asked_of op)
             → IsOwed (reverse (reads.mine seat.old)) (asked_of op)
             → IfErr result (λ fault. (fault ≡ out.NotOpen) ⊎ (fault ≡ out.GateClosed)) };

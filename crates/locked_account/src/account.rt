@@ -111,7 +111,7 @@ impl SharedAccount {
         ensures kept { OnErr result (seat.new ≡ seat.old) }
         ensures refused { IfErr result (λ fault. (fault ≡ AccountFault.GateClosed)
             ⊎ IsRefusedAt (λ _ _. Unit {0}) seat.old.mine (asked_of op) fault) }
-        ensures gate { result ≡ Err AccountFault.GateClosed → G.may_shut gate.now }
+        ensures gate { result ≡ Err AccountFault.GateClosed → G.may_shut }
         ensures returning { IsReturn (asked_of op) → IsOwed (reverse seat.old.mine) (asked_of op)
             → IfErr result (λ fault.
             (fault ≡ AccountFault.NotOpen) ⊎ (fault ≡ AccountFault.GateClosed)) }

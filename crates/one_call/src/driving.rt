@@ -66,7 +66,8 @@ pub fn drive_call<P: Port>(
     if delay < 1 || config.tccd < delay {
         return Err(DriveFault::Delay);
     }
-    play(
+    let end = play(
         alloc, config, service, delay, start, call, route, script, port,
-    )
+    )?;
+    Ok(end)
 }

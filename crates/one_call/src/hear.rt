@@ -1,6 +1,6 @@
 //! What the gsmSSF sends, heard by the service.
 
-ghost use Rattle.std.specs.Prelude.{◌≡◌, ◌++◌, ℕ, List, IfOk, IfErr};
+ghost use Rattle.std.specs.Prelude.{◌≡◌, ◌++◌, ℕ, List, IfOk};
 ghost use Rattle.cap_values.specs.Orders.{Period, orders_in, periods_in};
 ghost use Rattle.dialogue_core.specs.Views.{phase_of};
 ghost use Rattle.ssf_core.specs.Meters.{Meter, RunsThrough, MetersItem};
@@ -8,12 +8,13 @@ ghost use Rattle.ssf_core.specs.declared.item.Item.TheVariants as sent;
 ghost use Rattle.one_call.specs.Covered.{IsAtRest};
 ghost use Rattle.one_call.specs.Deliveries.{AreSent, queued_in};
 
+use crate::Port;
 use crate::converse::converse;
 use crate::counts::Counts;
-use crate::{DriveFault, Port};
 use cap_values::{Instructions, SsfMsg};
 use dialogue_core::Dialogue;
 use ssf_core::{Delivery, Item, Moment, Out, send};
+use std::alloc::AllocError;
 use std::collections::VecDeque;
 
 /// Hands a message to the dialogue at its moment, and gives the instructions that it answers with.
@@ -53,7 +54,7 @@ fn hear_one<P: Port>(
     due: Moment,
     to: u64,
     out: Out,
-) -> Result<(), DriveFault>
+) -> Result<(), AllocError>
     ensures kept { (call now : ℕ) (meter after : Meter) (handed : List Period)
         → IsAtRest call meter (handed ++ queued_in deliveries.old.items)
         (P.state port.old call) (phase_of dialogue.old)
@@ -66,12 +67,11 @@ fn hear_one<P: Port>(
         → IfOk result (λ _. IsAtRest call after (handed ++ queued_in deliveries.new.items)
         (P.state port.new call) (phase_of dialogue.new)) }
     ensures sent { IfOk result (λ _. AreSent due to deliveries.old.items deliveries.new.items) }
-    ensures fault { IfErr result (λ fault. fault ≡ DriveFault.OutOfMemory) }
 {
     match out.item {
         Item::Msg(message) => {
             let instructions = hear(port, dialogue, counts, out.at, message);
-            Ok(send(deliveries, due, to, instructions)?)
+            send(deliveries, due, to, instructions)
         }
         Item::Proceed => Ok(()),
         Item::Clear(_) => Ok(()),
@@ -88,7 +88,7 @@ pub(crate) fn hear_all<P: Port>(
     due: Moment,
     to: u64,
     sent: &[Out],
-) -> Result<(), DriveFault>
+) -> Result<(), AllocError>
     ensures kept { (call : ℕ) (meter after : Meter) (handed : List Period)
         → IsAtRest call meter (handed ++ queued_in deliveries.old.items)
         (P.state port.old call) (phase_of dialogue.old)
@@ -101,7 +101,6 @@ pub(crate) fn hear_all<P: Port>(
         → IfOk result (λ _. IsAtRest call after (queued_in deliveries.new.items)
         (P.state port.new call) (phase_of dialogue.new)) }
     ensures sent { IfOk result (λ _. AreSent due to deliveries.old.items deliveries.new.items) }
-    ensures fault { IfErr result (λ fault. fault ≡ DriveFault.OutOfMemory) }
 {
     for out in sent {
         hear_one(port, dialogue, counts, deliveries, due, to, *out)?;

@@ -1,6 +1,6 @@
 //! The rounds of a call, from its start to its end.
 
-ghost use Rattle.std.specs.Prelude.{◌≡◌, ◌+◌, ◌<◌, ◌≤◌, Some, IfOk, IfErr};
+ghost use Rattle.std.specs.Prelude.{◌≡◌, ◌+◌, ◌<◌, ◌≤◌, Some, IfOk};
 ghost use Rattle.std.specs.Option.{ForSome};
 ghost use Rattle.account_core.specs.Known.{nothing_known};
 ghost use Rattle.one_call.specs.Starts.{IsStarted};
@@ -10,12 +10,12 @@ use crate::counts::Counts;
 use crate::hear::hear_all;
 use crate::moments::next_input;
 use crate::step::step;
-use crate::{CallEnd, DriveFault, Port};
+use crate::{CallEnd, Port};
 use cap_values::Number;
 use dialogue_core::{Dialogue, ServiceConfig};
 use price_core::{DAY, HORIZON, MAX_MOMENT, Route};
 use ssf_core::{BcsmEvent, Moment, Ssf, SsfConfig, send};
-use std::alloc::Global;
+use std::alloc::{AllocError, Global};
 use std::collections::VecDeque;
 
 /// Plays a call from its start until no event, delivery or due moment is left. The operations of an
@@ -30,13 +30,12 @@ pub(crate) fn play<P: Port>(
     route: Option<Route>,
     script: &[(Moment, BcsmEvent)],
     port: &mut P,
-) -> Result<CallEnd, DriveFault>
+) -> Result<CallEnd, AllocError>
     requires start { start ≤ MAX_MOMENT }
     requires route { ForSome route (λ route.
         ForSome route.switch_at (λ at. (start < at) × (at ≤ start + DAY))) }
     ensures forfeits { P.state port.old call.0 ≡ Some nothing_known
         → IfOk result (λ end. end.forfeits ≡ 0) }
-    ensures fault { IfErr result (λ fault. fault ≡ DriveFault.OutOfMemory) }
 {
     let delay = u64::from(delay);
     let (mut ssf, mut counts) = started(config, start, call);

@@ -58,7 +58,7 @@ impl<S: Shared, R: Wait, G: Gate> Port for SharedPort<'_, S, R, G> {
         ensures refused { IfErr result (λ fault. (fault ≡ AccountFault.GateClosed)
             ⊎ IsRefusedAt (S.was self.new.seat.now)
             (S.reads.mine self.old.seat.now) (asked_of op) fault) }
-        ensures gate { result ≡ Err AccountFault.GateClosed → G.may_shut self.old.gate.now }
+        ensures gate { result ≡ Err AccountFault.GateClosed → G.may_shut }
         ensures returning { IsReturn (asked_of op)
             → IsOwed (reverse (S.reads.mine self.old.seat.now)) (asked_of op)
             → IfErr result (λ fault.

@@ -1,6 +1,6 @@
 -- The workers of a run go on from round to round.
 use Rattle.std.proofs.Common.{◌≡◌, ◌<◌, ◌+◌, ◌++◌, ℕ, Bool, true, false, List, [], ◌∷◌, length, map, refl, ap, sym, subst, ◌∙◌, arith, suc, zero}
-use Rattle.std.specs.Prelude.{All, Err, Ok, OnOk, Result, replicate, slice_index_or}
+use Rattle.std.specs.Prelude.{All, replicate, slice_index_or}
 use Rattle.std.proofs.lemmas.List.{length-map, map-append}
 use Rattle.std.proofs.lemmas.List.Elements.{All-head, All-tail}
 use Rattle.run_values.specs.Setups.{Setup}
@@ -23,7 +23,6 @@ use Rattle.runs_core.specs.Sending.{AreLeftBy, ArePromised, heard_by, promises_o
 use Rattle.runs_core.specs.Teams.{IsLeft}
 use Rattle.runs_core.specs.declared.crew.Crew.{Crew}
 use Rattle.runs_core.specs.declared.worker_link.WorkerLink.{WorkerLink}
-use Rattle.run_values.specs.declared.run_fault.RunFault.{RunFault}
 
 -- links of the same promises are as many
 pub same_count : {S G T : Type 0} (old now : List (WorkerLink S G T)) → promises_of now ≡ promises_of old → length now ≡ length old
@@ -92,10 +91,6 @@ none_served_by account_number key read Was setup accounts crew first silent unhe
     subst (λ s. HasServed account_number key read Was s (accounts_of crew.worker) [] [] crew) (sym first.setup_is)
     (subst (λ a. HasServed account_number key read Was setup a [] [] crew) (sym first.accounts_are) (none_served account_number key read Was setup accounts crew first silent unheard))
 
-pub on_ok : (result : Result (Unit {0}) RunFault) (P Q : Type 0) → OnOk result P → (P → Q) → OnOk result Q
-on_ok (Ok done) P Q has then_has = then_has has
-on_ok (Err why) P Q has then_has = tt
-
 -- ---- what the driver has heard
 
 -- rounds so far: of all that the driver was given it has heard the answers, but for those of the last round
@@ -136,25 +131,25 @@ played_out given ended hears account_number key read Was setup accounts old betw
 
 -- ---- what all workers leave
 
-first_or_other : {K S G T : Type 0} (account_number : S → ℕ) (key : S → K) (read : Reads K T) (Was : T → Knowing) (setup : Setup) (accounts : List S) (gate : G) (given : List (ℕ × Body)) (answers : List Answer) (crew : Crew S G T) (first : List T) (teams : List (List T)) (worker : ℕ)
-    → (served : HasServed account_number key read Was setup accounts given answers crew) → first ≡ seats_of crew.worker → ArePromised setup accounts gate 1 (promises_of crew.links.items)
+first_or_other : {K S G T : Type 0} (account_number : S → ℕ) (key : S → K) (read : Reads K T) (Was : T → Knowing) (setup : Setup) (accounts : List S) (given : List (ℕ × Body)) (answers : List Answer) (crew : Crew S G T) (first : List T) (teams : List (List T)) (worker : ℕ)
+    → (served : HasServed account_number key read Was setup accounts given answers crew) → first ≡ seats_of crew.worker → ArePromised setup accounts 1 (promises_of crew.links.items)
     → AreLeftBy read key Was crew.links.items teams → worker < count_of crew
     → IsLeft read Was (map key accounts) setup worker (slice_index_or (served.own ∷ map sent_by crew.links.items) worker []) (map answer_view (slice_index_or (served.mine ∷ map heard_by crew.links.items) worker []))
     (slice_index_or (first ∷ teams) worker [])
-first_or_other account_number key read Was setup accounts gate given answers crew first teams zero served seats promised by below =
+first_or_other account_number key read Was setup accounts given answers crew first teams zero served seats promised by below =
     subst (IsLeft read Was (map key accounts) setup 0 served.own (map answer_view served.mine)) (sym seats)
     (left_by account_number key read Was setup accounts 0 served.own (map answer_view served.mine) crew.worker served.first)
-first_or_other account_number key read Was setup accounts gate given answers crew first teams (suc worker) served seats promised by below =
+first_or_other account_number key read Was setup accounts given answers crew first teams (suc worker) served seats promised by below =
     let here : 1 + worker ≡ suc worker = omega arith in
     subst (λ n. IsLeft read Was (map key accounts) setup n (slice_index_or (map sent_by crew.links.items) worker []) (map answer_view (slice_index_or (map heard_by crew.links.items) worker [])) (slice_index_or teams worker [])) here
-    (left_at read key Was setup accounts gate 1 worker crew.links.items teams promised by (omega (arith, below)))
+    (left_at read key Was setup accounts 1 worker crew.links.items teams promised by (omega (arith, below)))
 
-pub has_left : {D K S G T : Type 0} (given : D → List (ℕ × Body)) (ended : D → Bool) (hears : D → List Answer → D → Type 0) (account_number : S → ℕ) (key : S → K) (read : Reads K T) (Was : T → Knowing) (setup : Setup) (accounts : List S) (gate : G)
+pub has_left : {D K S G T : Type 0} (given : D → List (ℕ × Body)) (ended : D → Bool) (hears : D → List Answer → D → Type 0) (account_number : S → ℕ) (key : S → K) (read : Reads K T) (Was : T → Knowing) (setup : Setup) (accounts : List S)
     (old new : D) (crew : Crew S G T) (first : List T) (teams : List (List T)) (workers : ℕ)
-    → HasPlayed given ended hears account_number key read Was setup accounts old new crew → first ≡ seats_of crew.worker → ArePromised setup accounts gate 1 (promises_of crew.links.items)
+    → HasPlayed given ended hears account_number key read Was setup accounts old new crew → first ≡ seats_of crew.worker → ArePromised setup accounts 1 (promises_of crew.links.items)
     → AreLeftBy read key Was crew.links.items teams → count_of crew ≡ workers
     → HasLeft given ended hears read Was (map key accounts) setup workers old new (first ∷ teams)
-has_left given ended hears account_number key read Was setup accounts gate old new crew first teams workers played seats promised by many =
+has_left given ended hears account_number key read Was setup accounts old new crew first teams workers played seats promised by many =
     let has = played.served in
     record {
       handled = has.own ∷ map sent_by crew.links.items;
@@ -165,5 +160,5 @@ has_left given ended hears account_number key read Was setup accounts gate old n
       are_answers = rw (← many) has.are_answers;
       count = omega (arith, many, left_many read key Was crew.links.items teams by);
       left = λ worker below.
-          first_or_other account_number key read Was setup accounts gate (given new) (all_heard played.heard) crew first teams worker has seats promised by (omega (arith, below, many));
+          first_or_other account_number key read Was setup accounts (given new) (all_heard played.heard) crew first teams worker has seats promised by (omega (arith, below, many));
     }

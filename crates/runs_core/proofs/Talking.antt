@@ -92,79 +92,75 @@ so_ended Shows seat first before after last phase orders refused so rests sends 
 
 -- ---- at a desk
 
--- how far a talk at a desk has come, whose gate and whose seat's key and number stay
-pub record IsSpoken {X G K T : Type 0} (gate : X → G) (shown : X → T × Option AccountFault) (reads : Reads K T) (Was : T → Knowing) (first : Says × Phase) (from now : X) (next : Says × Phase) : Type 0 where
-  pub same_gate : gate now ≡ gate from
+-- how far a talk at a desk has come, whose seat's key and number stay
+pub record IsSpoken {X K T : Type 0} (shown : X → T × Option AccountFault) (reads : Reads K T) (Was : T → Knowing) (first : Says × Phase) (from now : X) (next : Says × Phase) : Type 0 where
   pub same_key : reads.key (shown now).0 ≡ reads.key (shown from).0
   pub same_number : reads.number (shown now).0 ≡ reads.number (shown from).0
   pub still : (mine : List EntryData) (refusal : Refusal) → Was (shown from).0 mine refusal → Was (shown now).0 mine refusal
   pub so_far : IsSoFar (IsRefusedAt (Was (shown now).0)) (reads.number (shown from).0) first (reads.mine (shown from).0) (reads.mine (shown now).0) next (shown now).1
 
-asked_at : {X G K T : Type 0} (gate : X → G) (shown : X → T × Option AccountFault) (reads : Reads K T) (Was : T → Knowing) (Calls : Asking T) (first : Says × Phase) (from between to : X) (said : Says) (phase : Phase) (got : Got)
-    → Gets (AtDesk gate shown reads Was Calls) between said got to → IsSpoken gate shown reads Was first from between (said, phase) → IsSpoken gate shown reads Was first from to (after_got phase got)
-asked_at gate shown reads Was Calls first from between to (Asks asked) phase got is so =
-    let (same, ask) = is in
+asked_at : {X K T : Type 0} (shown : X → T × Option AccountFault) (reads : Reads K T) (Was : T → Knowing) (Calls : Asking T) (first : Says × Phase) (from between to : X) (said : Says) (phase : Phase) (got : Got)
+    → Gets (AtDesk shown reads Was Calls) between said got to → IsSpoken shown reads Was first from between (said, phase) → IsSpoken shown reads Was first from to (after_got phase got)
+asked_at shown reads Was Calls first from between to (Asks asked) phase got is so =
     record {
-      same_gate = same ∙ so.same_gate;
-      same_key = ask.same_key ∙ so.same_key;
-      same_number = ask.same_number ∙ so.same_number;
-      still = λ mine refusal was. ask.still mine refusal (so.still mine refusal was);
+      same_key = is.same_key ∙ so.same_key;
+      same_number = is.same_number ∙ so.same_number;
+      still = λ mine refusal was. is.still mine refusal (so.still mine refusal was);
       so_far =
-          so_asked (Was (shown between).0) (Was (shown to).0) ask.still (reads.number (shown from).0) first (reads.mine (shown from).0) (reads.mine (shown between).0) (reads.mine (shown to).0) asked phase got
-          (shown between).1 (shown to).1 so.so_far (rw so.same_number at ask.enters) ask.refuses ask.right;
+          so_asked (Was (shown between).0) (Was (shown to).0) is.still (reads.number (shown from).0) first (reads.mine (shown from).0) (reads.mine (shown between).0) (reads.mine (shown to).0) asked phase got
+          (shown between).1 (shown to).1 so.so_far (rw so.same_number at is.enters) is.refuses is.right;
     }
-asked_at gate shown reads Was Calls first from between to (Sends orders) phase got is so = absurd is
-asked_at gate shown reads Was Calls first from between to Finished phase got is so = absurd is
+asked_at shown reads Was Calls first from between to (Sends orders) phase got is so = absurd is
+asked_at shown reads Was Calls first from between to Finished phase got is so = absurd is
 
 -- what the asks got leads so far
-pub spoken : {X G K T : Type 0} (gate : X → G) (shown : X → T × Option AccountFault) (reads : Reads K T) (Was : T → Knowing) (Calls : Asking T) (first : Says × Phase) (from : X) (gots : List Got) (to : X)
-    → AreGot (AtDesk gate shown reads Was Calls) first from gots to → (shown from).1 ≡ None → IsSpoken gate shown reads Was first from to (talked first gots)
-spoken gate shown reads Was Calls first from [] to is none = rw is (record {
-  same_gate = refl;
+pub spoken : {X K T : Type 0} (shown : X → T × Option AccountFault) (reads : Reads K T) (Was : T → Knowing) (Calls : Asking T) (first : Says × Phase) (from : X) (gots : List Got) (to : X)
+    → AreGot (AtDesk shown reads Was Calls) first from gots to → (shown from).1 ≡ None → IsSpoken shown reads Was first from to (talked first gots)
+spoken shown reads Was Calls first from [] to is none = rw is (record {
   same_key = refl;
   same_number = refl;
   still = λ mine refusal was. was;
   so_far = rw none (so_begun (IsRefusedAt (Was (shown from).0)) (reads.number (shown from).0) first (reads.mine (shown from).0));
 })
-spoken gate shown reads Was Calls first from (got ∷ earlier) to is none =
+spoken shown reads Was Calls first from (got ∷ earlier) to is none =
     let (between, before, gets) = is in
-    asked_at gate shown reads Was Calls first from between to (talked first earlier).0 (talked first earlier).1 got gets (spoken gate shown reads Was Calls first from earlier between before none)
+    asked_at shown reads Was Calls first from between to (talked first earlier).0 (talked first earlier).1 got gets (spoken shown reads Was Calls first from earlier between before none)
 
 -- what a talk that was ended by nothing leads to
-pub spoken_out : {X G K T : Type 0} (gate : X → G) (shown : X → T × Option AccountFault) (reads : Reads K T) (Was : T → Knowing) (Calls : Asking T) (first : Says × Phase) (from to : X) (phase : Phase) (orders : List Order)
-    (talk : IsTalkedOut (AtDesk gate shown reads Was Calls) first from to phase orders) → (shown from).1 ≡ None → IsSpoken gate shown reads Was first from to (talk.last, phase)
-spoken_out gate shown reads Was Calls first from to phase orders talk none = rw talk.talks at (spoken gate shown reads Was Calls first from talk.gots to talk.are_got none)
+pub spoken_out : {X K T : Type 0} (shown : X → T × Option AccountFault) (reads : Reads K T) (Was : T → Knowing) (Calls : Asking T) (first : Says × Phase) (from to : X) (phase : Phase) (orders : List Order)
+    (talk : IsTalkedOut (AtDesk shown reads Was Calls) first from to phase orders) → (shown from).1 ≡ None → IsSpoken shown reads Was first from to (talk.last, phase)
+spoken_out shown reads Was Calls first from to phase orders talk none = rw talk.talks at (spoken shown reads Was Calls first from talk.gots to talk.are_got none)
 
 -- ---- its calls
 
-call_for : {X G K T : Type 0} (gate : X → G) (shown : X → T × Option AccountFault) (reads : Reads K T) (Was : T → Knowing) (Calls : Asking T) (from to : X) (said : Says) (got : Got)
-    → Gets (AtDesk gate shown reads Was Calls) from said got to → Gets Calls (shown from).0 said got (shown to).0
-call_for gate shown reads Was Calls from to (Asks asked) got is = is.1.called
-call_for gate shown reads Was Calls from to (Sends orders) got is = absurd is
-call_for gate shown reads Was Calls from to Finished got is = absurd is
+call_for : {X K T : Type 0} (shown : X → T × Option AccountFault) (reads : Reads K T) (Was : T → Knowing) (Calls : Asking T) (from to : X) (said : Says) (got : Got)
+    → Gets (AtDesk shown reads Was Calls) from said got to → Gets Calls (shown from).0 said got (shown to).0
+call_for shown reads Was Calls from to (Asks asked) got is = is.called
+call_for shown reads Was Calls from to (Sends orders) got is = absurd is
+call_for shown reads Was Calls from to Finished got is = absurd is
 
 -- what the asks of a talk at a desk got, they got by calls
-pub calls_for : {X G K T : Type 0} (gate : X → G) (shown : X → T × Option AccountFault) (reads : Reads K T) (Was : T → Knowing) (Calls : Asking T) (first : Says × Phase) (from : X) (gots : List Got) (to : X)
-    → AreGot (AtDesk gate shown reads Was Calls) first from gots to → AreGot Calls first (shown from).0 gots (shown to).0
-calls_for gate shown reads Was Calls first from [] to is = ap (λ x. (shown x).0) is
-calls_for gate shown reads Was Calls first from (got ∷ earlier) to is =
+pub calls_for : {X K T : Type 0} (shown : X → T × Option AccountFault) (reads : Reads K T) (Was : T → Knowing) (Calls : Asking T) (first : Says × Phase) (from : X) (gots : List Got) (to : X)
+    → AreGot (AtDesk shown reads Was Calls) first from gots to → AreGot Calls first (shown from).0 gots (shown to).0
+calls_for shown reads Was Calls first from [] to is = ap (λ x. (shown x).0) is
+calls_for shown reads Was Calls first from (got ∷ earlier) to is =
     let (between, before, gets) = is in (
       (shown between).0,
-      calls_for gate shown reads Was Calls first from earlier between before,
-      call_for gate shown reads Was Calls between to (talked first earlier).0 got gets,
+      calls_for shown reads Was Calls first from earlier between before,
+      call_for shown reads Was Calls between to (talked first earlier).0 got gets,
     )
 
-fault_kept : {X G K T : Type 0} (gate : X → G) (shown : X → T × Option AccountFault) (reads : Reads K T) (Was : T → Knowing) (Calls : Asking T) (from to : X) (said : Says) (got : Got)
-    → Gets (AtDesk gate shown reads Was Calls) from said got to → (shown to).1 ≡ or_fault (shown from).1 got
-fault_kept gate shown reads Was Calls from to (Asks asked) got is = is.1.refuses
-fault_kept gate shown reads Was Calls from to (Sends orders) got is = absurd is
-fault_kept gate shown reads Was Calls from to Finished got is = absurd is
+fault_kept : {X K T : Type 0} (shown : X → T × Option AccountFault) (reads : Reads K T) (Was : T → Knowing) (Calls : Asking T) (from to : X) (said : Says) (got : Got)
+    → Gets (AtDesk shown reads Was Calls) from said got to → (shown to).1 ≡ or_fault (shown from).1 got
+fault_kept shown reads Was Calls from to (Asks asked) got is = is.refuses
+fault_kept shown reads Was Calls from to (Sends orders) got is = absurd is
+fault_kept shown reads Was Calls from to Finished got is = absurd is
 
 -- and the last fault of these asks is kept
-pub fault_answer : {X G K T : Type 0} (gate : X → G) (shown : X → T × Option AccountFault) (reads : Reads K T) (Was : T → Knowing) (Calls : Asking T) (first : Says × Phase) (from : X) (gots : List Got) (to : X)
-    → AreGot (AtDesk gate shown reads Was Calls) first from gots to → (shown from).1 ≡ None → (shown to).1 ≡ last_fault gots
-fault_answer gate shown reads Was Calls first from [] to is none = ap (λ x. (shown x).1) is ∙ none
-fault_answer gate shown reads Was Calls first from (got ∷ earlier) to is none =
+pub fault_answer : {X K T : Type 0} (shown : X → T × Option AccountFault) (reads : Reads K T) (Was : T → Knowing) (Calls : Asking T) (first : Says × Phase) (from : X) (gots : List Got) (to : X)
+    → AreGot (AtDesk shown reads Was Calls) first from gots to → (shown from).1 ≡ None → (shown to).1 ≡ last_fault gots
+fault_answer shown reads Was Calls first from [] to is none = ap (λ x. (shown x).1) is ∙ none
+fault_answer shown reads Was Calls first from (got ∷ earlier) to is none =
     let (between, before, gets) = is in
-    fault_kept gate shown reads Was Calls between to (talked first earlier).0 got gets ∙ ap (λ fault. or_fault fault got) (fault_answer gate shown reads Was Calls first from earlier between before none)
+    fault_kept shown reads Was Calls between to (talked first earlier).0 got gets ∙ ap (λ fault. or_fault fault got) (fault_answer shown reads Was Calls first from earlier between before none)
     ∙ fault_after earlier got

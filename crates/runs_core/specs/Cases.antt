@@ -99,9 +99,9 @@ pub record IsAsked {K T : Type 0} (reads : Reads K T) (Was : T → Knowing) (Cal
   pub right : IsRightlyGot (IsRefusedAt (Was after.0)) (reads.mine before.0) (Asks asked) got
   pub still : (mine : List EntryData) (refusal : Refusal) → Was before.0 mine refusal → Was after.0 mine refusal
 
--- an ask at a desk, whose gate stays
-abbrev pub AtDesk : {X G K T : Type 0} → (X → G) → (X → T × Option AccountFault) → Reads K T → (T → Knowing) → Asking T → Asking X
-AtDesk gate shown reads Was Calls before asked got after = (gate after ≡ gate before) × IsAsked reads Was Calls (shown before) asked got (shown after)
+-- an ask at a desk, which shows a seat and the last fault
+abbrev pub AtDesk : {X K T : Type 0} → (X → T × Option AccountFault) → Reads K T → (T → Knowing) → Asking T → Asking X
+AtDesk shown reads Was Calls before asked got after = IsAsked reads Was Calls (shown before) asked got (shown after)
 
 -- an account was asked for a Credit, and what it got is right
 pub record IsCredited (Shows : Showing) (seat : ℕ) (asked : Asked) (before after : List EntryData) (answer : AnswerView) : Type 0 where

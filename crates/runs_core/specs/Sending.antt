@@ -1,13 +1,11 @@
 -- The links of the workers of a run: what was sent by them, and what their threads promise.
-use Rattle.std.specs.Prelude.{◌≡◌, ◌+◌, ◌++◌, ◌⊎◌, ℕ, List, [], ◌∷◌, map}
+use Rattle.std.specs.Prelude.{◌≡◌, ◌+◌, ℕ, List, [], ◌∷◌, map}
 use Rattle.runs_core.specs.Mails.{items_in}
 use Rattle.account_core.specs.Refusals.{Knowing}
 use Rattle.account_core.specs.Seats.{Reads}
 use Rattle.runs_core.specs.Teams.{IsLeft}
 use Rattle.runs_core.specs.declared.worker_link.WorkerLink.{WorkerLink}
 use Rattle.runs_core.specs.declared.promise.WorkerPromise.{WorkerPromise}
-use Rattle.run_values.specs.declared.run_fault.RunFault.{RunFault}
-use Rattle.run_values.specs.declared.run_fault.RunFault.TheVariants as out
 use Rattle.runs_core.specs.Ends.{sent, taken}
 use Rattle.run_values.specs.Setups.{Setup}
 use Rattle.runs_core.specs.Handled.{answer_view}
@@ -27,21 +25,15 @@ abbrev pub promises_of : {S G T : Type 0} → List (WorkerLink S G T) → List (
 promises_of links = map (λ link. link.child.promise) links
 
 -- the promise of the worker of this number, of one run
-pub record IsPromised {S G T : Type 0} (setup : Setup) (accounts : List S) (gate : G) (number : ℕ) (promise : WorkerPromise S G T) : Type 0 where
+pub record IsPromised {S G T : Type 0} (setup : Setup) (accounts : List S) (number : ℕ) (promise : WorkerPromise S G T) : Type 0 where
   pub setup_is : promise.setup.now ≡ setup
   pub accounts_are : promise.accounts.now ≡ accounts
-  pub gate_is : promise.gate.now ≡ gate
   pub number_is : promise.number ≡ number
 
 -- the promises of the workers, from this number on
-abbrev pub ArePromised : {S G T : Type 0} → Setup → List S → G → ℕ → List (WorkerPromise S G T) → Type 0
-ArePromised setup accounts gate number [] = Unit {0}
-ArePromised setup accounts gate number (promise ∷ promises) = IsPromised setup accounts gate number promise × ArePromised setup accounts gate (number + 1) promises
-
--- one of the gates may answer false
-abbrev pub MayBeShut : {S G T : Type 0} → (G → Type 0) → List (WorkerPromise S G T) → Type 0
-MayBeShut may_shut [] = ⊥
-MayBeShut may_shut (promise ∷ promises) = may_shut promise.gate.now ⊎ MayBeShut may_shut promises
+abbrev pub ArePromised : {S G T : Type 0} → Setup → List S → ℕ → List (WorkerPromise S G T) → Type 0
+ArePromised setup accounts number [] = Unit {0}
+ArePromised setup accounts number (promise ∷ promises) = IsPromised setup accounts number promise × ArePromised setup accounts (number + 1) promises
 
 -- a worker has left what its thread promised: what handling the posts sent by its link comes to, with the answers that have come by it
 abbrev pub IsLeftBy : {K S G T : Type 0} → Reads K T → (S → K) → (T → Knowing) → WorkerLink S G T → List T → Type 0
@@ -54,13 +46,3 @@ AreLeftBy read key Was [] [] = Unit {0}
 AreLeftBy read key Was [] (team ∷ teams) = ⊥
 AreLeftBy read key Was (link ∷ links) [] = ⊥
 AreLeftBy read key Was (link ∷ links) (team ∷ teams) = IsLeftBy read key Was link team × AreLeftBy read key Was links teams
-
--- of the workers of these links, those before one have left, and that one has failed so: it is the first that has
-pub record IsFirstFault {K S G T : Type 0} (read : Reads K T) (key : S → K) (Was : T → Knowing) (may_shut : G → Type 0) (links : List (WorkerLink S G T)) (fault : RunFault) : Type 0 where
-  pub before : List (WorkerLink S G T)
-  pub failed : WorkerLink S G T
-  pub after : List (WorkerLink S G T)
-  pub split : before ++ failed ∷ after ≡ links
-  pub teams : List (List T)
-  pub have_left : AreLeftBy read key Was before teams
-  pub shut : fault ≡ out.GateClosed → may_shut failed.child.promise.gate.now

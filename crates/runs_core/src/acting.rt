@@ -1,6 +1,6 @@
 //! What is done about a post, in each case.
 
-ghost use Rattle.std.specs.Prelude.{◌≡◌, ◌==◌, if◌then◌else◌, ℕ, List, None, Some, true, false, length, map, IfErr, IfOk, IsSome, OnOk};
+ghost use Rattle.std.specs.Prelude.{◌≡◌, ◌==◌, if◌then◌else◌, ℕ, List, None, Some, true, false, length, map, IfOk, IsErr, IsSome, OnOk};
 ghost use Rattle.std.specs.BTreeMap.{is_at};
 ghost use Rattle.std.specs.Map.{lookup};
 ghost use Rattle.std.specs.Ordering.{nat_cmp};
@@ -11,21 +11,22 @@ ghost use Rattle.runs_core.specs.Refusals.{RefusesAt, WasAt};
 ghost use Rattle.runs_core.specs.Workers.{standings_in};
 ghost use Rattle.account_core.specs.Entries.{EntryData, asked_of};
 ghost use Rattle.account_core.specs.Refusals.{IsRefusedAt, Refusal};
+ghost use Rattle.run_values.specs.declared.run_fault.RunFault.TheVariants as out;
 
 use crate::worker::{Case, Talk};
 use account_core::{AccountFault, Gate, Op, Reply, RisingMap, Shared};
 use cap_values::{Cause, Instructions};
 use dialogue_core::{Asker, converse};
 use run_values::{Answer, Body, RunFault};
+use std::alloc::AllocError;
 use std::sync::Wait;
 
 /// Makes room for the dialogue of a case, where it has one: it is kept as it is before its
 /// talk.
-pub(crate) fn make_room(talks: &mut RisingMap<Talk>, case: &Case) -> Result<(), RunFault>
+pub(crate) fn make_room(talks: &mut RisingMap<Talk>, case: &Case) -> Result<(), AllocError>
     ensures room { OnOk result (HasRoom case.now talks.new) }
     ensures others { OnOk result ((call : ℕ) → standings_in talks.new call
         ≡ with_room case.now (standings_in talks.old) call) }
-    ensures fault { IfErr result (λ fault. fault ≡ RunFault.OutOfMemory) }
 {
     if let Case::Talk { call, talk, .. } = case {
         talks.insert(*call, *talk)?;
@@ -33,20 +34,25 @@ pub(crate) fn make_room(talks: &mut RisingMap<Talk>, case: &Case) -> Result<(), 
     Ok(())
 }
 
+/// A gate has answered false.
+#[derive(Clone, Copy)]
+pub(crate) struct Shut;
+
+impl From<Shut> for RunFault {
+    ghost from_gives = { λ _ fault. fault ≡ out.GateClosed };
+
+    fn from(_shut: Shut) -> RunFault {
+        RunFault::GateClosed
+    }
+}
+
 /// Asks the gate before a message of a call is taken up.
-pub(crate) fn pass<G: Gate>(gate: &G, worker: u32, body: &Body) -> Result<(), RunFault>
-    ensures fault { IfErr result (λ fault. fault ≡ RunFault.GateClosed) }
-    ensures gate { result ≡ Err RunFault.GateClosed → G.may_shut gate.now }
+pub(crate) fn pass<G: Gate>(gate: &G, worker: u32, body: &Body) -> Result<(), Shut>
+    ensures { IsErr result → G.may_shut }
 {
     match *body {
-        Body::Ssf { call, .. } => {
-            if gate.before(worker, call) {
-                Ok(())
-            } else {
-                Err(RunFault::GateClosed)
-            }
-        }
-        Body::Recharge { .. } => Ok(()),
+        Body::Ssf { call, .. } if !gate.before(worker, call) => Err(Shut),
+        _ => Ok(()),
     }
 }
 
@@ -66,7 +72,7 @@ pub(crate) fn act<S: Shared, R: Wait, G: Gate>(
     talks: &mut RisingMap<Talk>,
     number: u64,
     case: Case,
-) -> Result<Answer, RunFault>
+) -> Result<Answer, Shut>
     requires keys { map S.reads.key seats.old.items ≡ map S.key accounts.now }
     requires within { CaseIsWithin (length accounts.now) case }
     requires room { HasRoom case talks.old }
@@ -85,8 +91,7 @@ pub(crate) fn act<S: Shared, R: Wait, G: Gate>(
     ensures was { OnOk result ((place : ℕ) (mine : List EntryData) (refusal : Refusal)
         → WasAt S.was seats.old.items place mine refusal
         → WasAt S.was seats.new.items place mine refusal) }
-    ensures fault { IfErr result (λ fault. fault ≡ RunFault.GateClosed) }
-    ensures gate { result ≡ Err RunFault.GateClosed → G.may_shut gate.now }
+    ensures gate { IsErr result → G.may_shut }
 {
     match case {
         Case::Stray => Ok(unasked(number, Instructions::Nothing, true)),
@@ -157,7 +162,7 @@ fn recharge<S: Shared, R: Wait, G: Gate>(
     seat: &mut S::Seat,
     number: u64,
     credit: Op,
-) -> Result<Answer, RunFault>
+) -> Result<Answer, Shut>
     requires { S.reads.key seat.old ≡ S.key account.now }
     ensures same_key { S.reads.key seat.new ≡ S.reads.key seat.old }
     ensures same_number { S.reads.number seat.new ≡ S.reads.number seat.old }
@@ -169,12 +174,11 @@ fn recharge<S: Shared, R: Wait, G: Gate>(
         (answer_view answer) seat.old seat.new) }
     ensures was { (mine : List EntryData) (refusal : Refusal)
         → S.was seat.old mine refusal → S.was seat.new mine refusal }
-    ensures fault { IfErr result (λ fault. fault ≡ RunFault.GateClosed) }
-    ensures gate { result ≡ Err RunFault.GateClosed → G.may_shut gate.now }
+    ensures gate { IsErr result → G.may_shut }
 {
     let refused = match account.call(rt, seat, credit, gate) {
         Ok(_) => None,
-        Err(AccountFault::GateClosed) => return Err(RunFault::GateClosed),
+        Err(AccountFault::GateClosed) => return Err(Shut),
         Err(fault) => Some(fault),
     };
     Ok(Answer {
@@ -206,21 +210,19 @@ struct Desk<'a, S, R, G> {
 impl<S: Shared, R: Wait, G: Gate> Asker<S::Seat> for Desk<'_, S, R, G> {
     ghost use Rattle.std.specs.Prelude.{◌≡◌};
     ghost use Rattle.runs_core.specs.Cases.{AtDesk};
-    ghost use Rattle.run_values.specs.declared.run_fault.RunFault.TheVariants as out;
 
-    type End = RunFault;
+    type End = Shut;
 
     ghost may_ask = { λ at. S.reads.key at.1 ≡ S.key at.0.account.now };
 
-    ghost does = { AtDesk (λ at. at.0.gate) (λ at. (at.1, at.0.refused)) S.reads S.was S.calls };
+    ghost does = { AtDesk (λ at. (at.1, at.0.refused)) S.reads S.was S.calls };
 
-    ghost ends = { λ before asked end after. (end ≡ out.GateClosed)
-        × G.may_shut before.0.gate.now };
+    ghost ends = { λ _ _ _ _. G.may_shut };
 
     /// Asks the account from a seat. A closed gate ends the talk.
-    fn ask(&mut self, seat: &mut S::Seat, op: Op) -> Result<Result<Reply, AccountFault>, RunFault> {
+    fn ask(&mut self, seat: &mut S::Seat, op: Op) -> Result<Result<Reply, AccountFault>, Shut> {
         match self.account.call(self.rt, seat, op, self.gate) {
-            Err(AccountFault::GateClosed) => Err(RunFault::GateClosed),
+            Err(AccountFault::GateClosed) => Err(Shut),
             Err(fault) => {
                 self.refused = Some(fault);
                 Ok(Err(fault))

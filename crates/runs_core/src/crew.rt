@@ -5,12 +5,13 @@ ghost use Rattle.std.specs.Vec.{vec_capacity};
 ghost use Rattle.std.specs.Vec.Iter.{into_iter_items};
 ghost use Rattle.runs_core.specs.Crews.{joined_lists};
 ghost use Rattle.runs_core.specs.Goings.{GoesOn};
-ghost use Rattle.runs_core.specs.RunFaults.{AsksNoGate, MayAskGate};
+ghost use Rattle.runs_core.specs.RunFaults.{MayAskGate};
 ghost use Rattle.runs_core.specs.Sending.{heard_by, promises_of, sent_by};
 ghost use Rattle.runs_core.specs.Handled.{answer_view};
 ghost use Rattle.runs_core.specs.Workers.{IsReady, number_by};
 ghost use Rattle.run_values.specs.declared.post.Answer.{Answer};
 
+use crate::ends::Gone;
 use crate::worker::Worker;
 use crate::worker_link::WorkerLink;
 use account_core::{Gate, Shared};
@@ -57,7 +58,7 @@ impl<S: Shared, G: Gate> Crew<'_, S, G> {
             ≡ joined_lists (map heard_by self.old.links.items) others)
             × (length others ≡ length self.old.links.items)) }
         ensures promises { promises_of self.new.links.items ≡ promises_of self.old.links.items }
-        ensures fault { MayAskGate (G.may_shut gate.now) result }
+        ensures fault { MayAskGate G.may_shut result }
         ensures failed { IfSome self.new.failed (λ why. result ≡ Err why) }
         ensures closed { result ≡ Err RunFault.GateClosed
             → self.new.failed ≡ Some RunFault.GateClosed }
@@ -91,7 +92,7 @@ impl<S: Shared, G: Gate> Crew<'_, S, G> {
             self.old.worker mine.items (map answer_view answers.items) self.new.worker) }
         ensures heard { map heard_by self.new.links.items ≡ map heard_by self.old.links.items }
         ensures promises { promises_of self.new.links.items ≡ promises_of self.old.links.items }
-        ensures fault { MayAskGate (G.may_shut gate.now) result }
+        ensures fault { MayAskGate G.may_shut result }
         ensures failed { IfSome self.new.failed (λ why. result ≡ Err why) }
         ensures first { IfErr result (λ why. (why ≡ RunFault.Channel)
             ⊎ (self.new.failed ≡ Some why)) }
@@ -108,14 +109,13 @@ fn send_all<S: Shared, R: Wait, G: Gate>(
     rt: &R,
     links: &mut Vec<WorkerLink<'_, S, G>>,
     shares: IntoIter<Vec<Post>>,
-) -> Result<(), RunFault>
+) -> Result<(), Gone>
     requires count { length (into_iter_items shares) ≡ length links.old.items }
     ensures posts { OnOk result (map sent_by links.new.items ≡ joined_lists
         (map sent_by links.old.items)
         (map (λ share. share.items) (into_iter_items shares))) }
     ensures heard { map heard_by links.new.items ≡ map heard_by links.old.items }
     ensures promises { promises_of links.new.items ≡ promises_of links.old.items }
-    ensures fault { IfErr result (λ fault. fault ≡ RunFault.Channel) }
 {
     let mut at = 0;
     for share in shares {
@@ -132,7 +132,7 @@ fn hear_all<S: Shared, R: Wait, G: Gate>(
     alloc: Global,
     links: &mut Vec<WorkerLink<'_, S, G>>,
     queues: &mut Vec<VecDeque<Answer>>,
-) -> Result<(), RunFault>
+) -> Result<(), Gone>
     requires none { queues.old.items ≡ [] }
     requires room { length links.old.items ≤ vec_capacity queues.old }
     ensures heard { OnOk result (map heard_by links.new.items
@@ -141,19 +141,15 @@ fn hear_all<S: Shared, R: Wait, G: Gate>(
     ensures queues { OnOk result (length queues.new.items ≡ length links.old.items) }
     ensures posts { map sent_by links.new.items ≡ map sent_by links.old.items }
     ensures promises { promises_of links.new.items ≡ promises_of links.old.items }
-    ensures fault { AsksNoGate result }
 {
-    let mut fault = None;
+    let mut heard = Ok(());
     for at in 0..links.len() {
         match links[at].hear(rt, alloc) {
             Ok(queue) => queues.push_reserved(queue),
-            Err(why) => fault = fault.or(Some(why)),
+            Err(gone) => heard = Err(gone),
         }
     }
-    match fault {
-        None => Ok(()),
-        Some(why) => Err(why),
-    }
+    heard
 }
 
 /// Handles posts by a worker, one after another, and gives their answers.
@@ -167,7 +163,7 @@ pub(crate) fn answer_all<S: Shared, R: Wait, G: Gate>(
     requires ready { IsReady (number_by S.terms) S.key S.reads worker.old }
     ensures goes_on { IfOk result (λ answers. GoesOn (number_by S.terms) S.key S.reads S.was
         worker.old posts.items (map answer_view answers.items) worker.new) }
-    ensures fault { MayAskGate (G.may_shut gate.now) result }
+    ensures fault { MayAskGate G.may_shut result }
 {
     let mut answers = Vec::with_capacity(alloc, posts.len())?;
     for post in posts {

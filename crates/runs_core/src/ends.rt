@@ -4,9 +4,11 @@ ghost use Rattle.std.specs.Prelude.{◌≡◌, ◌∷◌, [], true};
 ghost use Rattle.runs_core.specs.Logs.{has_close};
 ghost use Rattle.crossbeam_channel.specs.Claims.{IsSeatAt, view};
 ghost use Rattle.crossbeam_channel.specs.Ends.{sends_on, receives_on};
+ghost use Rattle.run_values.specs.declared.run_fault.RunFault.TheVariants as out;
 
 use crate::mailboxes::{InOrder, Log, Mail, Sent, Taken};
 use crossbeam_channel::{Pass, RuledReceiver, RuledSender};
+use run_values::RunFault;
 use std::sync::Wait;
 
 /// The sending end of a mailbox. It knows all that it has sent.
@@ -58,9 +60,17 @@ fn is_close<T>(mail: &Mail<T>) -> bool
     }
 }
 
-/// Why no mail was taken: none is left, and the other end is gone.
+/// The other end of a mailbox is gone: no mail was sent, or none is left to be taken.
 #[derive(Clone, Copy)]
 pub(crate) struct Gone;
+
+impl From<Gone> for RunFault {
+    ghost from_gives = { λ _ fault. fault ≡ out.Channel };
+
+    fn from(_gone: Gone) -> RunFault {
+        RunFault::Channel
+    }
+}
 
 /// The taking end of a mailbox. It knows all that it has taken.
 #[derive(Drop)]

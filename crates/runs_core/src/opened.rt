@@ -1,12 +1,12 @@
 //! The accounts of a run are opened.
 
-ghost use Rattle.std.specs.Prelude.{◌≡◌, ◌≤◌, [], length, map, IfOk, IfErr, replicate, OnOk};
+ghost use Rattle.std.specs.Prelude.{◌≡◌, ◌≤◌, [], length, map, IfOk, replicate, OnOk};
 ghost use Rattle.runs_core.specs.Teams.{AreFresh, IsNew, terms_of};
 ghost use Rattle.runs_core.specs.LaidOut.{laid_out};
 
 use account_core::Shared;
 use price_core::MAX_MONEY;
-use run_values::{OpeningCredit, RunFault, RunSetup};
+use run_values::{OpeningCredit, RunSetup};
 use std::alloc::{AllocError, AllocFailed, Global};
 
 /// The accounts of a run, in order, and the seats of each worker, one of each account.
@@ -22,7 +22,7 @@ pub(crate) fn open_accounts<S: Shared, R>(
     alloc: Global,
     setup: &RunSetup,
     workers: u32,
-) -> Result<Opened<S>, RunFault>
+) -> Result<Opened<S>, AllocError>
     requires some { 1 ≤ workers }
     requires few { workers ≤ 16 }
     ensures accounts { IfOk result (λ opened.
@@ -30,7 +30,6 @@ pub(crate) fn open_accounts<S: Shared, R>(
     ensures count { IfOk result (λ opened. length opened.teams.items ≡ workers) }
     ensures fresh { IfOk result (λ opened. AreFresh S.reads
         (map S.key opened.accounts.items) 0 (map (λ team. team.items) opened.teams.items)) }
-    ensures fault { IfErr result (λ fault. fault ≡ RunFault.OutOfMemory) }
 {
     let mut accounts = Vec::new(alloc);
     let mut teams = empty_piles(alloc, workers as usize)?;
@@ -50,7 +49,7 @@ fn open_account<S: Shared, R>(
     account: (u32, OpeningCredit),
     limit: u32,
     workers: u32,
-) -> Result<(S, Vec<S::Seat>), RunFault>
+) -> Result<(S, Vec<S::Seat>), AllocError>
     requires opening { account.1.amount ≤ MAX_MONEY }
     requires some { 1 ≤ workers }
     requires few { workers ≤ 16 }
@@ -62,7 +61,6 @@ fn open_account<S: Shared, R>(
       seats = workers;
     }) }
     ensures seats { IfOk result (λ made. IsNew S.reads (S.key made.0) workers made.1.items) }
-    ensures fault { IfErr result (λ fault. fault ≡ RunFault.OutOfMemory) }
 {
     let (number, opening) = account;
     match S::new(
@@ -75,7 +73,7 @@ fn open_account<S: Shared, R>(
         workers,
     ) {
         Ok(made) => Ok(made),
-        Err(_) => Err(RunFault::OutOfMemory),
+        Err(_) => Err(AllocError),
     }
 }
 

@@ -28,13 +28,13 @@ pub(crate) struct WorkerPromise<'s, S: Shared, G: Gate> {
 }
 
 impl<'s, S: Shared, G: Gate> Promise<Result<Desk<S>, RunFault>> for WorkerPromise<'s, S, G> {
-    ghost use Rattle.std.specs.Prelude.{◌≡◌, ◌≢◌, true, map, IfOk, Err};
+    ghost use Rattle.std.specs.Prelude.{◌≡◌, true, map, IfOk};
     ghost use Rattle.runs_core.specs.Teams.{IsLeft};
     ghost use Rattle.runs_core.specs.Mails.{items_in};
     ghost use Rattle.runs_core.specs.Ends.{IsSameInbox, IsSameOutbox, sent, taken};
     ghost use Rattle.runs_core.specs.Handled.{answer_view};
     ghost use Rattle.runs_core.specs.Logs.{has_close};
-    ghost use Rattle.run_values.specs.declared.run_fault.RunFault.TheVariants as out;
+    ghost use Rattle.runs_core.specs.RunFaults.{MayAskGate};
 
     ghost kept_by = { λ p r. IfOk r (λ left. IsSameInbox p.desk.value.inbox left.inbox
         × IsSameOutbox p.desk.value.outbox left.outbox
@@ -42,6 +42,5 @@ impl<'s, S: Shared, G: Gate> Promise<Result<Desk<S>, RunFault>> for WorkerPromis
         × IsLeft S.reads S.was (map S.key p.accounts.now)
         p.setup.now p.number (items_in (taken left.inbox))
         (map answer_view (items_in (sent left.outbox))) left.seats.items)
-        × (r ≡ Err out.GateClosed → G.may_shut p.gate.now)
-        × (r ≢ Err out.Workers) };
+        × MayAskGate G.may_shut r };
 }

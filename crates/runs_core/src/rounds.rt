@@ -38,7 +38,7 @@ pub(crate) fn play<D: Driver, S: Shared, R: Wait, G: Gate>(
         (setup_of crew.old.worker) (accounts_of crew.old.worker)
         driver.old driver.new crew.new) }
     ensures promises { promises_of crew.new.links.items ≡ promises_of crew.old.links.items }
-    ensures fault { MayAskGate (G.may_shut gate.now) result }
+    ensures fault { MayAskGate G.may_shut result }
     ensures failed { IfSome crew.new.failed (λ why. result ≡ Err why) }
 {
     let mut answers = Vec::new(alloc);
@@ -72,7 +72,7 @@ fn play_round<D: Driver, S: Shared, R: Wait, G: Gate>(
     ensures given { result ≡ Ok false → D.given driver.new ≡ D.given driver.old }
     ensures crew { result ≡ Ok false → crew.new ≡ crew.old }
     ensures promises { promises_of crew.new.links.items ≡ promises_of crew.old.links.items }
-    ensures fault { MayAskGate (G.may_shut gate.now) result }
+    ensures fault { MayAskGate G.may_shut result }
     ensures failed { IfSome crew.new.failed (λ why. result ≡ Err why) }
 {
     let first = driver.given().len();
@@ -102,7 +102,7 @@ fn serve_round<S: Shared, R: Wait, G: Gate>(
     ensures served { OnOk result (IsServedRound (number_by S.terms) S.key S.reads S.was
         first added.now answers.new.items crew.old crew.new) }
     ensures promises { promises_of crew.new.links.items ≡ promises_of crew.old.links.items }
-    ensures fault { MayAskGate (G.may_shut gate.now) result }
+    ensures fault { MayAskGate G.may_shut result }
     ensures failed { IfSome crew.new.failed (λ why. result ≡ Err why) }
 {
     let shares = share_out(alloc, crew.links.len() + 1, first, added)?;
@@ -131,33 +131,37 @@ fn merge(
 {
     for place in 0..added.len() {
         let worker = worker_of(queues.len(), &added[place].1);
-        let answer = next_answer(&mut queues[worker], (first + place) as u64)?;
+        let Some(answer) = next_answer(&mut queues[worker], (first + place) as u64) else {
+            return Err(RunFault::Channel);
+        };
         answers.push(answer)?;
     }
-    none_left(queues.as_slice())
+    if none_left(queues.as_slice()) {
+        Ok(())
+    } else {
+        Err(RunFault::Channel)
+    }
 }
 
-/// All answers have been taken.
-fn none_left(queues: &[VecDeque<Answer>]) -> Result<(), RunFault>
-    ensures none { OnOk result (All (λ queue. queue.items ≡ []) queues.now) }
-    ensures fault { AsksNoGate result }
+/// Whether all answers have been taken.
+fn none_left(queues: &[VecDeque<Answer>]) -> bool
+    ensures { result ≡ true → All (λ queue. queue.items ≡ []) queues.now }
 {
     for queue in queues {
         if !queue.is_empty() {
-            return Err(RunFault::Channel);
+            return false;
         }
     }
-    Ok(())
+    true
 }
 
-/// Takes the answer of this number, which is the worker's next.
-fn next_answer(queue: &mut VecDeque<Answer>, number: u64) -> Result<Answer, RunFault>
-    ensures number { IfOk result (λ answer. answer.number ≡ number) }
-    ensures taken { IfOk result (λ answer. queue.old.items ≡ answer ∷ queue.new.items) }
-    ensures fault { AsksNoGate result }
+/// Takes a worker's next answer, if it is that of this number.
+fn next_answer(queue: &mut VecDeque<Answer>, number: u64) -> Option<Answer>
+    ensures number { IfSome result (λ answer. answer.number ≡ number) }
+    ensures taken { IfSome result (λ answer. queue.old.items ≡ answer ∷ queue.new.items) }
 {
     match queue.pop_front() {
-        Some(answer) if answer.number == number => Ok(answer),
-        _ => Err(RunFault::Channel),
+        Some(answer) if answer.number == number => Some(answer),
+        _ => None,
     }
 }

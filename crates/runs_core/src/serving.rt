@@ -66,7 +66,7 @@ pub fn serve<D: Driver, R: Wait + Threads + Sync, G: Gate + Sync>(
     ensures agenda { D.agenda driver.new ≡ D.agenda driver.old }
     ensures workers { (result ≡ Err RunFault.Workers) ↔ (are_workers workers ≡ false) }
     ensures nothing { result ≡ Err RunFault.Workers → driver.new ≡ driver.old }
-    ensures gate { result ≡ Err RunFault.GateClosed → G.may_shut gate.now }
+    ensures gate { result ≡ Err RunFault.GateClosed → G.may_shut }
 {
     serve_over::<D, TurnAccount, R, G>(rt, alloc, setup, driver, workers, gate)
 }
@@ -87,7 +87,7 @@ pub fn serve_over<D: Driver, S: Shared, R: Wait + Threads + Sync, G: Gate + Sync
     ensures agenda { D.agenda driver.new ≡ D.agenda driver.old }
     ensures workers { (result ≡ Err RunFault.Workers) ↔ (are_workers workers ≡ false) }
     ensures nothing { result ≡ Err RunFault.Workers → driver.new ≡ driver.old }
-    ensures gate { result ≡ Err RunFault.GateClosed → G.may_shut gate.now }
+    ensures gate { result ≡ Err RunFault.GateClosed → G.may_shut }
 {
     if workers < 1 || workers > MAX_WORKERS {
         return Err(RunFault::Workers);
@@ -124,7 +124,7 @@ fn run_workers<D: Driver, S: Shared, R: Wait + Threads + Sync, G: Gate + Sync>(
     ensures left { IfOk result (λ left. HasLeft D.given D.ended D.hears
         S.reads S.was (map S.key accounts.now) setup.now (length teams.items)
         driver.old driver.new (map (λ team. team.items) left.items)) }
-    ensures fault { MayAskGate (G.may_shut gate.now) result }
+    ensures fault { MayAskGate G.may_shut result }
 {
     let served = thread::scope(
         thread::scope_env(),
@@ -141,7 +141,7 @@ fn run_workers<D: Driver, S: Shared, R: Wait + Threads + Sync, G: Gate + Sync>(
                 × IfOk result.left (λ left. HasLeft D.given D.ended D.hears
                 S.reads S.was (map S.key accounts.entry.now) setup.entry.now (length teams.items)
                 driver.entry.now result.driver.now (map (λ team. team.items) left.items))
-                × MayAskGate (G.may_shut gate.entry.now) result.left }
+                × MayAskGate G.may_shut result.left }
         {
             let left = run_in(scope, rt, alloc, setup, accounts, teams, driver, gate);
             Served { driver, left }
@@ -175,7 +175,7 @@ fn run_in<'s, 'e, D: Driver, S: Shared, R: Wait + Threads + Sync, G: Gate + Sync
     ensures left { IfOk result (λ left. HasLeft D.given D.ended D.hears
         S.reads S.was (map S.key accounts.now) setup.now (length teams.items)
         driver.old driver.new (map (λ team. team.items) left.items)) }
-    ensures fault { MayAskGate (G.may_shut gate.now) result }
+    ensures fault { MayAskGate G.may_shut result }
 {
     let mut left = Vec::with_capacity(alloc, teams.len())?;
     let mut teams = teams.into_iter();
@@ -243,9 +243,8 @@ fn start_and_play<'s, 'e, D: Driver, S: Shared, R: Wait + Sync, G: Gate + Sync>(
     ensures played { OnOk result (HasPlayed D.given D.ended D.hears
         (number_by S.terms) S.key S.reads S.was
         setup.now accounts.now driver.old driver.new crew.new) }
-    ensures promised { ArePromised setup.now accounts.now gate.now 1
-        (promises_of crew.new.links.items) }
-    ensures fault { MayAskGate (G.may_shut gate.now) result }
+    ensures promised { ArePromised setup.now accounts.now 1 (promises_of crew.new.links.items) }
+    ensures fault { MayAskGate G.may_shut result }
     ensures failed { IfSome crew.new.failed (λ why. result ≡ Err why) }
 {
     start_all(
@@ -306,7 +305,7 @@ fn close_each<S: Shared>(
     ensures books { OnOk result (AreBooksOfSeats S.reads S.was S.stood
         (map S.terms (into_iter_items accounts.old))
         (map (λ row. row.items) (into_iter_items rows.old)) books.new.items) }
-    ensures fault { AsksNoGate result }
+    ensures fault { IfErr result (λ fault. fault ≡ RunFault.Mismatch) }
 {
     while let Some(account) = accounts.next() {
         let Some(seats) = rows.next() else {

@@ -4,7 +4,7 @@ ghost use Rattle.std.specs.Prelude.{◌≡◌, ◌<◌, ◌++◌, [], length, ma
 ghost use Rattle.std.specs.Map.{keys_of};
 ghost use Rattle.std.specs.Vec.Iter.{into_iter_items};
 ghost use Rattle.runs_core.specs.RunFaults.{AsksNoGate, MayAskGate};
-ghost use Rattle.runs_core.specs.Sending.{AreLeftBy, ArePromised, IsFirstFault, MayBeShut, heard_by, promises_of, sent_by};
+ghost use Rattle.runs_core.specs.Sending.{AreLeftBy, ArePromised, heard_by, promises_of, sent_by};
 ghost use Rattle.runs_core.specs.Teams.{AreFresh};
 ghost use Rattle.runs_core.specs.Workers.{number_by};
 
@@ -36,7 +36,7 @@ pub(crate) fn start_all<'s, 'e, S: Shared, R: Wait + Sync, G: Gate + Sync>(
     ensures count { OnOk result (length links.new.items ≡ length (into_iter_items teams.old)) }
     ensures silent { All (λ link. sent_by link ≡ []) links.new.items }
     ensures unheard { All (λ link. heard_by link ≡ []) links.new.items }
-    ensures promised { ArePromised setup.now accounts.now gate.now 1 (promises_of links.new.items) }
+    ensures promised { ArePromised setup.now accounts.now 1 (promises_of links.new.items) }
     ensures fault { AsksNoGate result }
 {
     links.reserve_exact(teams.len())?;
@@ -60,9 +60,7 @@ pub(crate) fn finish_all<S: Shared, R: Wait + Threads, G: Gate>(
         × (map (λ team. team.items) left.new.items
         ≡ map (λ team. team.items) left.old.items ++ teams)
         × AreLeftBy S.reads S.key S.was links.entry.items teams) }
-    ensures first { IfErr result (λ fault. IsFirstFault S.reads S.key S.was
-        G.may_shut links.entry.items fault) }
-    ensures fault { MayAskGate (MayBeShut G.may_shut (promises_of links.entry.items)) result }
+    ensures fault { MayAskGate G.may_shut result }
 {
     let mut fault = None;
     // A `for` takes only what can be dropped.

@@ -123,7 +123,7 @@ impl<'s, S: Shared> Worker<'s, S> {
             (λ why. (why ≡ RunFault.OutOfMemory) ⊎ (why ≡ RunFault.GateClosed)) }
         ensures memory { result ≡ Err RunFault.OutOfMemory → map S.reads.mine (seats_of self.new)
             ≡ map S.reads.mine (seats_of self.old) }
-        ensures gate { result ≡ Err RunFault.GateClosed → G.may_shut gate.now }
+        ensures gate { result ≡ Err RunFault.GateClosed → G.may_shut }
     {
         let case = judge(self.setup, &self.talks, &post);
         make_room(&mut self.talks, &case)?;

@@ -60,7 +60,6 @@ pub(crate) fn start<'s, 'e, S: Shared, R: Wait + Sync, G: Gate + Sync>(
     ensures number { IfOk result (λ link. link.child.promise.number ≡ number) }
     ensures setup { IfOk result (λ link. link.child.promise.setup.now ≡ setup.now) }
     ensures accounts { IfOk result (λ link. link.child.promise.accounts.now ≡ accounts.now) }
-    ensures gate { IfOk result (λ link. link.child.promise.gate.now ≡ gate.now) }
     ensures sent { IfOk result (λ link. sent link.outbox ≡ []) }
     ensures heard { IfOk result (λ link. taken link.inbox ≡ []) }
     ensures fault { AsksNoGate result }
@@ -88,7 +87,7 @@ pub(crate) fn start<'s, 'e, S: Shared, R: Wait + Sync, G: Gate + Sync>(
             × IsLeft S.reads S.was (map S.key accounts.entry.now)
             setup.entry.now number (items_in (taken left.inbox))
             (map answer_view (items_in (sent left.outbox))) left.seats.items)
-            × MayAskGate (G.may_shut gate.entry.now) result }
+            × MayAskGate G.may_shut result }
     { work(rt, alloc, number, setup, accounts, desk, gate) };
     match scope.spawn_with(promise, serve) {
         Ok(child) => Ok(WorkerLink {
@@ -121,34 +120,28 @@ fn mailboxes(alloc: Global) -> Result<(Mailbox<Post>, Mailbox<Answer>), AllocErr
 
 impl<S: Shared, G: Gate> WorkerLink<'_, S, G> {
     /// Sends the posts of a round to the worker, if there are any.
-    pub(crate) fn send<R: Wait>(&mut self, rt: &R, posts: Vec<Post>) -> Result<(), RunFault>
+    pub(crate) fn send<R: Wait>(&mut self, rt: &R, posts: Vec<Post>) -> Result<(), Gone>
         ensures posts { OnOk result (items_in (sent self.new.outbox)
             ≡ items_in (sent self.old.outbox) ++ posts.items) }
         ensures inbox { self.new.inbox ≡ self.old.inbox }
         ensures child { self.new.child ≡ self.old.child }
-        ensures fault { IfErr result (λ fault. fault ≡ RunFault.Channel) }
     {
         if posts.is_empty() {
             return Ok(());
         }
         let Ok(()) = self.outbox.send_mail(rt, Mail::Work(posts)) else {
-            return Err(RunFault::Channel);
+            return Err(Gone);
         };
         self.awaits = true;
         Ok(())
     }
 
     /// Waits for the answers to the round, if posts were sent.
-    pub(crate) fn hear<R: Wait>(
-        &mut self,
-        rt: &R,
-        alloc: Global,
-    ) -> Result<VecDeque<Answer>, RunFault>
+    pub(crate) fn hear<R: Wait>(&mut self, rt: &R, alloc: Global) -> Result<VecDeque<Answer>, Gone>
         ensures answers { IfOk result (λ answers. items_in (taken self.new.inbox)
             ≡ items_in (taken self.old.inbox) ++ answers.items) }
         ensures outbox { self.new.outbox ≡ self.old.outbox }
         ensures child { self.new.child ≡ self.old.child }
-        ensures fault { AsksNoGate result }
     {
         if !self.awaits {
             return Ok(VecDeque::new(alloc));
@@ -156,7 +149,7 @@ impl<S: Shared, G: Gate> WorkerLink<'_, S, G> {
         self.awaits = false;
         match self.inbox.take_mail(rt) {
             Ok(Mail::Work(answers)) => Ok(VecDeque::from_vec(answers)),
-            _ => Err(RunFault::Channel),
+            _ => Err(Gone),
         }
     }
 
@@ -174,7 +167,7 @@ impl<S: Shared, G: Gate> WorkerLink<'_, S, G> {
             self.entry.child.promise.setup.now self.entry.child.promise.number
             (items_in (sent self.entry.outbox))
             (map answer_view (items_in (taken self.entry.inbox))) team) }
-        ensures fault { MayAskGate (G.may_shut self.entry.child.promise.gate.now) result }
+        ensures fault { MayAskGate G.may_shut result }
     {
         let WorkerLink {
             mut outbox,
@@ -212,12 +205,11 @@ fn compare_all<R: Wait>(
     posts: Inbox<Vec<Post>>,
     answers: Outbox<Vec<Answer>>,
     mut inbox: Inbox<Vec<Answer>>,
-) -> Result<(), RunFault>
+) -> Result<(), Gone>
     requires posts { ArePaired outbox posts }
     requires answers { ArePaired answers inbox }
     ensures posts { has_close (taken posts) ≡ true → taken posts ≡ sent outbox }
     ensures answers { OnOk result (sent answers ≡ taken inbox ++ mail.Close ∷ []) }
-    ensures fault { AsksNoGate result }
 {
     compare_ends(outbox, posts);
     let last = take_last(rt, &mut inbox);
@@ -226,14 +218,13 @@ fn compare_all<R: Wait>(
 }
 
 /// Takes the last mail: no answers are left before it.
-fn take_last<R: Wait>(rt: &R, inbox: &mut Inbox<Vec<Answer>>) -> Result<(), RunFault>
+fn take_last<R: Wait>(rt: &R, inbox: &mut Inbox<Vec<Answer>>) -> Result<(), Gone>
     ensures same { IsSameInbox inbox.old inbox.new }
     ensures last { OnOk result (taken inbox.new ≡ taken inbox.old ++ mail.Close ∷ []) }
-    ensures fault { AsksNoGate result }
 {
     match inbox.take_mail(rt) {
         Ok(Mail::Close) => Ok(()),
-        _ => Err(RunFault::Channel),
+        _ => Err(Gone),
     }
 }
 
@@ -257,7 +248,7 @@ fn work<S: Shared, R: Wait, G: Gate>(
     ensures left { IfOk result (λ left. IsLeft S.reads S.was
         (map S.key accounts.now) setup.now number (items_in (taken left.inbox))
         (map answer_view (items_in (sent left.outbox))) left.seats.items) }
-    ensures fault { MayAskGate (G.may_shut gate.now) result }
+    ensures fault { MayAskGate G.may_shut result }
 {
     let Desk {
         seats,
@@ -310,7 +301,7 @@ fn serve_posts<S: Shared, R: Wait, G: Gate>(
     ensures left { IfOk result (λ seats. IsLeft S.reads S.was
         (map S.key accounts.now) setup.now number (items_in (taken inbox.new))
         (map answer_view (items_in (sent outbox.new))) seats.items) }
-    ensures fault { MayAskGate (G.may_shut gate.now) result }
+    ensures fault { MayAskGate G.may_shut result }
 {
     let mut worker = Worker::new(alloc, number, setup, accounts, seats);
     answer_rounds(rt, alloc, &mut worker, inbox, outbox, gate)?;
@@ -335,7 +326,7 @@ fn answer_rounds<S: Shared, R: Wait, G: Gate>(
     ensures closed { OnOk result (has_close (taken inbox.new) ≡ true) }
     ensures goes_on { OnOk result (GoesOn (number_by S.terms) S.key S.reads S.was worker.old
         (items_in (taken inbox.new)) (map answer_view (items_in (sent outbox.new))) worker.new) }
-    ensures fault { MayAskGate (G.may_shut gate.now) result }
+    ensures fault { MayAskGate G.may_shut result }
 {
     for _ in rt.forever() {
         match inbox.take_mail(rt) {
@@ -362,7 +353,7 @@ fn answer_posts<S: Shared, R: Wait, G: Gate>(
         × (items_in (sent outbox.new) ≡ items_in (sent outbox.old) ++ answers)
         × GoesOn (number_by S.terms) S.key S.reads S.was
         worker.old posts.items (map answer_view answers) worker.new) }
-    ensures fault { MayAskGate (G.may_shut gate.now) result }
+    ensures fault { MayAskGate G.may_shut result }
 {
     let answers = answer_all(rt, alloc, worker, posts, gate)?;
     let Ok(()) = outbox.send_mail(rt, Mail::Work(answers)) else {

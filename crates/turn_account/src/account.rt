@@ -134,7 +134,7 @@ impl TurnAccount {
             (λ _. own_of seat.new ≡ own_of seat.old) }
         ensures refused { IfErr result (λ fault. (fault ≡ AccountFault.GateClosed)
             ⊎ IsRefusal seat.new.view (asked_of op) fault) }
-        ensures gate { result ≡ Err AccountFault.GateClosed → G.may_shut gate.now }
+        ensures gate { result ≡ Err AccountFault.GateClosed → G.may_shut }
         ensures owed { IsOwed (reverse seat.new.view.history) (asked_of op)
             → IfErr result (λ fault. fault ≡ AccountFault.GateClosed) }
     {
@@ -216,7 +216,7 @@ fn ask_and_count<G: Gate>(
     ensures kept { OnErr result (chair.new.me.0 ≡ chair.old.me.0) }
     ensures refused { IfErr result (λ fault. (fault ≡ AccountFault.GateClosed)
         ⊎ IsRefusal chair.old.me.0.seen (asked_of op) fault) }
-    ensures gate { result ≡ Err AccountFault.GateClosed → G.may_shut gate.now }
+    ensures gate { result ≡ Err AccountFault.GateClosed → G.may_shut }
     ensures owed { IsOwed (reverse chair.old.me.0.seen.history) (asked_of op)
         → IfErr result (λ fault. fault ≡ AccountFault.GateClosed) }
 {

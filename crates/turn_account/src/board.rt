@@ -1,7 +1,7 @@
 //! The board of a turn account: its words, the slot that the account lies in, and the rule that
 //! holds of them between any two steps.
 
-ghost use Rattle.std.specs.Prelude.{◌≡◌, ◌≤◌, ◌+◌, ◌++◌, ◌∷◌, [], None, length, IfOk, IfErr};
+ghost use Rattle.std.specs.Prelude.{◌≡◌, ◌≤◌, ◌+◌, ◌++◌, ◌∷◌, [], None, length, IfOk};
 ghost use Rattle.turn_account.specs.Ended.{IsClosedAs};
 ghost use Rattle.turn_account.specs.Plays.{appended, compared, issued, handed, looked};
 ghost use Rattle.turn_account.specs.Views.{hearing, next_seat, note_of, one_seat_more, spent_note, first_view, taking_in};
@@ -11,10 +11,10 @@ ghost use Rattle.account_core.specs.Asked.{Credits};
 ghost use Rattle.account_core.specs.Entries.{EntryData};
 ghost use Rattle.account_core.specs.declared.entry.Reply.TheVariants as reply;
 
-use account_core::{Account, AccountFault};
+use account_core::Account;
 use atomic_table::{Join, Play, Refused, Split, TableRule};
 use price_core::MAX_MONEY;
-use std::alloc::Global;
+use std::alloc::{AllocError, Global};
 use std::collections::LinkedList;
 use std::marker::{Brand, PhantomData};
 
@@ -176,8 +176,8 @@ impl Join<View> for TakeIn {
     ghost spent = { spent_note };
 }
 
-/// A board with a new account in its slot, and its first chair. A fault is `OutOfMemory`.
-pub fn lay_board(alloc: Global, start: Start) -> Result<(Board, Chair), AccountFault>
+/// A board with a new account in its slot, and its first chair.
+pub fn lay_board(alloc: Global, start: Start) -> Result<(Board, Chair), AllocError>
     requires opening { start.opening ≤ MAX_MONEY }
     requires some_seats { 1 ≤ start.seats }
     requires few_seats { start.seats ≤ 16 }
@@ -187,14 +187,13 @@ pub fn lay_board(alloc: Global, start: Start) -> Result<(Board, Chair), AccountF
     ensures table { IfOk result (λ made. made.1.table_id ≡ made.0.shared.table_id) }
     ensures first { IfOk result (λ made. made.1.me
         ≡ (first_view start.opening start.until start.limit, [])) }
-    ensures refused { IfErr result (λ fault. fault ≡ AccountFault.OutOfMemory) }
 {
     let mut slots = Vec::with_capacity(alloc, 1)?;
     let account = Account::new(alloc, start.opening, start.until, start.limit);
     slots.push_reserved(Some(account));
     match Board::new(alloc, &[0, 0, 0], slots, &start) {
         Ok(made) => Ok(made),
-        Err(Refused { slots: _ }) => Err(AccountFault::OutOfMemory),
+        Err(Refused { slots: _ }) => Err(AllocError),
     }
 }
 

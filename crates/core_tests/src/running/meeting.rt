@@ -53,7 +53,7 @@ pub(crate) fn is_soon(flag: &AtomicBool) -> bool {
 }
 
 impl Gate for Meeting {
-    ghost may_shut = { λ _. Unit {0} };
+    ghost may_shut = { Unit {0} };
 
     fn before(&self, _worker: u32, call: u64) -> bool {
         self.of != Of::Calls || self.meet(call)

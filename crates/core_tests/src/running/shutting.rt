@@ -55,7 +55,7 @@ impl Shutting {
 }
 
 impl Gate for Shutting {
-    ghost may_shut = { λ _. Unit {0} };
+    ghost may_shut = { Unit {0} };
 
     fn before(&self, _worker: u32, _call: u64) -> bool {
         self.before.is_open()
@@ -102,7 +102,7 @@ impl Holding {
 }
 
 impl Gate for Holding {
-    ghost may_shut = { λ _. Unit {0} };
+    ghost may_shut = { Unit {0} };
 
     fn before(&self, _worker: u32, call: u64) -> bool {
         if call != self.refuses {

@@ -22,7 +22,7 @@ struct Door {
 }
 
 impl Gate for Door {
-    ghost may_shut = { λ _. Unit {0} };
+    ghost may_shut = { Unit {0} };
 
     fn before(&self, _worker: u32, _call: u64) -> bool {
         true

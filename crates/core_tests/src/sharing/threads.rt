@@ -46,7 +46,7 @@ impl Holds {
 }
 
 impl Gate for Holds {
-    ghost may_shut = { λ _. Unit {0} };
+    ghost may_shut = { Unit {0} };
 
     fn before(&self, _worker: u32, call: u64) -> bool {
         call != self.before || self.waits()
@@ -98,7 +98,7 @@ pub(crate) fn wait_for_two(count: &AtomicU64) {
 }
 
 impl Gate for OneInside {
-    ghost may_shut = { λ _. Unit {0} };
+    ghost may_shut = { Unit {0} };
 
     fn before(&self, _worker: u32, _call: u64) -> bool {
         self.asking.fetch_add(1, Ordering::SeqCst);

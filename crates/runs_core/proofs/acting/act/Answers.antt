@@ -8,7 +8,7 @@ use Rattle.dialogue_core.specs.Talks.{is_ask, orders_sent_by}
 use Rattle.runs_core.specs.Handled.{answer_view}
 use Rattle.runs_core.specs.Workers.{standings_in}
 use Rattle.runs_core.proofs.CaseLemmas.{as_many, grown_at, mine_at, numbered_at, on_ok, own_account, recharged_by, same_seats, stands_now, talked_by, was_at, was_there}
-use Rattle.runs_core.proofs.Talking.{calls_for, fault_answer, right_known, rights_known, so_ended, spoken, spoken_out}
+use Rattle.runs_core.proofs.Talking.{calls_for, fault_answer, right_known, rights_known, so_ended, spoken_out}
 use Rattle.runs_core.specs.Refusals.{WasAt}
 use Rattle.account_core.specs.Refusals.{IsRefusedAt}
 use Rattle.std.specs.Prelude.{slice_index_or, slice_set}
@@ -67,12 +67,12 @@ returns-in-Recharge-clause-acted g c =
 
 pub returns-in_ok-instructions-in-Talk-clause-same_keys : goal.returns-in_ok-instructions-in-Talk-clause-same_keys
 returns-in_ok-instructions-in-Talk-clause-same_keys g c =
-    same_seats g.S.Shared.reads.key c.args.seats.now.items c.in-Talk.talk.place c.index_mut-in-Talk.result.now c.converse.new.way c.index_mut-in-Talk.ensures.value (spoken_out _ _ g.S.Shared.reads g.S.Shared.was g.S.Shared.calls _ _ _ _ _ c.in_ok-instructions-in-Talk.ensures.talks refl).same_key
+    same_seats g.S.Shared.reads.key c.args.seats.now.items c.in-Talk.talk.place c.index_mut-in-Talk.result.now c.converse.new.way c.index_mut-in-Talk.ensures.value (spoken_out _ g.S.Shared.reads g.S.Shared.was g.S.Shared.calls _ _ _ _ _ c.in_ok-instructions-in-Talk.ensures.talks refl).same_key
 
 pub returns-in_ok-instructions-in-Talk-clause-same_numbers :
     goal.returns-in_ok-instructions-in-Talk-clause-same_numbers
 returns-in_ok-instructions-in-Talk-clause-same_numbers g c =
-    same_seats g.S.Shared.reads.number c.args.seats.now.items c.in-Talk.talk.place c.index_mut-in-Talk.result.now c.converse.new.way c.index_mut-in-Talk.ensures.value (spoken_out _ _ g.S.Shared.reads g.S.Shared.was g.S.Shared.calls _ _ _ _ _ c.in_ok-instructions-in-Talk.ensures.talks refl).same_number
+    same_seats g.S.Shared.reads.number c.args.seats.now.items c.in-Talk.talk.place c.index_mut-in-Talk.result.now c.converse.new.way c.index_mut-in-Talk.ensures.value (spoken_out _ g.S.Shared.reads g.S.Shared.was g.S.Shared.calls _ _ _ _ _ c.in_ok-instructions-in-Talk.ensures.talks refl).same_number
 
 pub returns-in_ok-instructions-in-Talk-clause-acted : goal.returns-in_ok-instructions-in-Talk-clause-acted
 returns-in_ok-instructions-in-Talk-clause-acted g c =
@@ -84,7 +84,7 @@ returns-in_ok-instructions-in-Talk-clause-acted g c =
     talked_by (IsRefusedAt (g.S.Shared.was c.converse.new.way)) (map g.S.Shared.reads.number c.args.seats.now.items) c.in-Talk.call c.in-Talk.talk.place (g.S.Shared.reads.number c.index_mut-in-Talk.result.now)
     (says_of c.in-Talk.turn, phase_of c.in-Talk.talk.dialogue) (phase_of c.converse.new.dialogue) _ _ (standings_in c.args.talks.now) (standings_in c.keep.new.talks)
     (g.S.Shared.reads.mine c.index_mut-in-Talk.result.now) (g.S.Shared.reads.mine c.converse.new.way) (orders_in c.in_ok-instructions-in-Talk.instructions) c.converse.new.asker.refused _
-    (so_ended _ _ _ _ _ talk.last _ _ _ (spoken_out _ _ g.S.Shared.reads g.S.Shared.was g.S.Shared.calls _ _ _ _ _ talk refl).so_far talk.rests talk.sends)
+    (so_ended _ _ _ _ _ talk.last _ _ _ (spoken_out _ g.S.Shared.reads g.S.Shared.was g.S.Shared.calls _ _ _ _ _ talk refl).so_far talk.rests talk.sends)
     (numbered_at g.S.Shared.reads.number c.args.seats.now.items c.in-Talk.talk.place c.index_mut-in-Talk.result.now there c.index_mut-in-Talk.ensures.value)
     (mine_at g.S.Shared.reads.mine c.args.seats.now.items c.in-Talk.talk.place c.index_mut-in-Talk.result.now there c.index_mut-in-Talk.ensures.value)
     (λ entries. grown_at g.S.Shared.reads.mine c.args.seats.now.items c.in-Talk.talk.place c.index_mut-in-Talk.result.now c.converse.new.way entries there c.index_mut-in-Talk.ensures.value)
@@ -108,12 +108,10 @@ pub returns-in_ok-instructions-in-Talk-clause-was : goal.returns-in_ok-instructi
 returns-in_ok-instructions-in-Talk-clause-was g c =
     let there : c.in-Talk.talk.place < length c.args.seats.now.items =
     rw (as_many g.S.Shared.reads.key g.S.Shared.key c.args.seats.now.items c.args.accounts.now c.requires.keys) (rw c.in-Talk.is at c.requires.within) in
-    was_at g.S.Shared.was c.args.seats.now.items c.in-Talk.talk.place c.index_mut-in-Talk.result.now c.converse.new.way there c.index_mut-in-Talk.ensures.value (spoken_out _ _ g.S.Shared.reads g.S.Shared.was g.S.Shared.calls _ _ _ _ _ c.in_ok-instructions-in-Talk.ensures.talks refl).still
+    was_at g.S.Shared.was c.args.seats.now.items c.in-Talk.talk.place c.index_mut-in-Talk.result.now c.converse.new.way there c.index_mut-in-Talk.ensures.value (spoken_out _ g.S.Shared.reads g.S.Shared.was g.S.Shared.calls _ _ _ _ _ c.in_ok-instructions-in-Talk.ensures.talks refl).still
 
 pub returns-in_err-instructions-in-Talk-clause-gate : goal.returns-in_err-instructions-in-Talk-clause-gate
-returns-in_err-instructions-in-Talk-clause-gate g c = λ shut.
-    let cut = c.in_err-instructions-in-Talk.ensures.cut_off in
-    rw (spoken _ _ g.S.Shared.reads g.S.Shared.was g.S.Shared.calls _ _ cut.gots cut.between cut.are_got refl).same_gate at cut.ends.1
+returns-in_err-instructions-in-Talk-clause-gate g c = λ _. c.in_err-instructions-in-Talk.ensures.cut_off.ends
 
 pub returns-in-Recharge-clause-called : goal.returns-in-Recharge-clause-called
 returns-in-Recharge-clause-called g c =
@@ -138,9 +136,9 @@ returns-in_ok-instructions-in-Talk-clause-called g c =
       only = refl;
       goes = record {
         gots = talk.gots;
-        called = calls_for _ _ g.S.Shared.reads g.S.Shared.was g.S.Shared.calls _ _ talk.gots _ talk.are_got;
+        called = calls_for _ g.S.Shared.reads g.S.Shared.was g.S.Shared.calls _ _ talk.gots _ talk.are_got;
         rests = ap (λ said. is_ask said.0) talk.talks ∙ talk.rests;
         orders = talk.sends ∙ ap (λ said. orders_sent_by said.0) (sym talk.talks);
-        refused = fault_answer _ _ g.S.Shared.reads g.S.Shared.was g.S.Shared.calls _ _ talk.gots _ talk.are_got refl;
+        refused = fault_answer _ g.S.Shared.reads g.S.Shared.was g.S.Shared.calls _ _ talk.gots _ talk.are_got refl;
       };
     })

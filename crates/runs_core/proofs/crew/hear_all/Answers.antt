@@ -1,13 +1,13 @@
-use Rattle.std.proofs.Common.{◌≡◌, ◌≤◌, ◌<◌, ℕ, ◌+◌, List, Some, ap, arith, length, map, refl, sym, ◌∙◌}
+use Rattle.std.proofs.Common.{◌≡◌, ◌≤◌, ◌<◌, ℕ, ◌+◌, List, ap, arith, length, map, refl, sym, ◌∙◌}
 use Rattle.std.proofs.Math.ListN.{get_or, set}
 use Rattle.std.proofs.Math.Seq.{map-set_same}
 use Rattle.std.proofs.lemmas.List.{length-set}
+use Rattle.std.proofs.lemmas.Result.{on_ok_weaker}
 use Rattle.std.specs.Vec.{vec_len}
 use Rattle.runs_core.specs.Ends.{sent}
 use Rattle.runs_core.specs.Mails.{items_in}
 use Rattle.runs_core.specs.Sending.{heard_by, promises_of, sent_by}
 use Rattle.runs_core.specs.declared.worker_link.WorkerLink.{WorkerLink}
-use Rattle.runs_core.proofs.Finishing.{err_named, or_some, own_or}
 use Rattle.runs_core.proofs.HearingLemmas.{none_heard, one_heard}
 use Rattle.runs_core.proofs.crew.hear_all.Goals as goal
 use Rattle.runs_core.proofs.crew.hear_all.Goals.{in-Err, in-Ok}
@@ -39,7 +39,7 @@ one_kept old links at link heard is outbox child many posts promises = (
 pub loop-at-init : goal.loop-at-init
 loop-at-init g c =
     let none = none_heard heard_by (λ queue. queue.items) _ _ _ refl c.requires.none in
-    (refl, refl, refl, (λ never. absurd (cc)), (λ never. absurd (cc)), (λ _. none), none_long _ _ c.args.queues.now.ok.0 (ap length c.requires.none), refl)
+    (refl, refl, refl, none, none_long _ _ c.args.queues.now.ok.0 (ap length c.requires.none), refl)
 
 pub loop-at-preserved : goal.loop-at-preserved
 loop-at-preserved g c =
@@ -53,20 +53,15 @@ loop-at-preserved g c =
       | in-Ok w ↦
           let all = c.args.links.now in
           let below = below_all c.loop-at.at c.len-at-end.result (vec_len all) (length links) c.loop-at-test.true c.len-at-end.ensures (all.ok.0 ∙ sym before.0) in
-          rw (w.queues-is, w.fault-is) (
+          rw (w.queues-is, w.heard-is) (
             kept.0,
             kept.1,
             kept.2,
-            before.3,
-            before.4,
-            λ none. one_heard heard_by (λ queue. queue.items) c.args.links.now.items c.loop-at.at links c.loop-at.queues.items w.push_reserved.new.self.items w.in-Ok.queue link heard
-                before.0 below is (before.5 none) w.in-Ok.ensures.answers w.push_reserved.ensures.items,
-            one_longer (vec_len c.loop-at.queues) (vec_len w.push_reserved.new.self) c.loop-at.at before.6 w.push_reserved.ensures.len,
-            w.push_reserved.ensures.capacity ∙ before.7,
+            on_ok_weaker c.loop-at.heard (λ heard_before. one_heard heard_by (λ queue. queue.items) c.args.links.now.items c.loop-at.at links c.loop-at.queues.items w.push_reserved.new.self.items w.in-Ok.queue link heard
+                before.0 below is heard_before w.in-Ok.ensures.answers w.push_reserved.ensures.items) before.3,
+            one_longer (vec_len c.loop-at.queues) (vec_len w.push_reserved.new.self) c.loop-at.at before.4 w.push_reserved.ensures.len,
+            w.push_reserved.ensures.capacity ∙ before.5,
           )
       | in-Err w ↦
-          let named = err_named c.hear.result w.in-Err.why w.in-Err.is c.hear.ensures.fault.0 c.hear.ensures.fault.1 in
-          let fault = own_or c.loop-at.fault (Some w.in-Err.why) before.3 before.4 named.0 named.1 in
-          rw (w.queues-is, w.fault-is, w.or-fault.ensures)
-          (kept.0, kept.1, kept.2, fault.0, fault.1, λ none. absurd (or_some c.loop-at.fault w.in-Err.why none), no_longer (vec_len c.loop-at.queues) c.loop-at.at before.6, before.7)
+          rw (w.queues-is, w.heard-is) (kept.0, kept.1, kept.2, tt, no_longer (vec_len c.loop-at.queues) c.loop-at.at before.4, before.5)
     ]

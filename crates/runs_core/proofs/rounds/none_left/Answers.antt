@@ -10,6 +10,6 @@ loop-queue-preserved c =
     let empty : queue.items ≡ [] = nil_from_length queue.items (search rules) in
     All-more (λ queue. queue.items ≡ []) c.args.queues.now c.loop-queue.queue-index queue (omega (arith, c.loop-queue-test.true)) c.loop-queue.invariant (ap (λ queue. queue.items) (sym c.queue-item.is) ∙ empty)
 
-pub returns-clause-none : goal.returns-clause-none
-returns-clause-none c =
+pub returns : goal.returns
+returns c = λ _.
     subst (λ queues. All (λ queue. queue.items ≡ []) queues) (take_all c.loop-queue.queue-index c.args.queues.now (omega (arith, c.loop-queue-test.false))) c.loop-queue.invariant

@@ -1,8 +1,9 @@
 use Rattle.std.proofs.Common.{◌≡◌, ◌+◌, ◌∷◌, arith, ap, length, map, rules}
 use Rattle.std.specs.Vec.Iter.{into_iter_items}
 use Rattle.std.proofs.lemmas.List.{length-map}
+use Rattle.std.proofs.lemmas.Result.{on_ok_weaker}
 use Rattle.runs_core.proofs.Finishing.{none_failed}
-use Rattle.runs_core.proofs.RoundLemmas.{on_ok, same_count}
+use Rattle.runs_core.proofs.RoundLemmas.{same_count}
 use Rattle.runs_core.specs.Crews.{count_of}
 use Rattle.runs_core.proofs.rounds.serve_round.Goals as goal
 
@@ -13,8 +14,7 @@ returns-clause-served g c =
     let split : c.in_ok-shares.shares.items ≡ c.in-Some.mine ∷ into_iter_items c.next.new.self = search rules in
     let workers : c.len.result + 1 ≡ count_of c.args.crew.now = omega (arith, c.len.ensures, c.args.crew.now.links.ok) in
     let many : length queues ≡ count_of c.args.crew.now = omega (arith, ap length are, length-map queues (λ queue. queue.items), as_many) in
-    on_ok c.merge.result _ _ c.merge.ensures.answers
-    (λ merged. record {
+    on_ok_weaker c.merge.result (λ merged. record {
       own = c.in-Some.mine.items;
       others = map (λ share. share.items) (into_iter_items c.next.new.self);
       are_shares = rw (workers, split) at c.in_ok-shares.ensures.shares;
@@ -26,6 +26,7 @@ returns-clause-served g c =
       are_answers = rw (are, many) at merged;
       count = ap (λ n. n + 1) (same_count _ _ c.in_ok-queues.ensures.promises);
     })
+    c.merge.ensures.answers
 
 pub merge-requires-clause-some : goal.merge-requires-clause-some
 merge-requires-clause-some g c =

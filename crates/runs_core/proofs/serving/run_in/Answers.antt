@@ -1,5 +1,4 @@
 use Rattle.std.proofs.Common.{◌≡◌, ◌++◌, ◌∷◌, [], ℕ, ◌+◌, ap, arith, length, map, suc, sym, ◌∙◌}
-use Rattle.runs_core.proofs.Finishing.{shut_by}
 use Rattle.runs_core.proofs.FirstFaults.{finished_well, gate_of, passed_on, ran_well}
 use Rattle.runs_core.proofs.Teaming.{first_fresh}
 use Rattle.runs_core.proofs.WorkerLemmas.{begins}
@@ -19,11 +18,9 @@ start_and_play-ran-requires-clause-first g c = λ _ _.
 
 pub returns-in_err-first_fault-clause-fault : goal.returns-in_err-first_fault-clause-fault
 returns-in_err-first_fault-clause-fault g c =
-    let other = c.finish_all-finished.ensures.fault in
-    let whole = gate_of (g.G.Gate.may_shut c.args.gate.now) c.start_and_play-ran.new.crew.failed c.finish_all-finished.result c.start_and_play-ran.result
-    (λ closed. shut_by g.G.Gate.may_shut c.args.setup.now c.args.accounts.now c.args.gate.now 1 _ c.start_and_play-ran.ensures.promised (other.0 closed), other.1)
-    c.start_and_play-ran.ensures.fault c.start_and_play-ran.ensures.failed in
-    passed_on (g.G.Gate.may_shut c.args.gate.now) _ c.in_err-first_fault.field-0.0 c.from_residual-in_err-first_fault.result
+    let whole = gate_of g.G.Gate.may_shut c.start_and_play-ran.new.crew.failed c.finish_all-finished.result c.start_and_play-ran.result
+    c.finish_all-finished.ensures.fault c.start_and_play-ran.ensures.fault c.start_and_play-ran.ensures.failed in
+    passed_on g.G.Gate.may_shut _ c.in_err-first_fault.field-0.0 c.from_residual-in_err-first_fault.result
     (sym c.first_fault.ensures.exact ∙ c.in_err-first_fault.was) c.from_residual-in_err-first_fault.ensures.1 whole
 
 counted : (many rest all : ℕ) → many ≡ rest → all ≡ suc rest → many + 1 ≡ all
@@ -40,7 +37,7 @@ returns-clause-left g c =
     let teams = sym c.into_iter-teams.ensures.rest ∙ c.in-Some.ensures.items in
     let many = counted _ _ _ (rw ran at c.start_and_play-ran.ensures.count) (ap length teams) in
     rw (all)
-    (has_left g.D.Driver.given g.D.Driver.ended g.D.Driver.hears (number_by g.S.Shared.terms) g.S.Shared.key g.S.Shared.reads g.S.Shared.was c.args.setup.now c.args.accounts.now c.args.gate.now
+    (has_left g.D.Driver.given g.D.Driver.ended g.D.Driver.hears (number_by g.S.Shared.terms) g.S.Shared.key g.S.Shared.reads g.S.Shared.was c.args.setup.now c.args.accounts.now
     _ _ _ c.finish.result.items by.0 _ (rw ran at c.start_and_play-ran.ensures.played) c.finish.ensures c.start_and_play-ran.ensures.promised by.2 many)
 
 pub push_reserved-requires : goal.push_reserved-requires

@@ -1,5 +1,6 @@
 use Rattle.std.proofs.Common.{rules, ◌∙◌}
-use Rattle.runs_core.proofs.RoundLemmas.{none_served_by, on_ok, played_by, same_count}
+use Rattle.std.proofs.lemmas.Result.{on_ok_weaker}
+use Rattle.runs_core.proofs.RoundLemmas.{none_served_by, played_by, same_count}
 use Rattle.runs_core.proofs.serving.start_and_play.Goals as goal
 use Rattle.runs_core.specs.Workers.{number_by}
 
@@ -9,9 +10,9 @@ play-requires-clause-served g c = λ _ _.
 
 pub returns-clause-played : goal.returns-clause-played
 returns-clause-played g c =
-    on_ok c.play.result _ _ c.play.ensures.played
-    (played_by g.D.Driver.given g.D.Driver.ended g.D.Driver.hears (number_by g.S.Shared.terms) g.S.Shared.key g.S.Shared.reads g.S.Shared.was c.args.setup.now c.args.accounts.now c.args.crew.now.worker _ _ _ c.requires.first)
+    on_ok_weaker c.play.result
+    (played_by g.D.Driver.given g.D.Driver.ended g.D.Driver.hears (number_by g.S.Shared.terms) g.S.Shared.key g.S.Shared.reads g.S.Shared.was c.args.setup.now c.args.accounts.now c.args.crew.now.worker _ _ _ c.requires.first) c.play.ensures.played
 
 pub returns-clause-count : goal.returns-clause-count
 returns-clause-count g c =
-    on_ok c.play.result _ _ c.play.ensures.ended (λ _. same_count _ _ c.play.ensures.promises ∙ c.in_ok-start_all.ensures.count)
+    on_ok_weaker c.play.result (λ _. same_count _ _ c.play.ensures.promises ∙ c.in_ok-start_all.ensures.count) c.play.ensures.ended

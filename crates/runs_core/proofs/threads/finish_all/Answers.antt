@@ -1,8 +1,7 @@
 use Rattle.std.proofs.Common.{◌≡◌, arith, length, map, rules, subst}
-use Rattle.std.specs.Prelude.{IfSome}
 use Rattle.std.specs.Vec.Iter.{into_iter_items}
 use Rattle.runs_core.proofs.Finishing.{all_finished, none_finished, one_failed, one_finished}
-use Rattle.runs_core.specs.Sending.{AreLeftBy, IsFirstFault, MayBeShut, promises_of}
+use Rattle.runs_core.specs.Sending.{AreLeftBy}
 use Rattle.runs_core.proofs.threads.finish_all.Goals as goal
 
 pub loop-link-init : goal.loop-link-init
@@ -28,13 +27,4 @@ returns-in-None-clause-left g c =
     (by.0, by.1, subst (λ links. AreLeftBy g.S.Shared.reads g.S.Shared.key g.S.Shared.was links by.0) (all_finished _ _ _ _ _ _ _ _ _ none c.loop-link.invariant) by.2)
 
 pub returns-in-Some-fault-clause-fault : goal.returns-in-Some-fault-clause-fault
-returns-in-Some-fault-clause-fault g c =
-    let none : length (into_iter_items c.loop-link.links) ≡ 0 = omega (arith, c.in_default.ensures.cases.0, c.loop-link.links.rest.ok) in (
-      λ closed. subst (λ links. MayBeShut g.G.Gate.may_shut (promises_of links)) (all_finished _ _ _ _ _ _ _ _ _ none c.loop-link.invariant) (c.loop-link.invariant.shut (cc)),
-      λ is. c.loop-link.invariant.workers (cc),
-    )
-
-pub returns-in-Some-fault-clause-first : goal.returns-in-Some-fault-clause-first
-returns-in-Some-fault-clause-first g c =
-    subst (λ found. IfSome found (λ why. IsFirstFault g.S.Shared.reads g.S.Shared.key g.S.Shared.was g.G.Gate.may_shut c.args.links.items why))
-    c.in-Some-fault.is c.loop-link.invariant.first
+returns-in-Some-fault-clause-fault g c = (λ closed. c.loop-link.invariant.shut (cc), λ is. c.loop-link.invariant.workers (cc))

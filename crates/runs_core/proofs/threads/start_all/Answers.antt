@@ -56,11 +56,10 @@ loop-team-preserved g c =
       fresh.1,
       All-push (λ link. sent_by link ≡ []) links link before.3 (ap items_in c.in_ok-link.ensures.sent),
       rw (map-append (λ link. link.child.promise) links (link ∷ []))
-          (promised_more c.args.setup.now c.args.accounts.now c.args.gate.now 1 promised link.child.promise before.4
+          (promised_more c.args.setup.now c.args.accounts.now 1 promised link.child.promise before.4
           (record {
             setup_is = c.in_ok-link.ensures.setup;
             accounts_are = c.in_ok-link.ensures.accounts;
-            gate_is = c.in_ok-link.ensures.gate;
             number_is = c.in_ok-link.ensures.number ∙ number_after (length links) c.loop-team.number (length promised) before.0 (length-map links (λ link. link.child.promise));
           })),
       All-push (λ link. heard_by link ≡ []) links link before.5 (ap items_in c.in_ok-link.ensures.heard),

@@ -12,7 +12,7 @@ invariant-loop-team g l =
     × (l.number + length (into_iter_items l.teams) ≡ length (into_iter_items l.fn.teams) + 1)
     × AreFresh g.S.Shared.reads (map g.S.Shared.key l.accounts) l.number (map (λ team. team.items) (into_iter_items l.teams))
     × All (λ link. sent_by link ≡ []) l.links.items
-    × ArePromised l.setup l.accounts l.gate 1 (promises_of l.links.items)
+    × ArePromised l.setup l.accounts 1 (promises_of l.links.items)
     × All (λ link. heard_by link ≡ []) l.links.items
     × (vec_len l.links + length (into_iter_items l.teams) ≤ vec_capacity l.links)
 
