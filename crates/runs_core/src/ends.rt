@@ -60,7 +60,7 @@ fn is_close<T>(mail: &Mail<T>) -> bool
     }
 }
 
-/// The other end of a mailbox is gone: no mail was sent, or none is left to be taken.
+/// The other end of a mailbox is gone, or its next mail is another one than is due.
 #[derive(Clone, Copy)]
 pub(crate) struct Gone;
 
