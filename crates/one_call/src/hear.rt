@@ -1,6 +1,6 @@
 //! What the gsmSSF sends, heard by the service.
 
-ghost use Rattle.std.specs.Prelude.{◌≡◌, ◌++◌, ℕ, List, IfOk};
+ghost use Rattle.std.specs.Prelude.{◌≡◌, ◌++◌, ℕ, List, OnOk};
 ghost use Rattle.cap_values.specs.Orders.{Period, orders_in, periods_in};
 ghost use Rattle.dialogue_core.specs.Views.{phase_of};
 ghost use Rattle.ssf_core.specs.Meters.{Meter, RunsThrough, MetersItem};
@@ -64,9 +64,9 @@ fn hear_one<P: Port>(
         → IsAtRest call meter (handed ++ queued_in deliveries.old.items)
         (P.state port.old call) (phase_of dialogue.old)
         → MetersItem meter now out.item after
-        → IfOk result (λ _. IsAtRest call after (handed ++ queued_in deliveries.new.items)
+        → OnOk result (IsAtRest call after (handed ++ queued_in deliveries.new.items)
         (P.state port.new call) (phase_of dialogue.new)) }
-    ensures sent { IfOk result (λ _. AreSent due to deliveries.old.items deliveries.new.items) }
+    ensures sent { OnOk result (AreSent due to deliveries.old.items deliveries.new.items) }
 {
     match out.item {
         Item::Msg(message) => {
@@ -93,14 +93,14 @@ pub(crate) fn hear_all<P: Port>(
         → IsAtRest call meter (handed ++ queued_in deliveries.old.items)
         (P.state port.old call) (phase_of dialogue.old)
         → RunsThrough handed meter sent.now after
-        → IfOk result (λ _. counts.new.forfeits ≡ counts.old.forfeits) }
+        → OnOk result (counts.new.forfeits ≡ counts.old.forfeits) }
     ensures rests { (call : ℕ) (meter after : Meter) (handed : List Period)
         → IsAtRest call meter (handed ++ queued_in deliveries.old.items)
         (P.state port.old call) (phase_of dialogue.old)
         → RunsThrough handed meter sent.now after
-        → IfOk result (λ _. IsAtRest call after (queued_in deliveries.new.items)
+        → OnOk result (IsAtRest call after (queued_in deliveries.new.items)
         (P.state port.new call) (phase_of dialogue.new)) }
-    ensures sent { IfOk result (λ _. AreSent due to deliveries.old.items deliveries.new.items) }
+    ensures sent { OnOk result (AreSent due to deliveries.old.items deliveries.new.items) }
 {
     for out in sent {
         hear_one(port, dialogue, counts, deliveries, due, to, *out)?;
