@@ -21,8 +21,8 @@ use std::alloc::Global;
 /// At each moment it first delivers the operations that are due, then lets the call meet the events
 /// of the script, and then the timers run. Each ask of the service goes to the port at once, and a
 /// refusal of the port back to the service. The operations of an answer at a moment are delivered
-/// `delay` units of 100 ms after it, one after the other. What the gsmSSF refuses is counted, and has
-/// no other effect.
+/// `delay` units of 100 ms after it, one after the other. What the gsmSSF refuses is counted, and
+/// has no other effect.
 ///
 /// No report of the call is answered by a forfeit, whatever the script, where the port states what
 /// it keeps of the call, and the call is new to it.

@@ -135,7 +135,8 @@ impl Ssf {
             × (self.new.config ≡ self.old.config) }
         ensures trace { self.old.last ≤ now → (t : List Happening) → Stands self.old t
             → TakesAt self.old self.new now (taken.Operate op) t result.sent.items result.fault }
-        ensures metered { Metered (periods_in (order_of op ∷ [])) self.old result.sent.items self.new }
+        ensures metered { Metered (periods_in (order_of op ∷ []))
+            self.old result.sent.items self.new }
     {
         self.input(now, Input::Operate(op))
     }
