@@ -1,6 +1,6 @@
 //! A script is played.
 
-ghost use Rattle.std.specs.Prelude.{◌≡◌, ◌≤◌, ◌++◌, All, IfOk, IfErr, List, true};
+ghost use Rattle.std.specs.Prelude.{◌≡◌, ◌≤◌, ◌++◌, All, IfOk, IfErr, List, true, OnOk};
 ghost use Rattle.run_command.specs.Answers.{MayFail};
 ghost use Rattle.run_command.specs.Played.{IsPlayedRun};
 ghost use Rattle.run_command.specs.Plays.{HearsItsRounds, IsPlayWithout};
@@ -36,7 +36,7 @@ pub(crate) fn play<R: Wait + Threads + Sync, W: Watch>(
 ) -> Result<Played, RunError>
     requires in_range { All (λ row. row.at ≤ MAX_MOMENT) script.items }
     requires in_order { rows_are_in_order 0 script.items ≡ true }
-    ensures workers { IfOk result (λ _. are_workers options.now.workers ≡ true) }
+    ensures workers { OnOk result (are_workers options.now.workers ≡ true) }
     ensures played { IfOk result (IsPlayedRun (ask_of options.now) setup.now script.items) }
     ensures fault { IfErr result (MayFail options.now.workers) }
 {

@@ -1,6 +1,6 @@
 //! A script that was played, in all outputs.
 
-ghost use Rattle.std.specs.Prelude.{◌≡◌, All, IfOk};
+ghost use Rattle.std.specs.Prelude.{◌≡◌, All, IfOk, OnOk};
 ghost use Rattle.book_texts.specs.Typed.{IsTyped};
 ghost use Rattle.run_outputs.specs.Texts.{AreTextsOf, clock_of, run_of, tables_said};
 ghost use Rattle.run_outputs.specs.Unplaced.{AreByCall, events_in_rows};
@@ -42,7 +42,7 @@ impl Played {
         ensures refusals { IfOk result (λ tables. tables.refusals ≡ self.now.refusals) }
         ensures unplaced { IfOk result (λ tables. AreByCall
             (events_in_rows self.now.unplaced.items) tables.unplaced.items) }
-        ensures typed { IfOk result (λ _. All IsTyped self.now.books.items) }
+        ensures typed { OnOk result (All IsTyped self.now.books.items) }
     {
         Ok(RunTables {
             lines: self.text(alloc, RunOutput::Lines, setup)?,

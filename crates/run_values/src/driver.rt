@@ -11,7 +11,7 @@ use std::alloc::AllocError;
 /// `tt`. It may state what it becomes by the answers that it hears in a round; what it says of
 /// that, `runs_core::serve` says of all the rounds of a run.
 pub trait Driver {
-    ghost use Rattle.std.specs.Prelude.{◌≡◌, ◌≤◌, ◌++◌, ℕ, List, Bool, not, false, All, IfOk};
+    ghost use Rattle.std.specs.Prelude.{◌≡◌, ◌≤◌, ◌++◌, ℕ, List, Bool, not, false, All, IfOk, OnOk};
     ghost use Rattle.run_values.specs.declared.post.Answer.{Answer};
     ghost use Rattle.run_values.specs.declared.post.Body.{Body};
 
@@ -38,10 +38,10 @@ pub trait Driver {
     /// none; false where it has ended, and then it gives none. Where memory ran out, it isn't used
     /// again.
     fn round(&mut self, answers: &[Answer]) -> Result<bool, AllocError>
-        ensures grows { IfOk result (λ _.
-            (added : List (ℕ × Body)) × (given self.new ≡ given self.old ++ added)) }
+        ensures grows { OnOk result ((added : List (ℕ × Body))
+            × (given self.new ≡ given self.old ++ added)) }
         ensures ended { IfOk result (λ more. ended self.new ≡ not more) }
         ensures end { IfOk result (λ more. more ≡ false → given self.new ≡ given self.old) }
         ensures agenda { Self.agenda self.new ≡ Self.agenda self.old }
-        ensures hears { IfOk result (λ _. hears self.old answers.now self.new) };
+        ensures hears { OnOk result (hears self.old answers.now self.new) };
 }

@@ -68,7 +68,7 @@ fn play_round<D: Driver, S: Shared, R: Wait, G: Gate>(
         × (D.given driver.new ≡ D.given driver.old ++ added)
         × IsServedRound (number_by S.terms) S.key S.reads S.was
         (length (D.given driver.old)) added answers.new.items crew.old crew.new }
-    ensures hears { IfOk result (λ _. D.hears driver.old answers.old.items driver.new) }
+    ensures hears { OnOk result (D.hears driver.old answers.old.items driver.new) }
     ensures given { result ≡ Ok false → D.given driver.new ≡ D.given driver.old }
     ensures crew { result ≡ Ok false → crew.new ≡ crew.old }
     ensures promises { promises_of crew.new.links.items ≡ promises_of crew.old.links.items }

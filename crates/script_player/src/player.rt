@@ -183,16 +183,15 @@ impl Driver for ScriptPlayer {
     ///
     /// Where memory runs out, so it does in each further round.
     fn round(&mut self, answers: &[Answer]) -> Result<bool, AllocError>
-        ensures grows { IfOk result (λ _. (added : List (ℕ × Body))
+        ensures grows { OnOk result ((added : List (ℕ × Body))
             × (self.new.network.given ≡ self.old.network.given ++ added)) }
         ensures ended { IfOk result (λ more. self.new.ended ≡ not more) }
         ensures end { IfOk result (λ more.
             more ≡ false → self.new.network.given ≡ self.old.network.given) }
         ensures turn { IfOk result (λ more.
             self.old.ended ≡ false → IsTurn more self.old self.new answers.now) }
-        ensures hears { IfOk result (λ _.
-            self.old.ended ≡ false → Hears self.old answers.now self.new) }
-        ensures heard { IfOk result (λ _. self.old.ended ≡ false
+        ensures hears { OnOk result (self.old.ended ≡ false → Hears self.old answers.now self.new) }
+        ensures heard { OnOk result (self.old.ended ≡ false
             → (config : SsfConfig) (delay : ℕ) (rows : List ScriptRow) (heard : List (List Answer))
             → HasHeard config delay rows heard self.old
             → HasHeard config delay rows (heard ++ answers.now ∷ []) self.new) }

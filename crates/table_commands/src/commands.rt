@@ -1,6 +1,6 @@
 //! The commands that print once their input is read: `price`, `replay`, `audit` and `quote`.
 
-ghost use Rattle.std.specs.Prelude.{◌≡◌, false, None, IfOk, IfSome, option_map, string_bytes};
+ghost use Rattle.std.specs.Prelude.{◌≡◌, false, None, IfSome, option_map, string_bytes, OnOk};
 ghost use Rattle.std.specs.Result.{result_map_both};
 ghost use Rattle.table_commands.specs.QuoteWishes.{quote_wish_of};
 ghost use Rattle.table_commands.specs.Answers.{IsAuditOfInput, IsAuditOfTable, IsQuoteOfInput, IsQuoteOfTariff, price_of_input, price_of_table, printout_of_audit, replay_of_input, replay_of_table};
@@ -36,7 +36,7 @@ pub fn price_input<I: Read + Drop>(
         (price_of_input (rates_of plan.now) text)) }
     ensures more { IsSaidOfAnswer explains false (I.remaining input) result.answer
         (option_map string_bytes result.more) }
-    ensures nothing { IfOk result.answer (λ _. result.more ≡ None) }
+    ensures nothing { OnOk result.answer (result.more ≡ None) }
 {
     match read_input(alloc, input) {
         Ok(bytes) => {
@@ -60,7 +60,7 @@ pub fn replay_input<I: Read + Drop>(
         (replay_of_input account.opening account.limit text)) }
     ensures more { IsSaidOfAnswer explains false (I.remaining input) result.answer
         (option_map string_bytes result.more) }
-    ensures nothing { IfOk result.answer (λ _. result.more ≡ None) }
+    ensures nothing { OnOk result.answer (result.more ≡ None) }
 {
     match read_input(alloc, input) {
         Ok(bytes) => {
@@ -84,7 +84,7 @@ pub fn audit_input<I: Read + Drop>(
         result.answer)) }
     ensures more { IsSaidOfAnswer explains false (I.remaining input) result.answer
         (option_map string_bytes result.more) }
-    ensures nothing { IfOk result.answer (λ _. result.more ≡ None) }
+    ensures nothing { OnOk result.answer (result.more ≡ None) }
 {
     if let BookSize::Long = ask.size {
         return Ending::plain(audit_table(alloc, ask, input));
@@ -111,7 +111,7 @@ pub fn quote_input<I: Read + Drop>(
         (result_map_both (λ lines. plain (string_bytes lines)) (λ fault. fault) result.answer)) }
     ensures more { IsSaidOfAnswer explains false (I.remaining input) result.answer
         (option_map string_bytes result.more) }
-    ensures nothing { IfOk result.answer (λ _. result.more ≡ None) }
+    ensures nothing { OnOk result.answer (result.more ≡ None) }
 {
     match read_input(alloc, input) {
         Ok(bytes) => {
