@@ -49,8 +49,8 @@ const MAX_WORKERS: u32 = 16;
 ///   started.
 /// * `gate`: `GateClosed` only with a gate that may answer false.
 ///
-/// After any fault but `Workers` all workers are waited for; the fault is that of the failed
-/// worker with the least number, else the run's own.
+/// After any fault but `Workers` all workers are waited for. The fault is the first worker's where
+/// that one has failed, else that of another that has, else the run's own.
 pub fn serve<D: Driver, R: Wait + Threads + Sync, G: Gate + Sync>(
     rt: &R,
     alloc: Global,
@@ -153,7 +153,7 @@ fn run_workers<D: Driver, S: Shared, R: Wait + Threads + Sync, G: Gate + Sync>(
 }
 
 /// Starts the workers but for the first in a scope, plays the rounds, and waits for the workers.
-/// The fault is that of the failed worker with the least number, else the run's own.
+/// Which fault is given, `serve` says.
 fn run_in<'s, 'e, D: Driver, S: Shared, R: Wait + Threads + Sync, G: Gate + Sync>(
     scope: &Scope<'s, &'e ()>,
     rt: &'s R,

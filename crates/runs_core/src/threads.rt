@@ -50,7 +50,7 @@ pub(crate) fn start_all<'s, 'e, S: Shared, R: Wait + Sync, G: Gate + Sync>(
 }
 
 /// Waits for all workers to end, after a last mail to each, and puts down what each leaves, behind
-/// what is there. The fault is that of the failed worker with the least number.
+/// what is there. The fault is that of a worker that has failed.
 pub(crate) fn finish_all<S: Shared, R: Wait + Threads, G: Gate>(
     rt: &R,
     links: Vec<WorkerLink<'_, S, G>>,
