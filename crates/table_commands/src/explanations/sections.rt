@@ -31,12 +31,12 @@ pub(crate) fn find_section(input: &[u8], section: Section) -> Option<(usize, &[u
         Section::Second => {
             let (_, rest) = split_section(input)?;
             let (text, _) = split_section(rest)?;
-            Some((input.len().saturating_sub(rest.len()), text))
+            Some((input.len() - rest.len(), text))
         }
         Section::Third => {
             let (_, rest) = split_section(input)?;
             let (_, text) = split_section(rest)?;
-            Some((input.len().saturating_sub(text.len()), text))
+            Some((input.len() - text.len(), text))
         }
     }
 }
