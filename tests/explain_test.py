@@ -95,7 +95,10 @@ OTHERS = [
     ("serve --least 601", "", "input: Config\nleast 601 is above wanted 600\n"),
     ("serve --wanted 864001", "", "input: Config\nwanted 864001 is above 864000\n"),
     ("run", "x" * (MAX_INPUT + 1), f"input: TooLong\nat most {MAX_INPUT} bytes; docs/SCALING.md has larger loads\n"),
-    ("run --workers x", "", "arguments\nan option has a value that it doesn't take: see prepaid help COMMAND\n"),
+    ("price --fee 50 --before 1000", "before,after\n600,0\n600,300\n", "reports row 3: Order\nline 3 of the input: 600,300\n"
+     "times 600,300 may not follow 600,0 in row 2; without --after no time is after the switch\n"),
+    *((words, "", f"arguments\nthe options don't go together, or one has a value that it doesn't take: see prepaid help "
+       f"{words.split()[0]}\n") for words in ("run --workers x", "run --clock", "serve --again 2", "rate --before x")),
     ("audti", "", "arguments\nerror: unrecognized subcommand 'audti'\n  tip: a similar subcommand exists: 'audit'\n"
      "Usage: prepaid [OPTIONS] <COMMAND>\nFor more information, try '--help'.\n"),
     ("price --fee 1", "", "arguments\nerror: the following required arguments were not provided:\n  --before <N>\n"

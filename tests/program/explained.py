@@ -33,7 +33,7 @@ PRICES = [
     (
         "before,after\n600,5\n",
         "reports row 2: Order\nline 2 of the input: 600,5\n",
-        "times 600,5 may not come first\n",
+        "times 600,5 may not come first; without --after no time is after the switch\n",
     ),
     (
         "before,after\n1\0\x7f,0",
@@ -277,7 +277,11 @@ PARTS = [
     ("", "0 lines that are %% alone; wanted 2\n"),
     ("%%\n" * 6, "6 lines that are %% alone, in line 1, in line 2, in line 3, in line 4, in line 5; wanted 2\n"),
     ("x\r\n%%\r\n%%\n%%", "3 lines that are %% alone, in line 2, in line 3, in line 4; wanted 2\n"),
-    ("%%\n%\n%%%\n x%%\n", "1 line that is %% alone, in line 1; wanted 2\n"),
+    (
+        "%%\n%\n%%%\n x%%\n49,00:00,0,1%%\r\n",
+        "1 line that is %% alone, in line 1; wanted 2\n"
+        "line 4 ends with %%: the line in front of that has no line end\n",
+    ),
     ("%%\n%%\t\n", "1 line that is %% alone, in line 1; wanted 2\nline 2 is %% with a blank at it\n"),
     ("%%\n %%\n%%\t\n", "1 line that is %% alone, in line 1; wanted 2\nline 2 is %% with a blank at it\n"),
 ]
@@ -317,6 +321,16 @@ ENTRIES = [
     ("replay --opening 9", OPS, "0,settle,1,0,s,5,7,,,1", "ops row 2: Empty", "column x7: 1, where settle takes nothing"),
     ("replay --opening 9", OPS, "0,return,1,,,,,,,5", "ops row 2: Empty", "column x7: 5, where return takes nothing"),
     ("replay --opening 9", OPS, "16,return,1,,,,,,,", "ops row 2: Number", "column seat: 16 is above 15"),
+    *(
+        (
+            "replay --opening 9",
+            OPS,
+            f"0,reserve,1,{rates},,600,50,0,0",
+            "ops row 2: Number",
+            f"column {column}: 1000000001 is above 1000000000",
+        )
+        for column, rates in (("x1", "1000000001,9"), ("x2", "9,1000000001"))
+    ),
     ("replay --opening 9", OPS, "0,reserve,1,9,9,,864001,,0,0", "ops row 2: Number", "column x4: 864001 is above 864000"),
     (
         "replay --opening 9",
@@ -410,6 +424,20 @@ ENTRIES = [
         "7,0,reserve,1,0,0,,600,50,0,0,granted,864001,more,5",
         "book row 3: Number",
         "column y1: 864001 is above 864000",
+    ),
+    (
+        "audit",
+        BOOK + OPENED,
+        "7,0,reserve,1,0,0,,600,50,0,0,granted,600,more,1000000000000001",
+        "book row 3: Number",
+        "column y3: 1000000000000001 is above 1000000000000000",
+    ),
+    (
+        "run",
+        DATED,
+        "account,8,5,1000000000001\n%%\n",
+        "setup row 3: Number",
+        "column until: 1000000000001 is above 1000000000000",
     ),
     (
         "run",

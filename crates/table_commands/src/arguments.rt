@@ -54,7 +54,7 @@ pub fn explains<S: AsStr>(words: &[S]) -> bool
 }
 
 /// What `clap` says of words that it doesn't take. Of words that it takes, which time of `run` or
-/// `serve` is out of its range; empty where none is.
+/// `serve` is out of its range, or else that the options of the command aren't taken.
 pub(crate) fn explain_words<S: AsStr>(alloc: Global, words: &[S]) -> Result<String, AllocError> {
     match parse(alloc, words) {
         Ok(matches) => explain_options(alloc, &matches),
@@ -70,15 +70,34 @@ fn explain_error(alloc: Global, error: &Error) -> Result<String, AllocError> {
     }
 }
 
-/// Which time of a command is out of its range.
+/// Which time of a command is out of its range, or else that its options aren't taken.
 fn explain_options(alloc: Global, matches: &ArgMatches<'_>) -> Result<String, AllocError> {
     let mut said = Said::new(alloc);
-    match matches.subcommand() {
-        Some(("run", options)) => push_run_times(&mut said, options),
-        Some(("serve", options)) => push_live_times(&mut said, options),
-        _ => {}
+    if let Some((name, options)) = matches.subcommand() {
+        push_times(&mut said, name, options);
+        if said.is_empty() {
+            push_refused(&mut said, name);
+        }
     }
     said.into_text()
+}
+
+/// Adds which time of a command is out of its range.
+fn push_times(said: &mut Said, name: &str, options: &ArgMatches<'_>) {
+    match name {
+        "run" => push_run_times(said, options),
+        "serve" => push_live_times(said, options),
+        _ => {}
+    }
+}
+
+/// Adds that the options of a command aren't taken.
+fn push_refused(said: &mut Said, name: &str) {
+    writeln!(
+        said,
+        "the options don't go together, or one has a value that it doesn't take: \
+         see prepaid help {name}"
+    );
 }
 
 /// What the command that the words name asks for, if its options say it.

@@ -1,6 +1,6 @@
 //! An answer, or a fault and what is said of it.
 
-ghost use Rattle.std.specs.Prelude.{◌≡◌, false, Err, None, IfErr, IfOk, IfSome, string_bytes};
+ghost use Rattle.std.specs.Prelude.{◌≡◌, false, Err, None, IfErr, IfSome, string_bytes, OnOk};
 ghost use Rattle.table_commands.specs.Explanations.{IsOfWords, IsSaidOfFault, slip_of};
 ghost use Rattle.table_commands.specs.Faults.{of_words};
 ghost use Rattle.table_commands.specs.declared.fault.Fault.TheVariants as fault;
@@ -42,7 +42,7 @@ impl<A: Drop> Ending<A> {
     ) -> Ending<A>
         ensures answer { result.answer ≡ answer }
         ensures only { explains ≡ false → result.more ≡ None }
-        ensures plain { IfOk answer (λ _. result.more ≡ None) }
+        ensures plain { OnOk answer (result.more ≡ None) }
         ensures said { IfErr answer (λ why. IfSome result.more
             (λ more. IsSaidOfFault in_sections input.now why (string_bytes more))) }
     {
@@ -105,13 +105,9 @@ fn said_of_words<S: AsStr>(alloc: Global, words: &[S]) -> Option<String> {
     }
 }
 
-/// The lines of a text that aren't empty. Where nothing is said, another option has a value out of
-/// its range.
+/// The lines of a text that aren't empty.
 fn full_lines(alloc: Global, text: &str) -> Result<String, AllocError> {
     let mut said = Said::new(alloc);
-    if text.is_empty() {
-        said.push("an option has a value that it doesn't take: see prepaid help COMMAND\n");
-    }
     for line in text.split('\n') {
         if !line.is_empty() {
             writeln!(said, "{line}");

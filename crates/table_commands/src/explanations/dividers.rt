@@ -26,6 +26,8 @@ struct Dividers {
     numbers: [u64; MOST_NUMBERS],
     /// The number of the first line that nearly divides it.
     near: Option<u64>,
+    /// The number of the first line that has `%%` at its end, behind something else.
+    joined: Option<u64>,
 }
 
 /// The lines that divide an input, and those that look as if they did.
@@ -34,6 +36,7 @@ fn dividers_of(input: &[u8]) -> Dividers {
         found: 0,
         numbers: [0; MOST_NUMBERS],
         near: None,
+        joined: None,
     };
     let mut number: u64 = 0;
     for line in input.split(|byte| *byte == b'\n') {
@@ -54,13 +57,14 @@ impl Dividers {
                 self.found = self.found.saturating_add(1);
             }
             Looks::Nearly => self.near = self.near.or(Some(number)),
+            Looks::Joined => self.joined = self.joined.or(Some(number)),
             Looks::Otherwise => {}
         }
     }
 }
 
-/// Adds how many lines divide an input and which, how many are wanted, and the line that nearly is
-/// one.
+/// Adds how many lines divide an input and which, how many are wanted, the line that nearly is one,
+/// and the line that has one at its end.
 fn push_dividers(said: &mut Said, dividers: Dividers, wanted: u32) {
     let found = dividers.found;
     let lines = if found == 1 {
@@ -76,6 +80,12 @@ fn push_dividers(said: &mut Said, dividers: Dividers, wanted: u32) {
     if let Some(line) = dividers.near {
         writeln!(said, "line {line} is %% with a blank at it");
     }
+    if let Some(line) = dividers.joined {
+        writeln!(
+            said,
+            "line {line} ends with %%: the line in front of that has no line end"
+        );
+    }
 }
 
 /// What a line looks like.
@@ -85,6 +95,8 @@ enum Looks {
     Divides,
     /// It would without its blanks.
     Nearly,
+    /// It has `%%` at its end, behind something else.
+    Joined,
     /// Another line.
     Otherwise,
 }
@@ -99,11 +111,20 @@ fn looks_of(line: &[u8]) -> Looks {
         match *byte {
             b'%' => signs = signs.saturating_add(1),
             b' ' | b'\t' | b'\r' => {}
-            _ => return Looks::Otherwise,
+            _ => return looks_at_end_of(line),
         }
     }
     if signs == 2 {
         Looks::Nearly
+    } else {
+        Looks::Otherwise
+    }
+}
+
+/// What a line looks like that has something else than signs and blanks.
+fn looks_at_end_of(line: &[u8]) -> Looks {
+    if line.ends_with(b"%%") || line.ends_with(b"%%\r") {
+        Looks::Joined
     } else {
         Looks::Otherwise
     }

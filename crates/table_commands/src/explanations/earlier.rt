@@ -7,7 +7,7 @@ use crate::explanations::row_line::Shown;
 use crate::explanations::said::Said;
 use csv::ByteRecord;
 use std::alloc::Global;
-use table_core::{Rows, field, has_word, is_word};
+use table_core::{Rows, decimal, field, has_word, is_word};
 
 /// Adds why a row may not come behind the one above it.
 pub(crate) fn push_order(said: &mut Said, alloc: Global, table: Faulty<'_>, row: &ByteRecord) {
@@ -33,11 +33,23 @@ fn push_times(said: &mut Said, row: &ByteRecord, above: &ByteRecord, number: u32
     said.push("times ");
     push_fields(said, row);
     if number < 2 {
-        said.push(" may not come first\n");
+        said.push(" may not come first");
     } else {
         said.push(" may not follow ");
         push_fields(said, above);
-        writeln!(said, " in row {number}");
+        write!(said, " in row {number}");
+    }
+    if is_switched(row) && !is_switched(above) {
+        said.push("; without --after no time is after the switch");
+    }
+    said.push("\n");
+}
+
+/// Whether a row of reports has time after the tariff switch.
+fn is_switched(row: &ByteRecord) -> bool {
+    match decimal(field(row, 1), u64::MAX) {
+        Some(after) => after > 0,
+        None => false,
     }
 }
 

@@ -21,6 +21,11 @@ impl Said {
         }
     }
 
+    /// Whether there is nothing yet.
+    pub(crate) fn is_empty(&self) -> bool {
+        self.text.is_empty()
+    }
+
     /// Adds a piece.
     pub(crate) fn push(&mut self, piece: &str) {
         if self.text.push_str(piece).is_err() {
