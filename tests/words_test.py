@@ -183,6 +183,10 @@ def said_in_bash(path, names):
         said = subprocess.run(["bash", "-c", shell, "bash", path, *words], capture_output=True, text=True, check=True)
         return set(said.stdout.split())
 
+    shell = 'source "$1"; complete -p prepaid'
+    how = subprocess.run(["bash", "-c", shell, "bash", path], capture_output=True, text=True, check=True).stdout
+    if not all(f"-o {it} " in how for it in ("default", "filenames")):
+        raise SystemExit(f"{path}: no names of files where no word fits: {how}")
     first = completed("prepaid", "")
     commands = {it: completed("prepaid", it, "") for it in first | names if not it.startswith("-")}
     if not commands["help"] == set(commands):
@@ -292,7 +296,7 @@ def ranges_in_formats(text, values):
     """The same, as the formats say it."""
     tables = tables_of(text)
     rows = {it[0]: it[2] for it in tables["Table"]}
-    few, many = re.search(r"a table at most (\d+) rows besides its header, a script and a book (\d+)", text).groups()
+    few, many = re.search(r"A table has at most (\d+) rows besides its header, a script and a book (\d+)", text).groups()
     accounts = re.search(r"also the (\d+)st account", text)[1]
     wanted = {(name, "TooManyRows"): [few] for name in ("price", "replay", "quote")}
     long = re.search(r"`audit --long` reads .* of at most (\d+) rows", text)[1]

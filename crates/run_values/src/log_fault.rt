@@ -10,7 +10,7 @@ use std::io::{Error, ErrorKind};
 /// What keeps a log from being used.
 #[derive(Clone, Copy, Debug, PartialEq, Eq)]
 pub enum LogFault {
-    /// It was begun with another tariff, another setup or other options.
+    /// It is no log, or was begun with another tariff, another setup or other options.
     Other,
     /// It couldn't be opened, read, written or synced, it is no plain file, or another process has
     /// it.

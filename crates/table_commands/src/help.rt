@@ -198,7 +198,7 @@ Kinds:
 pub(crate) const QUOTE: &str = "\
 A moment is in units of 100 ms from 1 January 1970 on, by the operator's own clock, or
 YYYY-MM-DDTHH:MM:SS, or HH:MM of that first day, a Thursday. A time is in units of 100 ms,
-money in the smallest coin, a rate is money a minute.
+money in the smallest coin, a rate is money a minute. A call changes its rate once, at its switch.
 Input, for example:
 
   prefix,from,fee,rate
@@ -238,7 +238,8 @@ Kinds:
 pub(crate) const RATE: &str = "\
 Each row is printed again with the columns prefix, before, after, price, difference and fault.
 The difference is the price less what was charged. Moments and times are in units of 100 ms,
-moments also YYYY-MM-DDTHH:MM:SS. Money is in the smallest coin, a rate is money a minute.
+moments also YYYY-MM-DDTHH:MM:SS. Money is in the smallest coin, a rate is money a minute. A call
+changes its rate once, at the first switch behind its answer.
 Input, for example:
 
   prefix,from,fee,rate
@@ -302,8 +303,9 @@ Faults of a row, in its column fault; the next row is rated all the same:
 /// Behind the options of `serve`.
 pub(crate) const SERVE: &str = "\
 Each message is printed again, and behind it what the service says to it, before a further line
-is waited for. Times are in units of 100 ms: 1 <= tccd <= least <= wanted <= 864000. Money is in
-the smallest coin, a rate is money a minute.
+is waited for. Times are in units of 100 ms: 1 <= tccd <= least <= wanted <= 864000. A moment is
+in units of 100 ms from 1 January 1970 on, by the operator's own clock, or YYYY-MM-DDTHH:MM:SS.
+Money is in the smallest coin, a rate is money a minute.
 Input, for example:
 
   prefix,from,fee,rate
@@ -352,7 +354,7 @@ A fault is one line on standard error; with status 1 nothing is printed:
   prepaid: messages row N: KIND
       Only row 1 and Header: the header of the messages isn't exactly the one above
   prepaid: log: Other
-      FILE was begun with another tariff, another setup or other options
+      FILE is no log, or was begun with another tariff, another setup or other options
   prepaid: log: Device
       FILE couldn't be opened, read, written or synced, it is no plain file, or another process
       has it. Where it fails behind the header, all that came before is answered, and the end is
@@ -376,8 +378,8 @@ Kinds:
   Days            The days of a row are digits from 1 (Monday) to 7 (Sunday), rising, or none
   NoMidnightBand  A prefix has no row from 00:00, or not on each day of the week
   What            A kind is account or subscriber
-  Number          Digits only, in the smallest coin, within the range: no plus, no point; a party
-                  is 1 to 15 digits
+  Number          Digits only, in the smallest coin, within the range: no plus, no point; a last
+                  moment may be YYYY-MM-DDTHH:MM:SS; a party is 1 to 15 digits
   Empty           A field has something that the row doesn't take
   Repeated        A prefix with the same start and a day in common, an account or a subscriber
                   is there already
@@ -387,7 +389,8 @@ Faults of a line, the first that fits; the next line is answered all the same:
   TooLong   More than 4096 bytes
   Csv       Not nine fields, perhaps an open quote
   What      A word that says nothing there, or a row of the service
-  Number    Digits only, within the range: no plus, no point; a party is 1 to 15 digits
+  Number    Digits only, within the range: no plus, no point; a moment may be
+            YYYY-MM-DDTHH:MM:SS; a party is 1 to 15 digits
   Empty     A field has something that the message doesn't take
   Repeated  The number is below the next: the message was answered before
   Order     The moment is below that of the last message, or the number above the next";
