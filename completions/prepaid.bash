@@ -39,5 +39,5 @@ _prepaid()
     fi
     COMPREPLY=($(compgen -W "$words" -- "$current"))
 }
-# the input comes from a file after <, which bash completes by itself
-complete -F _prepaid prepaid
+# where no word fits, as behind the < of an input, there are the names of files
+complete -o default -o filenames -F _prepaid prepaid

@@ -1,6 +1,7 @@
 # The setup of the next day, from this day's and its book: awk -f examples/next_setup.awk setup.csv book.csv > next.csv
-# Each account opens with what was available to it at the end, and with the last moment that it had then. A call that
-# still holds money is named, and the status is 1: end it first. No field of the setup has quotes.
+# Each account opens with what was available to it at the end, and with the last moment that it had then; one that the
+# book hasn't opens as the setup says. A call that still holds money is named, and the status is 1: end it first. No field
+# of the setup has quotes.
 function plain(number) {
     sub(/^0+/, "", number)
     return number == "" ? "0" : number
@@ -27,7 +28,7 @@ END {
     for (row = 1; row <= count; row++) {
         split(rows[row], field)
         number = plain(field[2])
-        if (field[1] == "account") print field[1], number, left[number], until[number]
-        else print field[1], field[2], field[3], ""
+        if (field[1] == "account" && number in left) print field[1], number, left[number], until[number]
+        else print field[1], field[2], field[3], field[4]
     }
 }

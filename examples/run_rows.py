@@ -4,8 +4,11 @@ Moments and times are in units of 100 ms, money is in the smallest coin; docs/FO
 isn't of its table, and a table that is cut short, are refused (`Wrong`).
 """
 import os
+import re
 from dataclasses import dataclass
 
+# A moment as a date and a time.
+DATE = re.compile(r"\b\d{4}-\d\d-\d\dT")
 # The headers that a table may have: a book has x8 and x9 where its tariff has billing steps.
 HEADERS = {
     "book.csv": [f"account,seat,op,call,x1,x2,x3,x4,x5,x6,x7,{steps}reply,y1,y2,y3" for steps in ("", "x8,x9,")],
@@ -161,4 +164,5 @@ def rows_of(folder, name, read):
                 raise ValueError(line)
             yield read(*fields)
         except (KeyError, ValueError):
-            raise Wrong(f"{name} row {row}: no row of this table") from None
+            clock = "; write the tables without --clock" if DATE.search(line) else ""
+            raise Wrong(f"{name} row {row}: no row of this table{clock}") from None

@@ -105,6 +105,7 @@ WRONG = [
     ("calls.csv", changed("0,noroute", "0,denied"), "call 18 is denied in calls.csv, and book.csv has no reserve"),
     ("calls.csv", changed("770,cut", "770"), "calls.csv row 26: no row of this table"),
     ("calls.csv", changed("770,cut", "-770,cut"), "calls.csv row 26: no row of this table"),
+    ("trace.csv", changed("^648700", "1970-01-01T18:01:10.0"), "no row of this table; write the tables without --clock"),
     ("trace.csv", without(",Ended,"), "trace.csv: message"),
     ("trace.csv", without("^762994,"), f"{SEVERAL}: call 51: calls.csv has calling 4917140001"),
     ("trace.csv", without("^762[0-9]+,"), f"account 104: a reserve of call 51 {NO_MESSAGE}"),

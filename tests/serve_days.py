@@ -2,6 +2,7 @@
 import glob
 import os
 import random
+import re
 import subprocess
 
 from model.command import do_run
@@ -12,6 +13,12 @@ from serve_trial import HEAD, HEADER, modelled, read, same
 
 # The commands of day.sh that may be the last before it is cut off.
 COMMANDS = ["awk", "cat", "date", "mkdir", "mktemp", "mv", "sed", "sync", "tail"]
+# An account that a setup got behind the beginning of its day.
+ADDED = 4294967294
+# A call that talks for 85 seconds, of which its first grant covers all where 90 are wanted.
+LONG_CALL = b"".join(b"%d,,1,switch,%s,\n" % it for it in [
+    (0, b"InitialDP,491700001,4930,"), (100, b"EventReportBCSM,answer,,notify"), (950, b"ApplyChargingReport,inactive,n,850"),
+    (950, b"EventReportBCSM,disconnect,1,interrupted"), (952, b"Ended,,,")])
 SHIM = """#!/bin/sh
 echo >> "$CALLS"
 if [ "$(wc -l < "$CALLS")" -eq "$CUT" ]; then kill -9 "$PPID"; exit 1; fi
@@ -21,7 +28,8 @@ PATH=${PATH#*:} exec NAME "$@"
 
 def next_day(trial):
     """By the setup of the next day each account opens with what was available to it, so that the sums are the same, and
-    with its last moment. A call that holds money keeps such a setup from being made. Lines of a setup end with LF or CR LF."""
+    with its last moment, and one that the book hasn't as the setup says. A call that holds money keeps such a setup from being
+    made. Lines of a setup end with LF or CR LF."""
     days, held, seed, texts = 0, 0, 0, [read(f"{ROOT}/examples/{it}.txt") for it in ("evening", "expiring", "call")]
     texts[-1] = texts[-1].replace(b"account,7", b"account,04294967295").replace(b"0001,7", b"0001,4294967295")
     while days < 20:
@@ -35,6 +43,7 @@ def next_day(trial):
         rows = b"".join(it.encode() + b"\n" for it in run.traced if it.split(",")[3] != "service")
         status, output, line = trial.run(trial.new(), b"%%\n".join([tariff, setup, HEADER + rows]), "--book")
         same(f"seed {seed}: the book", (status, output.partition(b"%%\n")[2], line), (0, run.book().encode(), b""))
+        setup += b"account,%d,50\n" % ADDED
         paths = trial.new(setup.replace(b"\n", b"\r\n") if seed % 2 else setup), trial.new(run.book().encode())
         ran = subprocess.run(["awk", "-f", f"{ROOT}/examples/next_setup.awk", *paths], capture_output=True, check=False)
         calls = ((account, call, it) for account, of in run.accounts.items() for call, it in of.calls.items())
@@ -44,9 +53,10 @@ def next_day(trial):
             held += 1
             continue
         accounts, subscribers = read_setup(ran.stdout)
-        left = {number: it.available() for number, it in run.accounts.items()}
+        left = {number: it.available() for number, it in run.accounts.items()} | {ADDED: 50}
         same(f"seed {seed}: the sum", sum(it[0] for it in accounts.values()), sum(left.values()))
-        same(f"seed {seed}", accounts, {number: (left[number], it.until) for number, it in run.accounts.items()})
+        kept = {number: it.until for number, it in run.accounts.items()}
+        same(f"seed {seed}", accounts, {number: (left[number], kept.get(number)) for number in left})
         same(f"seed {seed}", subscribers, run.subscribers)
         lines = "".join(f"account {it} opening {left[it]} available {left[it]} entries 0\n" for it in sorted(left))
         said = trial.run(trial.new(), b"%%\n".join([tariff, ran.stdout, HEADER]), "--lines")
@@ -81,6 +91,14 @@ def days(trial):
     with open(f"{folder}/day.log", "wb") as file:
         file.write(talk.logged(3))
     same("from message 1 on", day(trial, shims, folder, b"".join(talk.rows[3:]), 0, "1")[2], HEADER + talk.answered(1))
+    folder, examples = new_day(trial), trial.new()
+    os.mkdir(examples)
+    for name in ("day.sh", "next_setup.awk"):
+        text = read(f"{ROOT}/examples/{name}").replace(b"serve --log", b"serve --wanted 900 --log")
+        with open(f"{examples}/{name}", "wb") as file:
+            file.write(text)
+    same("with other options", day(trial, shims, folder, LONG_CALL, 0, examples=examples)[0], 0)
+    same("with other options", re.findall(b"^account,.*", read(f"{folder}/head.txt"), re.M), [b"account,7,33,"])
     return f"{cut - 1} cuts"
 
 
@@ -98,10 +116,10 @@ def kept_in(folder):
     return list(filter(None, (read(it) for it in sorted(glob.glob(f"{folder}/kept/*/day.log")))))
 
 
-def day(trial, shims, folder, text, cut, *first):
+def day(trial, shims, folder, text, cut, *first, examples=f"{ROOT}/examples"):
     """Lets a day pass, cut off at its so manyth command: its status, how many commands it called, what it printed."""
     path, calls = f"{shims}:{os.environ['PATH']}", trial.new(b"")
     more = {"PATH": path, "PREPAID": trial.program, "CALLS": calls, "CUT": str(cut)}
-    words, environment = ["bash", f"{ROOT}/examples/day.sh", folder, *first], {**os.environ, **more}
+    words, environment = ["bash", f"{examples}/day.sh", folder, *first], {**os.environ, **more}
     ran = subprocess.run(words, input=text, capture_output=True, env=environment, timeout=SECONDS)
     return ran.returncode, read(calls).count(b"\n"), ran.stdout
