@@ -4,12 +4,13 @@
 tests/failing_devices.c is loaded before the C library. An input fails behind each of its bytes, or is longer than it
 may be; an output and an error writer have room for each front of what goes to them, take a few bytes at once, and are
 interrupted; input, output and log of `serve` fail where lines come together, and the calls show what is written and
-synced when. A device fails once and takes all from then on, so a program that goes on behind a failure is seen.
+synced when; each call by which a log is opened fails. A device fails once and takes all from then on, so a program that
+goes on behind a failure is seen.
 """
 import argparse
 import errno
+import itertools
 import os
-import re
 import subprocess
 import sys
 import tempfile
@@ -17,7 +18,7 @@ import tempfile
 from devices_groups import GROUPED
 from pipe_test import ROOT, SECONDS
 from program_test import FOLDER, difference
-from serve_trial import HEAD, HEADER, Talk, Trial, Wrong, same
+from serve_trial import HEAD, HEADER, Talk, Trial, Wrong, read, same
 
 sys.path.insert(0, FOLDER)
 from broken import INPUTS
@@ -126,10 +127,11 @@ def read_inputs():
         for room in range(len(text)):
             yield Row("audit --long", text, "", DEVICE, 2), {"input_room": room, "input_error": errno.EIO}
         yield Row("audit --long", text, "", line, 1), {"input_room": len(text), "input_error": errno.EIO}
-    text, fronts = RECORDS + "4930", [re.escape(RATED[:size]) for size in range(len(RATED) + 1)]
-    row = Row("rate", text, re.compile("|".join(fronts).encode()), DEVICE, 2)
+    text, rows = RECORDS + "4930", RATED.splitlines(keepends=True)
+    begin = text.index("%%\n") + len("%%\n")
     for room in range(len(text) + 1):
-        yield row, {"input_room": room, "input_error": errno.EIO}
+        output = "".join(rows[: text[begin:room].count("\n")])
+        yield Row("rate", text, output, DEVICE, 2), {"input_room": room, "input_error": errno.EIO}
 
 
 def served_inputs():
@@ -176,8 +178,29 @@ def bounds_the_input(trial):
     return len(LENGTHS)
 
 
+def opens_a_log(trial):
+    """Each call by which a log is opened fails once: that there is none, one that ends with a torn line, or a whole one.
+    Nothing is printed then, what the log has stays there but for the torn line, and the next start goes on."""
+    talk, count = trial.numbered, 0
+    logs = [None, talk.logged(3), talk.logged(3) + talk.rows[3][:5]]
+    for log, call in itertools.product(logs, ("open", "statx", "flock", "read", "ftruncate", "fsync")):
+        for number in itertools.count(1):
+            path, calls = trial.new(log), trial.new(b"")
+            failing = trial.failing(failed_call=call, failed_number=number, told_to=calls)
+            said = trial.run(path, talk.text(3 if log else 0), "--book", env=failing)
+            if read(calls).find(b"FAILED") < 0:
+                break
+            where, count = f"{call} {number} fails over {log}", count + 1
+            same(where, said, (2, b"", b"prepaid: log: Device\n"))
+            if log:
+                same(where, read(path), talk.logged(3) if call == "fsync" else log)
+            trial.goes_on(where, path, talk, 0)
+    same("calls that failed", count >= 20, True)
+    return count
+
+
 ROWS = [read_inputs, served_inputs, outputs, error_writers]
-TRIES = [bounds_the_input, *GROUPED]
+TRIES = [bounds_the_input, opens_a_log, *GROUPED]
 
 
 def main():

@@ -7,15 +7,21 @@
  *   NAME_CALLS   it takes so many calls, writes and syncs, and then one fails
  *   NAME_STEP    a write takes no more than so many bytes
  *   INTERRUPTED  where it is said, each write that is taken is interrupted once before it takes any
- *   TOLD_TO      the calls that are taken are told in this file, each by a line as "LOG write 40"
+ *   FAILED_CALL  of a call with this name, and of no stream, as ftruncate,
+ *   FAILED_NUMBER  the so manyth fails
+ *   TOLD_TO      the calls that are taken are told in this file, each by a line as "LOG write 40",
+ *                and the one that FAILED_CALL has made fail by a line as "FAILED ftruncate"
  *
  * A limit that has made a call fail is none from then on, so that it is seen where a program goes
  * on behind a failure. The log is the one plain file that is written or synced. */
+#define _GNU_SOURCE
 #include <errno.h>
 #include <fcntl.h>
 #include <limits.h>
+#include <stdarg.h>
 #include <stdio.h>
 #include <stdlib.h>
+#include <string.h>
 #include <sys/stat.h>
 #include <sys/syscall.h>
 #include <unistd.h>
@@ -32,6 +38,8 @@ static struct device devices[] = {{.name = "OUTPUT"}, {.name = "FAULTS"}, {.name
 static long input_room;
 static int input_error;
 static int interrupts;
+static const char *failed_call;
+static long failed_number;
 static int told = -1;
 
 static long number_in(const char *device, const char *what)
@@ -52,6 +60,8 @@ __attribute__((constructor)) static void begin(void)
     input_room = number_in("INPUT", "_ROOM");
     input_error = (int)number_in("INPUT", "_ERROR");
     interrupts = getenv("INTERRUPTED") != NULL;
+    failed_call = getenv("FAILED_CALL");
+    failed_number = number_in("FAILED", "_NUMBER");
     const char *file = getenv("TOLD_TO");
     if (file)
         told = open(file, O_WRONLY | O_CREAT | O_APPEND | O_CLOEXEC, 0666);
@@ -81,6 +91,16 @@ static int is_over(long *left)
     return 1;
 }
 
+/* Whether this call is the one of its name that fails. */
+static int is_failed(const char *call)
+{
+    if (!failed_call || strcmp(call, failed_call) != 0 || --failed_number != 0)
+        return 0;
+    if (told >= 0)
+        dprintf(told, "FAILED %s\n", call);
+    return 1;
+}
+
 static long least(long one, long other)
 {
     return one < other ? one : other;
@@ -97,7 +117,7 @@ static void count(struct device *it, const char *what, long bytes)
 ssize_t read(int descriptor, void *bytes, size_t size)
 {
     if (descriptor != STDIN_FILENO)
-        return syscall(SYS_read, descriptor, bytes, size);
+        return is_failed("read") ? fail(EIO) : syscall(SYS_read, descriptor, bytes, size);
     if (is_over(&input_room))
         return fail(input_error);
     long given = syscall(SYS_read, descriptor, bytes, least(size, input_room));
@@ -125,10 +145,40 @@ ssize_t write(int descriptor, const void *bytes, size_t size)
 
 ssize_t __write(int, const void *, size_t) __attribute__((alias("write")));
 
+int open(const char *path, int flags, ...)
+{
+    va_list more;
+    va_start(more, flags);
+    mode_t mode = flags & O_CREAT ? va_arg(more, mode_t) : 0;
+    va_end(more);
+    return is_failed("open") ? fail(EIO) : (int)syscall(SYS_openat, AT_FDCWD, path, flags, mode);
+}
+
+int statx(int folder, const char *restrict path, int flags, unsigned mask,
+          struct statx *restrict found)
+{
+    return is_failed("statx") ? fail(EIO) : (int)syscall(SYS_statx, folder, path, flags, mask, found);
+}
+
+int flock(int descriptor, int how)
+{
+    return is_failed("flock") ? fail(EIO) : (int)syscall(SYS_flock, descriptor, how);
+}
+
+int ftruncate(int descriptor, off_t size)
+{
+    return is_failed("ftruncate") ? fail(EIO) : (int)syscall(SYS_ftruncate, descriptor, size);
+}
+
+int rename(const char *from, const char *to)
+{
+    return is_failed("rename") ? fail(EIO) : (int)syscall(SYS_rename, from, to);
+}
+
 static int sync_by(long call, int descriptor)
 {
     struct device *it = device_of(descriptor);
-    if (it && is_over(&it->calls))
+    if ((call == SYS_fsync && is_failed("fsync")) || (it && is_over(&it->calls)))
         return fail(EIO);
     int done = (int)syscall(call, descriptor);
     if (it && done == 0)

@@ -6,6 +6,7 @@ words, the input, a file or the folder has a fault, each file is as it was, byte
 calls to the system all four are on the disk before the first gets its name.
 """
 import argparse
+import itertools
 import os
 import re
 import resource
@@ -15,6 +16,7 @@ import tempfile
 
 ROOT = os.path.dirname(os.path.dirname(os.path.abspath(__file__)))
 sys.path.insert(0, f"{ROOT}/examples")
+from devices_test import Devices
 from run_rows import Wrong
 from run_tables import read_run
 from serve_trial import can_trace
@@ -143,6 +145,24 @@ def no_name(program, folder):
     same("the files beside it", files_in(folder), wanted)
 
 
+def devices_fail(program, folder):
+    """Where a file can't be synced, all files are as they were. Where one can't have its name, it and those behind it are,
+    and those in front of it are new. No other name is left."""
+    text, old = example("evening"), {name: f"old {name}\n".encode() for name in OUTPUTS}
+    whole = printed(program, text)
+    with tempfile.TemporaryDirectory() as other:
+        devices = Devices(program, other)
+        for call, number in itertools.product(("fsync", "rename"), range(1, len(OUTPUTS) + 1)):
+            for name, kept in old.items():
+                with open(f"{folder}/{name}", "wb") as file:
+                    file.write(kept)
+            failing = devices.failing(failed_call=call, failed_number=number)
+            ended = run(program, ["run", "--workers", "1", "--into", folder], text, env=failing)
+            same(f"{call} {number} fails", ended, (2, b"", FAILED))
+            new = list(OUTPUTS)[: number - 1] if call == "rename" else []
+            same(f"the files behind {call} {number}", files_in(folder), {it: (whole if it in new else old)[it] for it in OUTPUTS})
+
+
 def synced_first(program, folder):
     """By the calls to the system: each file is synced before the first gets its name."""
     if not can_trace():
@@ -159,7 +179,7 @@ def main():
     asked = argparse.ArgumentParser(description=__doc__.split("\n")[0])
     asked.add_argument("--program", default=f"{ROOT}/bin/prepaid")
     program = os.path.abspath(asked.parse_args().program)
-    for trial in (right, one_run, refused, faults, no_name, synced_first):
+    for trial in (right, one_run, refused, faults, no_name, devices_fail, synced_first):
         with tempfile.TemporaryDirectory() as folder:
             told = trial(program, folder)
         if trial is one_run:

@@ -26,6 +26,7 @@ from serve_trial import (
     HEADER,
     OTHER,
     SECONDS,
+    Talk,
     Trial,
     Wrong,
     can_trace,
@@ -129,6 +130,20 @@ def begun_otherwise(trial):
     return f"{len(tries)} logs"
 
 
+def long_head(trial):
+    """A log has the whole head of an input, of whatever length, and one of another head is another's, however late the two
+    differ."""
+    more = b"".join(b"subscriber,49180%06d,7\n" % it for it in range(9000)) + b"account,8,5\n"
+    talk = Talk(HEAD.replace(b"%%\nmoment", more + b"%%\nmoment"), trial.talk.rows)
+    path = trial.new()
+    same("a long head", trial.run(path, talk.text(), "--book"), talk.served())
+    same("a long head", read(path), talk.logged())
+    same("the same again", trial.run(path, talk.head, "--book"), (0, HEADER + talk.end, b""))
+    same("another end", trial.run(path, talk.head.replace(b"account,8,5\n", b"account,8,6\n"), "--book"), OTHER)
+    same("a long head", read(path), talk.logged())
+    return f"{len(talk.head)} bytes"
+
+
 def no_log(trial):
     """What is no file of its own is `Device`, and nothing is printed: a folder, a pipe, a device, no folder for it, and
     a log that another process has, which goes on."""
@@ -143,6 +158,12 @@ def no_log(trial):
         send(first, talk.head + talk.rows[0])
         hear("the first", first, HEADER + talk.answers[0])
         same("in use", trial.run(path, talk.text(), "--book"), DEVICE)
+        # a line that is under way isn't cut off by another process
+        with open(path, "ab") as file:
+            file.write(talk.rows[1][:9])
+        same("in use", trial.run(path, talk.text(), "--book"), DEVICE)
+        same("in use", read(path), talk.logged(1) + talk.rows[1][:9])
+        os.truncate(path, len(talk.logged(1)))
         send(first, b"".join(talk.rows[1:]))
         close("the first", first, (0, talk.answered(1) + talk.end, b""))
     same("in use", read(path), talk.logged())
@@ -394,7 +415,7 @@ def sync_fails(trial, call, number):
     return True
 
 
-TRIES = [cut_at_each_byte, altered_at_each_byte, altered_in_a_row, begun_otherwise, no_log, unreadable, disk_is_full]
+TRIES = [cut_at_each_byte, altered_at_each_byte, altered_in_a_row, begun_otherwise, long_head, no_log, unreadable, disk_is_full]
 TRIES += [bad_lines, longer_than_an_input, again, sent_again, reader_is_gone, one_by_one, synced_first, synced_together]
 TRIES += [next_day, days, kills]
 # Those whose logs lie on a disk, where a row takes the time of a sync.

@@ -329,11 +329,23 @@ def rows_of_bytes():
         yield Row("rate", text, re.compile(b"(?s).*" + printed), status=status)
 
 
+def dearest():
+    """Rows whose sums have many digits: each call that is charged the most, and each of a day at the highest fee and rate."""
+    count, most, fee = 12_345, 10**15, 10**9
+    price = fee + 864_000 * fee // 600
+    records = f"4930,0,0,{most}\n4930,0,864000,0\nx,0,0,0\n" * count
+    line = (f"prepaid: rated: {3 * count} rows, {2 * count} differ, {count} faults, charged {count * most}, by the tariff "
+            f"{count * price}, over {count * most}, under {count * price}\n")
+    text = f"prefix,from,fee,rate\n49,00:00,{fee},{fee}\n%%\ncalled,answer,time,paid\n{records}"
+    yield Row("rate --summary", text, ANYTHING, line, 3)
+
+
 def rows():
     for words, records, status, printed in RATED:
         yield Row(words, input_of(records), printed, status=status)
     yield from calls_of_a_run()
     for words, records, status, line in COUNTED:
         yield Row(words, input_of(records), ANYTHING, line, status)
+    yield from dearest()
     yield from refusals()
     yield from rows_of_bytes()
