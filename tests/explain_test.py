@@ -381,8 +381,10 @@ SAID = re.compile(r"1 call of a number that no subscriber has: 1000000\n(?:\d+ e
 TRIES = 5
 # The seconds before it is shown how far a run is, and until a thread shows anew how far its part is.
 FIRST, EACH = 2, 0.2
-# Runs, how many parts they have, and how many threads play these. All but those of two workers print the same.
-LONG_RUNS = [("run --workers 1", 1, 1), ("run --parts 4", 4, 1), ("run --parts 16 --threads 2", 16, 2), ("run --workers 2", 1, 1)]
+# Runs, how many parts they have, and how many threads play these. All but those of two workers and
+# those into a folder print the same.
+LONG_RUNS = [("run --workers 1", 1, 1), ("run --parts 4", 4, 1), ("run --parts 16 --threads 2", 16, 2), ("run --workers 2", 1, 1),
+             ("run --workers 1 --into .", 1, 1)]
 
 
 def long_input(program):
@@ -412,9 +414,11 @@ def progress(program):
     script = text.split("%%\n")[2].splitlines()
     for words, parts_of_all, threads in LONG_RUNS:
         begun = time.monotonic()
-        shown, output, status = on_terminal(program, words, text, threads)
+        with tempfile.TemporaryDirectory() as folder:
+            shown, output, status = on_terminal(program, words.replace("--into .", f"--into {folder}"), text, threads)
+        wanted = "" if "--into" in words else lines
         most = threads * (time.monotonic() - begun - FIRST) / EACH + parts_of_all
-        if status or words != "run --workers 2" and output != lines or not output:
+        if status or words != "run --workers 2" and output != wanted or wanted and not output:
             return f"{words} on a terminal: another output, status {status}"
         *steps, end = shown.split(TAKEN)
         if not SAID.fullmatch(end) or words != "run --workers 2" and end != said or not "".join(steps):
@@ -447,7 +451,7 @@ ALONE = "before,after\n\n600,0\n"
 
 def lines_of_rows(_):
     """What line_of.awk says of a row, which is what an explanation shows of it."""
-    tries = [(LINED, *it) for it in LINES] + [(ALONE, "reports", 2, 3)]
+    tries = [(LINED, *it) for it in LINES] + [(ALONE, "reports", 2, 3), (LINED, "records", 2, 7), (LINED, "messages", 2, 13)]
     for text, section, row, line in tries:
         wanted = f"line {line}: {text.splitlines()[line - 1]}\n"
         words = ["awk", "-v", f"section={section}", "-v", f"row={row}", "-f", f"{ROOT}/examples/line_of.awk"]
