@@ -258,7 +258,7 @@ def try_use(prefix, folder, before, program):
         says = said(words)
         hold(says == told, f"{page}:{number}: {words}\nprints\n{says}where the page has\n{told}")
     bash = f"{prefix}/share/bash-completion/completions/prepaid"
-    hold(said(f"bash -n {bash} && source {bash} && complete -p prepaid") == "complete -F _prepaid prepaid\n", bash)
+    hold(said(f"bash -n {bash} && source {bash} && complete -p prepaid") == "complete -o default -o filenames -F _prepaid prepaid\n", bash)
     if shutil.which("man"):
         page = said(f"MANWIDTH=80 man --warnings -l {prefix}/share/man/man1/prepaid.1")
         hold(page.startswith("PREPAID(1) ") and "warning" not in page, f"the man page reads {page}")
