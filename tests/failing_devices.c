@@ -64,7 +64,7 @@ __attribute__((constructor)) static void begin(void)
     failed_number = number_in("FAILED", "_NUMBER");
     const char *file = getenv("TOLD_TO");
     if (file)
-        told = open(file, O_WRONLY | O_CREAT | O_APPEND | O_CLOEXEC, 0666);
+        told = (int)syscall(SYS_openat, AT_FDCWD, file, O_WRONLY | O_CREAT | O_APPEND | O_CLOEXEC, 0666);
 }
 
 /* The device behind a descriptor, none for another one, such as a folder that is synced. */
