@@ -4,7 +4,7 @@ ghost use Rattle.std.specs.Prelude.{◌≡◌, Some};
 ghost use Rattle.account_core.specs.Faults.{account_fault_name};
 ghost use Rattle.account_core.specs.declared.fault.AccountFault.TheVariants as out;
 
-use std::alloc::{AllocError, AllocFailed};
+use std::alloc::AllocError;
 use std::error::Error;
 use std::fmt;
 
@@ -50,14 +50,6 @@ impl From<AllocError> for AccountFault {
     ghost from_gives = { λ _ fault. fault ≡ out.OutOfMemory };
 
     fn from(_error: AllocError) -> AccountFault {
-        AccountFault::OutOfMemory
-    }
-}
-
-impl<T: Drop> From<AllocFailed<T>> for AccountFault {
-    ghost from_gives = { λ _ fault. fault ≡ out.OutOfMemory };
-
-    fn from(_error: AllocFailed<T>) -> AccountFault {
         AccountFault::OutOfMemory
     }
 }

@@ -67,8 +67,7 @@ pub trait Shared: Sync + Drop {
     /// An account with this number, an opening credit of 0 to `MAX_MONEY`, a last moment, if it has
     /// one, an empty history and the number of entries that this may grow to; and its seats, 1 to
     /// 16 of them, numbered from 0, without entries. A fault is `OutOfMemory`.
-    fn new<R>(
-        rt: &R,
+    fn new(
         alloc: Global,
         number: u32,
         opening: u64,

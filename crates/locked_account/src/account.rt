@@ -51,11 +51,11 @@ impl Model for SharedAccount {
 impl SharedAccount {
     /// An account with this number, an opening credit of 0 to `MAX_MONEY`, a last moment, if it has
     /// one, an empty history and the number of entries that this may grow to; and its seats, 1 to
-    /// 16 of them, numbered from 0.
+    /// 16 of them, numbered from 0. A seat knows its account by this number, so no two accounts may
+    /// have the same one.
     ///
     /// A fault is `OutOfMemory`.
-    pub fn new<R>(
-        _rt: &R,
+    pub fn new(
         alloc: Global,
         number: u32,
         opening: u64,
@@ -187,8 +187,7 @@ impl Shared for SharedAccount {
 
     ghost stood = { λ _ _ _ _. Unit {0} };
 
-    fn new<R>(
-        rt: &R,
+    fn new(
         alloc: Global,
         number: u32,
         opening: u64,
@@ -196,7 +195,7 @@ impl Shared for SharedAccount {
         limit: u32,
         seats: u32,
     ) -> Result<(SharedAccount, Vec<Seat>), AccountFault> {
-        SharedAccount::new(rt, alloc, number, opening, until, limit, seats)
+        SharedAccount::new(alloc, number, opening, until, limit, seats)
     }
 
     fn call<R: Wait, G: Gate>(

@@ -19,7 +19,7 @@ fn two_seats<R>(rt: &R, alloc: Global) -> Result<(SharedAccount, Seat, Seat), Ou
     ensures first { IfOk result (λ made. made.1.account ≡ made.0.number) }
     ensures second { IfOk result (λ made. made.2.account ≡ made.0.number) }
 {
-    let (account, mut seats) = SharedAccount::new(rt, alloc, NUMBER, OPENING, None, LIMIT, 2)?;
+    let (account, mut seats) = SharedAccount::new(alloc, NUMBER, OPENING, None, LIMIT, 2)?;
     match (seats.pop(), seats.pop()) {
         (Some(second), Some(first)) => Ok((account, first, second)),
         _ => Err(Outcome::Wrong),

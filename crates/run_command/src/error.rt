@@ -6,7 +6,7 @@ ghost use Rattle.run_command.specs.declared.error.RunError.TheVariants as out;
 
 use run_texts::InputFault;
 use run_values::RunFault;
-use std::alloc::{AllocError, AllocFailed};
+use std::alloc::AllocError;
 
 /// Why a run has no text: the first fault of its input, or what ended the run.
 #[derive(Clone, Copy)]
@@ -37,14 +37,6 @@ impl From<AllocError> for RunError {
     ghost from_gives = { λ _ error. error ≡ out.Run fault.OutOfMemory };
 
     fn from(_error: AllocError) -> RunError {
-        RunError::Run(RunFault::OutOfMemory)
-    }
-}
-
-impl<T: Drop> From<AllocFailed<T>> for RunError {
-    ghost from_gives = { λ _ error. error ≡ out.Run fault.OutOfMemory };
-
-    fn from(_error: AllocFailed<T>) -> RunError {
         RunError::Run(RunFault::OutOfMemory)
     }
 }

@@ -1,46 +1,15 @@
 //! Lines that say how many of something there are, and which are the first ten.
 
-ghost use Rattle.std.specs.Prelude.{◌≡◌, ◌++◌, IfOk, OnOk, string_bytes};
+ghost use Rattle.std.specs.Prelude.{All, IsSome, unwrap_or, [], ◌≡◌, ◌++◌, IfOk, OnOk, string_bytes};
 ghost use Rattle.std.specs.List.{flat_map};
 ghost use Rattle.run_outputs.specs.Lists.{behind_comma, count_text, end_text, list_line, strangers_line, unplaced_line};
 
 use crate::UnplacedEvent;
 use std::alloc::{AllocError, Global};
+use std::fmt;
 
 /// How many the line has at most behind the first one.
 const MOST_OTHERS: usize = 9;
-
-/// What such a line may list.
-trait Listed {
-    ghost use Rattle.std.specs.Prelude.{◌≡◌, ◌++◌, ℕ, List, OnOk, string_bytes};
-
-    ghost text: { Self → List ℕ };
-
-    /// Adds its text to a line.
-    fn add_to(&self, line: &mut String) -> Result<(), AllocError>
-        ensures { OnOk result
-            (string_bytes line.new ≡ string_bytes line.old ++ text self.now) };
-}
-
-impl Listed for u64 {
-    ghost use Rattle.std.specs.Fmt.{decimal};
-
-    ghost text = { λ number. decimal number };
-
-    fn add_to(&self, line: &mut String) -> Result<(), AllocError> {
-        write!(line, "{self}")
-    }
-}
-
-impl Listed for UnplacedEvent {
-    ghost use Rattle.run_outputs.specs.Unplaced.{event_text};
-
-    ghost text = { λ event. event_text event };
-
-    fn add_to(&self, line: &mut String) -> Result<(), AllocError> {
-        write!(line, "{self}")
-    }
-}
 
 /// The line about calls of numbers that no subscriber has; nothing where there are none.
 pub fn strangers_line(alloc: Global, calls: &[u64]) -> Result<String, AllocError>
@@ -68,21 +37,22 @@ pub fn unplaced_line(alloc: Global, events: &[UnplacedEvent]) -> Result<String, 
 
 /// How many there are, of what is called `one` where there is one and else `many`, and the first
 /// ten; nothing where there are none.
-fn list_line<T: Listed>(
+fn list_line<T: fmt::Display>(
     alloc: Global,
     one: &str,
     many: &str,
     items: &[T],
 ) -> Result<String, AllocError>
-    ensures { IfOk result (λ line.
-        string_bytes line ≡ list_line one.now many.now T.text items.now) }
+    requires { All (λ item. IsSome (T.output item)) items.now }
+    ensures { IfOk result (λ line. string_bytes line
+        ≡ list_line one.now many.now (λ item. unwrap_or (T.output item) []) items.now) }
 {
     let mut line = String::new(alloc);
     let Some((first, others)) = items.split_first() else {
         return Ok(line);
     };
     write_count(&mut line, one, many, items.len())?;
-    first.add_to(&mut line)?;
+    write!(line, "{first}")?;
     write_others(&mut line, &others[..others.len().min(MOST_OTHERS)])?;
     write_end(&mut line, others.len())?;
     Ok(line)
@@ -101,13 +71,13 @@ fn write_count(line: &mut String, one: &str, many: &str, count: usize) -> Result
 }
 
 /// Adds further ones, each behind a comma.
-fn write_others<T: Listed>(line: &mut String, others: &[T]) -> Result<(), AllocError>
-    ensures { OnOk result (string_bytes line.new
-        ≡ string_bytes line.old ++ flat_map (λ item. behind_comma (T.text item)) others.now) }
+fn write_others<T: fmt::Display>(line: &mut String, others: &[T]) -> Result<(), AllocError>
+    requires { All (λ item. IsSome (T.output item)) others.now }
+    ensures { OnOk result (string_bytes line.new ≡ string_bytes line.old
+        ++ flat_map (λ item. behind_comma (unwrap_or (T.output item) [])) others.now) }
 {
     for item in others {
-        line.push_str(", ")?;
-        item.add_to(line)?;
+        write!(line, ", {item}")?;
     }
     Ok(())
 }

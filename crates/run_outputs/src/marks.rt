@@ -94,6 +94,9 @@ fn hear(marks: &mut RisingMap<CallMarks>, entry: Entry) -> Result<(), AllocError
     ensures { OnOk result ((h : List EntryData) → HaveMarks marks.old h
         → HaveMarks marks.new (entry_data entry ∷ h)) }
 {
+    if let Op::Credit { .. } = entry.op {
+        return Ok(());
+    }
     let call = entry.op.call();
     let after = marks_of(marks, call).after(entry);
     marks.insert(call, after)

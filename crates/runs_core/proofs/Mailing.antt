@@ -4,6 +4,7 @@ use Rattle.std.specs.Global.{Vec}
 use Rattle.std.specs.Prelude.{Err, MatchResult, Ok, Result}
 use Rattle.std.proofs.lemmas.List.{append-nil, append_assoc}
 use Rattle.runs_core.specs.Logs.{has_close}
+use Rattle.runs_core.specs.declared.ends.Gone.{Gone}
 use Rattle.runs_core.specs.declared.mailboxes.Mail.{Mail}
 use Rattle.runs_core.specs.declared.mailboxes.Mail.TheVariants.{Work, Close}
 use Rattle.runs_core.specs.Mails.{items_in}
@@ -27,10 +28,10 @@ closes (Work list ∷ mails) = closes mails
 closes (Close ∷ mails) = refl
 
 -- whether it was sent or not
-pub same_items : {X : Type 0} (result : Result (Unit {0}) (Mail (Vec X))) (old now : List (Mail (Vec X)))
-    → MatchResult result (λ _. now ≡ old ++ Close ∷ []) (λ back. (back ≡ Close) × (now ≡ old)) → items_in now ≡ items_in old
+pub same_items : {X : Type 0} (result : Result (Unit {0}) Gone) (old now : List (Mail (Vec X)))
+    → MatchResult result (λ _. now ≡ old ++ Close ∷ []) (λ gone. now ≡ old) → items_in now ≡ items_in old
 same_items (Ok done) old now grown = items_closed old now grown
-same_items (Err back) old now kept = ap items_in kept.1
+same_items (Err gone) old now kept = ap items_in kept
 
 -- with the last mail taken, all that was sent is what was taken before it, and the last mail
 pub whole_sent : {X : Type 0} (before now all : List (Mail (Vec X))) → now ≡ before ++ Close ∷ [] → (has_close now ≡ true → now ≡ all) → all ≡ before ++ Close ∷ []

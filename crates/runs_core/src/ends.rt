@@ -28,16 +28,15 @@ impl<T: Drop> Outbox<T> {
 
     /// Sends a mail, and waits while the mailbox is full.
     ///
-    /// An error gives the mail back and sends nothing: a Close was sent before, or the other end
-    /// is gone.
-    pub(crate) fn send_mail<R: Wait>(&mut self, rt: &R, mail: Mail<T>) -> Result<(), Mail<T>>
+    /// An error sends nothing: a Close was sent before, or the other end is gone.
+    pub(crate) fn send_mail<R: Wait>(&mut self, rt: &R, mail: Mail<T>) -> Result<(), Gone>
         ensures same { IsSameOutbox self.old self.new }
-        ensures sent { MatchResult result (λ _. sent self.new ≡ sent self.old ++ mail
-            ∷ []) (λ back. (back ≡ mail) × (sent self.new ≡ sent self.old)) }
+        ensures sent { MatchResult result (λ _. sent self.new ≡ sent self.old ++ mail ∷ [])
+            (λ _. sent self.new ≡ sent self.old) }
         ensures closed { has_close (sent self.old) ≡ true → IsErr result }
     {
         if self.closed {
-            return Err(mail);
+            return Err(Gone);
         }
         let last = is_close(&mail);
         match self.sender.send_as::<Sent, R>(rt, &mut self.pass, mail) {
@@ -45,7 +44,7 @@ impl<T: Drop> Outbox<T> {
                 self.closed = last;
                 Ok(())
             }
-            Err(error) => Err(error.into_inner()),
+            Err(_) => Err(Gone),
         }
     }
 }

@@ -17,8 +17,7 @@ pub(crate) struct Opened<S: Shared> {
 }
 
 /// Opens the accounts of a setup, each with a seat for each of so many workers.
-pub(crate) fn open_accounts<S: Shared, R>(
-    rt: &R,
+pub(crate) fn open_accounts<S: Shared>(
     alloc: Global,
     setup: &RunSetup,
     workers: u32,
@@ -35,7 +34,7 @@ pub(crate) fn open_accounts<S: Shared, R>(
     let mut teams = empty_piles(alloc, workers as usize)?;
     for place in 0..setup.account_count() {
         let terms = (setup.number(place), setup.opening(place));
-        let (account, seats) = open_account::<S, R>(rt, alloc, terms, setup.limit(), workers)?;
+        let (account, seats) = open_account::<S>(alloc, terms, setup.limit(), workers)?;
         deal(&mut teams, seats)?;
         accounts.push(account)?;
     }
@@ -43,8 +42,7 @@ pub(crate) fn open_accounts<S: Shared, R>(
 }
 
 /// Opens an account, named by its number, with its opening credit.
-fn open_account<S: Shared, R>(
-    rt: &R,
+fn open_account<S: Shared>(
     alloc: Global,
     account: (u32, OpeningCredit),
     limit: u32,
@@ -63,18 +61,8 @@ fn open_account<S: Shared, R>(
     ensures seats { IfOk result (λ made. IsNew S.reads (S.key made.0) workers made.1.items) }
 {
     let (number, opening) = account;
-    match S::new(
-        rt,
-        alloc,
-        number,
-        opening.amount,
-        opening.until,
-        limit,
-        workers,
-    ) {
-        Ok(made) => Ok(made),
-        Err(_) => Err(AllocError),
-    }
+    let made = S::new(alloc, number, opening.amount, opening.until, limit, workers);
+    made.or(Err(AllocError))
 }
 
 /// So many piles without items.

@@ -92,7 +92,7 @@ pub fn serve_over<D: Driver, S: Shared, R: Wait + Threads + Sync, G: Gate + Sync
     if workers < 1 || workers > MAX_WORKERS {
         return Err(RunFault::Workers);
     }
-    let Opened { accounts, teams } = open_accounts::<S, R>(rt, alloc, setup, workers)?;
+    let Opened { accounts, teams } = open_accounts::<S>(alloc, setup, workers)?;
     let left = run_workers(rt, alloc, setup, accounts.as_slice(), teams, driver, gate)?;
     close_accounts(alloc, accounts, left)
 }

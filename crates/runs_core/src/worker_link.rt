@@ -129,9 +129,7 @@ impl<S: Shared, G: Gate> WorkerLink<'_, S, G> {
         if posts.is_empty() {
             return Ok(());
         }
-        let Ok(()) = self.outbox.send_mail(rt, Mail::Work(posts)) else {
-            return Err(Gone);
-        };
+        self.outbox.send_mail(rt, Mail::Work(posts))?;
         self.awaits = true;
         Ok(())
     }
@@ -356,8 +354,6 @@ fn answer_posts<S: Shared, R: Wait, G: Gate>(
     ensures fault { MayAskGate G.may_shut result }
 {
     let answers = answer_all(rt, alloc, worker, posts, gate)?;
-    let Ok(()) = outbox.send_mail(rt, Mail::Work(answers)) else {
-        return Err(RunFault::Channel);
-    };
+    outbox.send_mail(rt, Mail::Work(answers))?;
     Ok(())
 }

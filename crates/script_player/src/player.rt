@@ -23,12 +23,13 @@ use std::marker::Model;
 /// units of 100 ms later, one after the other. The moment of the next round is the least of the
 /// next row's, the next delivery's, and that at which a timer of a gsmSSF is due. A round first
 /// delivers the operations that are due, in order of their answers; then it takes the rows of its
-/// moment, in order; then the timers that are due run, in ascending order of the calls. At a
-/// `Start` row the gsmSSF of the call is invoked and triggered, an event is met by its call, and a
-/// recharge is a post in its place. Each message that a gsmSSF sends is a post, in the order in
-/// which they were sent. An event that its gsmSSF refuses has no place, and its row is put down as
-/// such; an operation that is refused is ignored, and so is an event of a call that hasn't started,
-/// and a further start of one that has.
+/// moment, in order; then the timers that are due run, in ascending order of the calls. Those of a
+/// call that are due by then have run before it takes an operation or an event. At a `Start` row
+/// the gsmSSF of the call is invoked and triggered, an event is met by its call, and a recharge is
+/// a post in its place. Each message that a gsmSSF sends is a post, in the order in which they were
+/// sent. An event that its gsmSSF refuses has no place, and its row is put down as such; an
+/// operation that is refused is ignored, and so is an event of a call that hasn't started, and a
+/// further start of one that has.
 ///
 /// It ends where no row is left, and no delivery and no due moment within `HORIZON`, the last
 /// moment that a gsmSSF takes: a run breaks off there. The last row lies at half of it at most, and
@@ -111,15 +112,9 @@ impl ScriptPlayer {
         &self.rows[..self.taken]
     }
 
-    /// Those of the rows taken whose event had no place, in order: the gsmSSF of the call refused
-    /// it, as a second answer, or what a party does where the call was released before.
-    pub fn unplaced(&self) -> &[ScriptRow]
-        ensures { result.now ≡ self.now.unplaced }
-    {
-        self.unplaced.as_slice()
-    }
-
-    /// What is left of it: all that it has given, and the rows that had no place.
+    /// What is left of it: all that it has given, and those of the rows taken whose event had no
+    /// place, in order: the gsmSSF of the call refused it, as a second answer, or what a party does
+    /// where the call was released before.
     pub fn into_parts(self) -> (Vec<(u64, Body)>, Vec<ScriptRow>)
         ensures given { result.0.items ≡ self.network.given }
         ensures unplaced { result.1.items ≡ self.unplaced }

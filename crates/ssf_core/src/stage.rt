@@ -79,11 +79,10 @@ pub(crate) fn started(switch: Switch, now: Moment, seconds: Option<u32>) -> Swit
     ensures { result ≡ started switch now seconds }
 {
     match (switch, seconds) {
-        (Switch::Passed(moment), _) => Switch::Passed(moment),
-        (Switch::Unset, Some(seconds)) => Switch::Due(now + 10 * u64::from(seconds)),
-        (Switch::Due(_), Some(seconds)) => Switch::Due(now + 10 * u64::from(seconds)),
-        (Switch::Unset, None) => Switch::Unset,
-        (Switch::Due(moment), None) => Switch::Due(moment),
+        (Switch::Unset | Switch::Due(_), Some(seconds)) => {
+            Switch::Due(now + 10 * u64::from(seconds))
+        }
+        _ => switch,
     }
 }
 

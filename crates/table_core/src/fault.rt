@@ -4,7 +4,7 @@ ghost use Rattle.std.specs.Prelude.{◌≡◌, Some};
 ghost use Rattle.table_core.specs.Faults.{row_kind_name, row_fault_text, table_fault_text};
 ghost use Rattle.table_core.specs.declared.fault.TableFault.TheVariants as out;
 
-use std::alloc::{AllocError, AllocFailed};
+use std::alloc::AllocError;
 use std::error::Error;
 use std::fmt;
 
@@ -99,14 +99,6 @@ impl From<AllocError> for TableFault {
     ghost from_gives = { λ _ fault. fault ≡ out.OutOfMemory };
 
     fn from(_error: AllocError) -> TableFault {
-        TableFault::OutOfMemory
-    }
-}
-
-impl<T: Drop> From<AllocFailed<T>> for TableFault {
-    ghost from_gives = { λ _ fault. fault ≡ out.OutOfMemory };
-
-    fn from(_error: AllocFailed<T>) -> TableFault {
         TableFault::OutOfMemory
     }
 }

@@ -154,13 +154,17 @@ impl Bands {
         true
     }
 
-    /// Whether there is a row for a prefix that counts on a weekday, with this start.
-    pub fn has(&self, prefix: Digits, day: u8, start: u32) -> bool
-        requires { (1 ≤ day) × (day ≤ 7) }
-        ensures { result ≡ has_band (text_of_digits prefix) day start self.now }
+    /// Whether there is a row for a prefix that counts on a Monday from midnight on, as in a tariff
+    /// on any other weekday.
+    pub fn has(&self, prefix: Digits) -> bool
+        ensures { result ≡ has_band (text_of_digits prefix) 1 0 self.now }
     {
-        let day = key_of(self.by_days, day);
-        self.index.contains_key(&BandKey { prefix, day, start })
+        let day = key_of(self.by_days, 1);
+        self.index.contains_key(&BandKey {
+            prefix,
+            day,
+            start: 0,
+        })
     }
 
     /// The row of a prefix at a moment: of those that count on its weekday, the latest that starts

@@ -1,6 +1,6 @@
 //! The tariff: what a call to a number costs at a moment.
 
-ghost use Rattle.std.specs.Prelude.{◌≡◌, ◌+◌, ◌<◌, ◌≤◌, true, is_some, length, unwrap_or, IfNone, IfSome, Some};
+ghost use Rattle.std.specs.Prelude.{◌≡◌, ◌+◌, ◌<◌, ◌≤◌, true, length, option_map, IfNone, IfSome, Some};
 ghost use Rattle.tariff_core.specs.Bands.{has_midnights, have_steps, weekday};
 ghost use Rattle.tariff_core.specs.Digits.{text_of_digits};
 ghost use Rattle.tariff_core.specs.Routes.{HasNoRoute, IsBandAt, IsOnly, IsPrefixFor, IsQuote, IsRoute, IsSwitch};
@@ -14,13 +14,10 @@ use crate::digits::Digits;
 use crate::quote::Quote;
 use crate::row::Row;
 use crate::tariff_fault::{TariffFault, TariffKind};
-use price_core::{DAY, HORIZON, MAX_RATE, Plan, Route};
+use price_core::{DAY, HORIZON, Plan, Route};
 use std::alloc::Global;
 use std::io::Read;
 use std::marker::Model;
-
-/// Any weekday would do: a prefix of a tariff has a row from midnight on, on each of them.
-const MONDAY: u8 = 1;
 
 /// A tariff: for each prefix of called numbers the bands of each weekday, with a fee and a rate
 /// each.
@@ -121,10 +118,7 @@ impl Tariff {
         let digits = self.longest_prefix(called)?;
         let prefix = Digits::new(digits);
         let band = self.band_at(prefix, now);
-        let route = match self.switch(prefix, now, band) {
-            None => route(band, None, None),
-            Some(Switch { at, next }) => route(band, Some(next.cost.rate), Some(at)),
-        };
+        let route = route(band, self.switch(prefix, now, band));
         Some(Quote {
             prefix: digits,
             start: band.start,
@@ -143,7 +137,7 @@ impl Tariff {
     {
         for length in (0..=called.len().min(self.longest)).rev() {
             let digits = &called[..length];
-            if self.bands.has(Digits::new(digits), MONDAY, 0) {
+            if self.bands.has(Digits::new(digits)) {
                 return Some(digits);
             }
         }
@@ -194,18 +188,20 @@ struct Switch {
     next: Row,
 }
 
-/// The route of a row, and the rate and the moment of its switch.
-fn route(band: Row, after: Option<u64>, switch_at: Option<u64>) -> Route
-    requires rate { unwrap_or after 0 ≤ MAX_RATE }
-    requires both { is_some switch_at ≡ is_some after }
+/// The route of a row, with its switch, where it has one.
+fn route(band: Row, switch: Option<Switch>) -> Route
     ensures fee { result.plan.fee ≡ band.cost.fee }
     ensures first_rate { result.plan.before ≡ band.cost.rate }
     ensures free { result.plan.free ≡ band.cost.free }
     ensures first { result.plan.first ≡ band.cost.first }
     ensures step { result.plan.step ≡ band.cost.step }
-    ensures second_rate { result.plan.after ≡ after }
-    ensures moment { result.switch_at ≡ switch_at }
+    ensures second_rate { result.plan.after ≡ option_map (λ switch. switch.next.cost.rate) switch }
+    ensures moment { result.switch_at ≡ option_map (λ switch. switch.at) switch }
 {
+    let (after, switch_at) = match switch {
+        None => (None, None),
+        Some(Switch { at, next }) => (Some(next.cost.rate), Some(at)),
+    };
     Route {
         plan: Plan {
             fee: band.cost.fee,

@@ -68,8 +68,7 @@ impl TurnAccount {
     /// 16 of them, numbered from 0, which have seen nothing.
     ///
     /// A fault is `OutOfMemory`.
-    pub fn new<R>(
-        _rt: &R,
+    pub fn new(
         alloc: Global,
         number: u32,
         opening: u64,
@@ -254,8 +253,7 @@ impl Shared for TurnAccount {
 
     ghost stood = { StoodIn };
 
-    fn new<R>(
-        rt: &R,
+    fn new(
         alloc: Global,
         number: u32,
         opening: u64,
@@ -263,7 +261,7 @@ impl Shared for TurnAccount {
         limit: u32,
         seats: u32,
     ) -> Result<(TurnAccount, Vec<TurnSeat>), AccountFault> {
-        TurnAccount::new(rt, alloc, number, opening, until, limit, seats)
+        TurnAccount::new(alloc, number, opening, until, limit, seats)
     }
 
     fn call<R: Wait, G: Gate>(

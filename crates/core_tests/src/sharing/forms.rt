@@ -38,7 +38,7 @@ pub(crate) fn two_seats_within<S: Shared, R: Abort>(
     ensures first { S.reads.key result.1 ≡ S.key result.0 }
     ensures second { S.reads.key result.2 ≡ S.key result.0 }
 {
-    let made = S::new(rt, alloc, number, opening, until, limit, 2);
+    let made = S::new(alloc, number, opening, until, limit, 2);
     let (account, mut seats) = made.expect(rt, "memory");
     let second = seats.pop().expect(rt, "two seats");
     let first = seats.pop().expect(rt, "two seats");

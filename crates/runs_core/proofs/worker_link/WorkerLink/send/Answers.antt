@@ -8,7 +8,7 @@ use Rattle.runs_core.specs.Ends.{sent}
 use Rattle.runs_core.proofs.worker_link.WorkerLink.send.Goals as goal
 
 pub returns-clause-posts : goal.returns-clause-posts
-returns-clause-posts g c = items_more (sent c.args.self.now.outbox) _ c.args.posts c.in-Ok.ensures.sent
+returns-clause-posts g c = items_more (sent c.args.self.now.outbox) _ c.args.posts c.in_ok-send_mail.ensures.sent
 
 pub returns-then-is_empty-clause-posts : goal.returns-then-is_empty-clause-posts
 returns-then-is_empty-clause-posts g c =
