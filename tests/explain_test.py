@@ -73,6 +73,9 @@ SLIPS = [
      "column fee: 20.00 is no decimal of 1 to 20 digits\n"),
     ("quote --called 4930 --at 0", f"{TARIFF}{BAND}", "tariff row 3: Repeated", BAND.strip(), "prefix 49 from 00:00 is in row 2 already\n"),
 ]
+# What is said of a column of records that isn't there.
+MISSING = "the header doesn't have it; if it has another name, give"
+COMMA = "the separator is a comma"
 # Inputs whose fault isn't in their last line: the words, the input, and all that is said behind `prepaid: `.
 OTHERS = [
     ("run", f"{TARIFF}%%\n{SETUP}%%\nmoment;call;what;x;y\n", "script row 1: Header\nline 8 of the input: moment;call;what;x;y\n"
@@ -97,8 +100,25 @@ OTHERS = [
     ("run", "x" * (MAX_INPUT + 1), f"input: TooLong\nat most {MAX_INPUT} bytes; docs/SCALING.md has larger loads\n"),
     ("price --fee 50 --before 1000", "before,after\n600,0\n600,300\n", "reports row 3: Order\nline 3 of the input: 600,300\n"
      "times 600,300 may not follow 600,0 in row 2; without --after no time is after the switch\n"),
+    ("price --fee 50 --before 1000 --after 1", "before,after\n600,300\n600,200\n", "reports row 3: Order\n"
+     "line 3 of the input: 600,200\ntimes 600,200 may not follow 600,300 in row 2\n"),
     *((words, "", f"arguments\nthe options don't go together, or one has a value that it doesn't take: see prepaid help "
        f"{words.split()[0]}\n") for words in ("run --workers x", "run --clock", "serve --again 2", "rate --before x")),
+    *((words, f"{TARIFF}%%\n{header}", f"records row 1: Header\n{said}\n") for words, header, said in (
+        ("rate", "", "nothing is behind the line %%"),
+        ("rate", f"called,answer,{'x' * 131072}\n", "the header has more than 131072 bytes"),
+        ("rate", "called;answer;time\n", f"column called: {MISSING} --called NAME; {COMMA}"),
+        ("rate --called to --answer on", "to,answer,time\n", f"column on: {MISSING} --answer NAME; {COMMA}"),
+        ("rate", "called,answer,paid,before\n", "columns before and after, time, end: the header has none of these; if they have other names, "
+         f"give --before NAME --after NAME, --time NAME or --end NAME; {COMMA}"),
+        ("rate --time talk", "called,answer,time\n", f"column talk: {MISSING} --time NAME; {COMMA}"),
+        ("rate --end off", "called,answer,end\n", f"column off: {MISSING} --end NAME; {COMMA}"),
+        ("rate --before day --after night", "called,answer,before,night\n", f"column day: {MISSING} --before NAME; {COMMA}"),
+        ("rate --before day --after night", "called,answer,day,after\n", f"column night: {MISSING} --after NAME; {COMMA}"),
+        ("rate --paid sum", "called,answer,time,paid\n", f"column sum: {MISSING} --paid NAME; {COMMA}"),
+        ("rate", "called,answer,after,time,after\n", "column after: the header has it twice"),
+        ("rate --called to", "to,called,answer,time,to,called\n", "column to: the header has it twice"),
+    )),
     ("audti", "", "arguments\nerror: unrecognized subcommand 'audti'\n  tip: a similar subcommand exists: 'audit'\n"
      "Usage: prepaid [OPTIONS] <COMMAND>\nFor more information, try '--help'.\n"),
     ("price --fee 1", "", "arguments\nerror: the following required arguments were not provided:\n  --before <N>\n"
@@ -435,6 +455,12 @@ def progress(program):
         # two threads play neighbours each, so what one shows lies among what the other does
         if (threads == 1) != (rows == sorted(rows)) or not 3 <= len(rows) <= most:
             return f"{words} shows {rows}, and may show {most:.1f}"
+    with subprocess.Popen([program, "--explain", "run", "--workers", "1"], stdin=subprocess.PIPE, stdout=subprocess.PIPE,
+                          stderr=subprocess.PIPE) as it:
+        threading.Thread(target=pause, args=[it, 1]).start()
+        found = it.communicate(text.encode(), timeout=SECONDS)
+    if found != (lines.encode(), said.encode()):
+        return f"a long run whose error writer is no terminal: {found[1][:300]!r}"
     begun = time.monotonic()
     if (found := on_terminal(program, "run --workers 1", text)) != (said, lines, 0) and time.monotonic() - begun < FIRST:
         return f"a short run on a terminal: {found[0]!r} {found[2]}"

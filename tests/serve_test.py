@@ -144,20 +144,32 @@ def long_head(trial):
     return f"{len(talk.head)} bytes"
 
 
+def why_device(trial, path):
+    """What is said of a log that is `Device`, where that is asked for."""
+    words = [trial.program, "--explain", "serve", "--log", path]
+    ran = subprocess.run(words, input=trial.numbered.text(), capture_output=True, timeout=SECONDS)
+    same(path, (ran.returncode, ran.stdout, ran.stderr[: len(DEVICE[2])]), DEVICE)
+    return ran.stderr[len(DEVICE[2]) :]
+
+
 def no_log(trial):
     """What is no file of its own is `Device`, and nothing is printed: a folder, a pipe, a device, no folder for it, and
-    a log that another process has, which goes on."""
+    a log that another process has, which goes on. Why is said where that is asked for."""
     talk, folder, pipe = trial.numbered, trial.new(), trial.new()
     os.mkdir(folder)
     os.mkfifo(pipe)
-    paths = [folder, pipe, "/dev/full", "/dev/null", os.path.join(folder, "none", "log"), ""]
-    for path in paths:
+    no_file, none = b"the log: it is no plain file\n", b"the log: No such file or directory (os error 2)\n"
+    paths = {folder: b"the log: Is a directory (os error 21)\n", pipe: no_file, "/dev/full": no_file, "/dev/null": no_file,
+             os.path.join(folder, "none", "log"): none, "": none}
+    for path, why in paths.items():
         same(path, trial.run(path, talk.text(), "--book"), DEVICE)
+        same(path, why_device(trial, path), why)
     path = trial.new()
     with trial.start(path, "--book") as first:
         send(first, talk.head + talk.rows[0])
         hear("the first", first, HEADER + talk.answers[0])
         same("in use", trial.run(path, talk.text(), "--book"), DEVICE)
+        same("in use", why_device(trial, path), b"the log: another process has it\n")
         # a line that is under way isn't cut off by another process
         with open(path, "ab") as file:
             file.write(talk.rows[1][:9])
@@ -250,9 +262,10 @@ def bad_lines(trial):
 
 
 def longer_than_an_input(trial):
-    """A log may be longer than an input that is read whole: its last line is heard, and stays in the file."""
-    stray = b"%020d,,%020d,switch,ApplyChargingReport,inactive,n,%020d,\n" % (0, 9, 0)
-    recharge, count = b"0,,,operator,Recharge,7,1,,\n", MAX_INPUT // len(stray) + 1
+    """A log may be longer than an input that is read whole, and have more than a million lines: its last one is heard, and
+    stays in the file."""
+    stray = b"0,,9,switch,Ended,,,,\n"
+    recharge, count = b"0,,,operator,Recharge,7,1,,\n", max(MAX_INPUT // len(stray), 1_000_000) + 1
     log = trial.talk.log + stray * count + recharge
     path = trial.new(log)
     rows = b"".join(b"0,%d,,operator,Recharge,7,1,,\n" % number for number in (count, count + 1))

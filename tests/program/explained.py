@@ -282,6 +282,7 @@ PARTS = [
         "1 line that is %% alone, in line 1; wanted 2\n"
         "line 4 ends with %%: the line in front of that has no line end\n",
     ),
+    ("%%\n\n%%\r", "1 line that is %% alone, in line 1; wanted 2\nline 3 is %% with a blank at it\n"),
     ("%%\n%%\t\n", "1 line that is %% alone, in line 1; wanted 2\nline 2 is %% with a blank at it\n"),
     ("%%\n %%\n%%\t\n", "1 line that is %% alone, in line 1; wanted 2\nline 2 is %% with a blank at it\n"),
 ]
@@ -305,6 +306,9 @@ HEADERS = [
         "found: account,seat,op\n",
     ),
 ]
+
+# What is said of a word in the place of a moment.
+NO_MOMENT = "column moment: x is no moment: a decimal, or a date and a time like 1970-01-01T18:00:08"
 
 # Words, an input up to a row, that row with what is behind it, its fault, and what is said of it.
 ENTRIES = [
@@ -433,6 +437,44 @@ ENTRIES = [
         "column y3: 1000000000000001 is above 1000000000000000",
     ),
     (
+        "audit",
+        BOOK + OPENED,
+        "7,0,reserve,1,0,0,,600,50,0,0,granted,x,more,y",
+        "book row 3: Number",
+        "column y3: y is no decimal of 1 to 20 digits",
+    ),
+    (
+        "audit",
+        BOOK + OPENED,
+        "7,0,reserve,1,0,0,,600,50,0,0,denied,,,x",
+        "book row 3: Number",
+        "column y3: x is no decimal of 1 to 20 digits",
+    ),
+    (
+        "audit",
+        BOOK + OPENED,
+        "7,0,reserve,1,0,0,,600,50,0,0,denied,1,,5",
+        "book row 3: Empty",
+        "column y1: 1, where denied takes nothing",
+    ),
+    *(
+        ("replay --opening 9", OPS, row, "ops row 2: Number", f"column {column}: x is no decimal of 1 to 20 digits")
+        for column, row in (
+            ("x1", "0,credit,,x,,,,,,"),
+            ("x3", "0,settle,1,0,n,x,,,,"),
+            ("x3", "0,settle,1,0,s,x,,,,"),
+            ("call", "0,reserve,x,9,9,,600,50,0,0"),
+        )
+    ),
+    *(
+        ("run", DATED + "%%\nmoment,call,what,x,y,z\n", row, "script row 2: Number", said)
+        for row, said in (
+            ("20,x,answer,,,\n", "column call: x is no decimal of 1 to 20 digits"),
+            ("x,2,start,491700001,4930,\n", NO_MOMENT),
+            ("x,,recharge,7,1,\n", NO_MOMENT),
+        )
+    ),
+    (
         "run",
         DATED,
         "account,8,5,1000000000001\n%%\n",
@@ -497,6 +539,11 @@ TARIFFS = [
         "prefix,from,fee,rate\n49,00:00,20.00,1000\n",
         "tariff row 2: Money\nline 2 of the input: 49,00:00,20.00,1000\n",
         "column fee: 20.00 is no decimal of 1 to 20 digits\n",
+    ),
+    (
+        "prefix,from,fee,rate\n49,00:00,50,10.00\n",
+        "tariff row 2: Money\nline 2 of the input: 49,00:00,50,10.00\n",
+        "column rate: 10.00 is no decimal of 1 to 20 digits\n",
     ),
     (
         "prefix,from,fee,rate\n49,00:00,1000000001,1000\n",
@@ -573,6 +620,11 @@ TOO_MANY = [
         PRICE,
         "before,after\n" + "0,0\n" * 10_001,
         f"reports row 10002: TooManyRows\nline 10002 of the input: 0,0\nat most 10000 rows; {MORE}",
+    ),
+    (
+        "replay --opening 9",
+        OPS + "0,return,1,,,,,,,\n" * 10_001,
+        f"ops row 10002: TooManyRows\nline 10002 of the input: 0,return,1,,,,,,,\nat most 10000 rows; {MORE}",
     ),
     (
         "quote --called 4930 --at 0",

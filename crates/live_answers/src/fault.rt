@@ -4,7 +4,7 @@ ghost use Rattle.std.specs.Prelude.{◌≡◌};
 ghost use Rattle.live_answers.specs.declared.fault.Stop.TheVariants as out;
 
 use crate::LiveFault;
-use std::alloc::{AllocError, AllocFailed};
+use std::alloc::AllocError;
 
 /// What stops a round.
 #[derive(Clone, Copy)]
@@ -19,14 +19,6 @@ impl From<AllocError> for Stop {
     ghost from_gives = { λ _ stop. stop ≡ out.OutOfMemory };
 
     fn from(_error: AllocError) -> Stop {
-        Stop::OutOfMemory
-    }
-}
-
-impl<T: Drop> From<AllocFailed<T>> for Stop {
-    ghost from_gives = { λ _ stop. stop ≡ out.OutOfMemory };
-
-    fn from(_error: AllocFailed<T>) -> Stop {
         Stop::OutOfMemory
     }
 }

@@ -29,7 +29,7 @@ pub use finding::{Found, find_lines};
 pub use group::MAX_GROUP;
 pub use laws::{limits_in_numbers, logs_are_heard_again, replays_are_silent};
 pub use line::MAX_LINE;
-pub use opening::log_head;
+pub use opening::{lock_log, log_head};
 pub use replay::Replay;
 pub use serving::serve_input;
 pub use skipping::Skipping;

@@ -10,7 +10,7 @@ use run_values::LogFault;
 use std::alloc::{AllocError, Global};
 use std::fs;
 use std::fs::File;
-use std::io::{self, Read, Write};
+use std::io::{self, Error, ErrorKind, Read, Write};
 use std::path::Path;
 use std::rt::Files;
 
@@ -54,24 +54,27 @@ pub(crate) fn open_log<R: Files<File = File>>(
     path: &str,
     head: &[u8],
 ) -> Result<OpenLog, LogFault> {
-    let mut file = lock_file(rt, path)?;
-    let lines = take_lines(rt, alloc, path, &mut file, head)?;
+    let mut file = lock_log(rt, path)?;
+    let lines = take_lines(alloc, &mut file, head)?;
     file.sync_all()?;
+    // A start that was killed may have made the file and not have come so far.
+    sync_folder(rt, path)?;
     Ok(OpenLog {
         file: Synced(file),
         lines,
     })
 }
 
-/// Opens the file of a log, which has to be a plain one, and locks it.
-fn lock_file<R: Files<File = File>>(rt: &R, path: &str) -> Result<File, LogFault> {
+/// Opens the file of a log, or makes it where there is none, and locks it. The error has the kind
+/// `NotSeekable` where it is no plain file, and `WouldBlock` where another process has locked it.
+pub fn lock_log<R: Files<File = File>>(rt: &R, path: &str) -> io::Result<File> {
     let file = File::options()
         .read(true)
         .append(true)
         .create(true)
         .open(rt, path)?;
     if !file.metadata()?.is_file() {
-        return Err(LogFault::Device);
+        return Err(Error::from(ErrorKind::NotSeekable));
     }
     file.try_lock()?;
     Ok(file)
@@ -79,13 +82,7 @@ fn lock_file<R: Files<File = File>>(rt: &R, path: &str) -> Result<File, LogFault
 
 /// The lines that a log holds behind its head. A torn last line is cut off, and a log whose head is
 /// torn is begun anew, so that the file ends with these lines.
-fn take_lines<R: Files<File = File>>(
-    rt: &R,
-    alloc: Global,
-    path: &str,
-    file: &mut File,
-    head: &[u8],
-) -> Result<Vec<u8>, LogFault> {
+fn take_lines(alloc: Global, file: &mut File, head: &[u8]) -> Result<Vec<u8>, LogFault> {
     let mut text = read_log(alloc, file, head)?;
     match find_lines(text.as_slice(), head) {
         Found::Lines(lines) => {
@@ -96,23 +93,12 @@ fn take_lines<R: Files<File = File>>(
         }
         Found::Begun => {
             text.clear();
-            begin_log(rt, path, file, head)?;
+            file.set_len(0)?;
+            file.write_all(head)?;
         }
         Found::Other => return Err(LogFault::Other),
     }
     Ok(text)
-}
-
-/// Begins a log: its file has its head alone then, and a name on the disk.
-fn begin_log<R: Files<File = File>>(
-    rt: &R,
-    path: &str,
-    file: &mut File,
-    head: &[u8],
-) -> io::Result<()> {
-    file.set_len(0)?;
-    file.write_all(head)?;
-    sync_folder(rt, path)
 }
 
 /// What a log holds; no more than the length of its head where it begins otherwise.
@@ -127,7 +113,7 @@ fn read_log(alloc: Global, file: &mut File, head: &[u8]) -> Result<Vec<u8>, LogF
     Ok(text)
 }
 
-/// Puts the name of a new file on the disk.
+/// Puts the name of a file on the disk.
 fn sync_folder<R: Files<File = File>>(rt: &R, path: &str) -> io::Result<()> {
     let folder = match Path::new(path).parent() {
         Some(folder) if !folder.as_str().is_empty() => folder,

@@ -1,10 +1,11 @@
 -- What the program answers to words and an input.
-use Rattle.std.specs.Prelude.{◌≡◌, ◌⊎◌, ◌++◌, ℕ, Bool, true, List, [], MatchResult, Option, Some, None, Result, Ok, Err, IfErr, IfOk, IfSome, codes, false, unwrap_or}
+use Rattle.std.specs.Prelude.{◌≡◌, ◌⊎◌, ◌++◌, ℕ, Bool, true, List, [], MatchResult, Option, None, Result, Ok, Err, IfErr, IfOk, IfSome, false, unwrap_or}
 use Rattle.std.specs.Io.KnownBytes.{Appends, Keeps}
 use Rattle.std.specs.Result.{result_map_both}
 use Rattle.live_answers.specs.Inputs.{live_input_of}
 use Rattle.live_answers.specs.Serves.{ServesBy}
 use Rattle.live_answers.specs.declared.error.ServeError.{ServeError}
+use Rattle.live_answers.specs.declared.error.ServeError.TheVariants as serve
 use Rattle.table_commands.specs.Arguments.{AsksFor, AsksHelp, AsksInVain, AsksNothing, AsksVersion, explains}
 use Rattle.table_commands.specs.Wishes.{Wish, Audits, Prices, Quotes, RatesRecords, Replays, Runs, RunsInto, Serves}
 use Rattle.table_commands.specs.declared.words_fault.WordsFault.TheVariants as words_fault
@@ -16,14 +17,15 @@ use Rattle.run_command.specs.Tables.{IsTablesAnswer}
 use Rattle.run_command.specs.declared.error.RunError.{RunError}
 use Rattle.run_values.specs.Logs.{LogWish}
 use Rattle.run_values.specs.declared.live.LiveAsk.{LiveAsk}
+use Rattle.run_values.specs.declared.log_fault.LogFault.TheVariants as log
 use Rattle.run_values.specs.declared.options.RunAsk.{RunAsk}
 use Rattle.table_commands.specs.Answers.{IsAuditOfInput, IsQuoteOfInput, price_of_input, replay_of_input}
-use Rattle.table_commands.specs.Faults.{UnlessMayAlwaysCome, line_of_fault, status_of}
+use Rattle.table_commands.specs.Faults.{UnlessMayAlwaysCome}
 use Rattle.table_commands.specs.Input.{sized}
 use Rattle.table_commands.specs.Outputs.{IsSaidOfOutput}
 use Rattle.table_commands.specs.Printouts.{Printout, status_of_printout}
 use Rattle.table_commands.specs.Ratings.{IsRatedByWish}
-use Rattle.table_commands.specs.Writers.{IsReported, IsSaid, Written}
+use Rattle.table_commands.specs.Writers.{IsFaultExplained, IsReportedWith, IsSaid, Written}
 use Rattle.table_commands.specs.declared.fault.Fault.{Fault}
 use Rattle.table_commands.specs.declared.fault.Fault.TheVariants as fault
 use Rattle.prepaid.specs.Explanations.{IsAdded, IsSaidBy}
@@ -87,17 +89,10 @@ pub record IsCutOff (explaining : Bool) (printout : Printout) (status : ℕ) (ol
   pub front : AppendsFront old.output new.output printout.text
   pub faults : IsSaidOfOutput explaining old.faults new.faults
 
--- the line of a fault and behind it what is said of it went to the error writer, or where that failed a front of these. The output stays as it was
-pub record IsReportedWith (why : Fault) (text : List ℕ) (status : ℕ) (old new : Written) : Type 0 where
-  pub status_is : status ≡ status_of why
-  pub line : AppendsFront old.faults new.faults (line_of_fault why ++ (codes "\n" ++ text))
-  pub output : Keeps old.output new.output
-
 -- an answer was printed, or a fault reported, and what is said of it
 abbrev pub IsSaidOrReported : Bool → Option (List ℕ) → Result Printout Fault → ℕ → Written → Written → Type 0
 IsSaidOrReported explaining more (Ok printout) status old new = IsPrinted printout (unwrap_or more []) status old new ⊎ IsCutOff explaining printout status old new
-IsSaidOrReported explaining None (Err why) status old new = IsReported why status old new
-IsSaidOrReported explaining (Some text) (Err why) status old new = IsReportedWith why text status old new
+IsSaidOrReported explaining more (Err why) status old new = IsReportedWith why (unwrap_or more []) status old new
 
 -- the status and what was written are of one answer, which is that to the words and the input, where this is known
 pub record Answers (words : List (List ℕ)) (input : Option (List ℕ)) (status : ℕ) (old new : Written) : Type 0 where
@@ -121,9 +116,10 @@ pub record RatesAsAsked (words : List (List ℕ)) (input : Option (List ℕ)) (s
 
 -- ---- messages that are answered as they come
 
--- how the service ended: at status 0, where it has printed all, and then nothing is said; else by the line of its fault
+-- how the service ended: at status 0, where it has printed all, and then nothing is said; else by the line of its fault, and of a log that can't be used why
 abbrev pub IsServeEnd : Bool → Result (Unit {0}) ServeError → ℕ → Option (List ℕ) → Option (List ℕ) → Type 0
 IsServeEnd explaining (Ok done) status old new = (status ≡ 0) × Keeps old new
+IsServeEnd explaining (Err (serve.Log log.Device)) status old new = IsFaultExplained explaining (fault.Log log.Device) status old new
 IsServeEnd explaining (Err why) status old new = IsSaid explaining (of_serve why) status old new
 
 -- the output and the status are of one end of the service, which is that over this input, where this is known

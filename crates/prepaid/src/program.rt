@@ -22,7 +22,7 @@ use std::sync::Wait;
 use std::thread::Threads;
 use table_commands::{
     Ending, Noting, Request, audit_input, explains, price_input, quote_input, rate_input,
-    read_words, replay_input, report, report_output, report_with, write_both,
+    read_words, replay_input, report_output, report_with, write_both,
 };
 use table_core::write_text;
 
@@ -101,11 +101,14 @@ fn say<O: Write, E: Write>(
     ensures silent { result ≡ 1
         → Keeps (O.contents output.old.inner) (O.contents output.new.inner) }
 {
-    match (ending.answer, ending.more) {
-        (Ok(answer), None) => print(output, faults, explains, &answer, &[]),
-        (Ok(answer), Some(more)) => print(output, faults, explains, &answer, more.as_bytes()),
-        (Err(fault), None) => report(faults, fault),
-        (Err(fault), Some(more)) => report_with(faults, fault, more.as_bytes()),
+    let Ending { answer, more } = ending;
+    let more = match &more {
+        Some(more) => more.as_bytes(),
+        None => &[],
+    };
+    match answer {
+        Ok(answer) => print(output, faults, explains, &answer, more),
+        Err(fault) => report_with(faults, fault, more),
     }
 }
 

@@ -1,20 +1,20 @@
 //! The command `serve`.
 
-ghost use Rattle.std.specs.Prelude.{◌≡◌, option_map};
+ghost use Rattle.std.specs.Prelude.{◌≡◌, Err, option_map};
 ghost use Rattle.std.specs.Io.KnownBytes.{Keeps};
 ghost use Rattle.run_values.specs.Logs.{log_wish_of};
 ghost use Rattle.run_values.specs.Options.{live_ask_of};
-ghost use Rattle.prepaid.specs.Answers.{IsServedInput};
+ghost use Rattle.prepaid.specs.Answers.{IsServeEnd, IsServedInput};
 
 use crate::faults::fault_of_serve;
-use live_answers::serve_input;
-use run_values::{LiveOptions, LogAsk};
+use live_answers::{ServeError, lock_log, serve_input};
+use run_values::{LiveOptions, LogAsk, LogFault};
 use std::fs::File;
-use std::io::{BufRead, Write};
+use std::io::{BufRead, Error, ErrorKind, Write};
 use std::rt::Files;
 use std::sync::Wait;
 use std::thread::Threads;
-use table_commands::{Noting, report_end};
+use table_commands::{Fault, Noting, report_end, report_with};
 
 /// Answers the messages in the input as they come, and gives the status: 0 where the input has
 /// ended and all was printed; 1 for a fault of what is in front of the messages, and then nothing
@@ -39,6 +39,46 @@ where
 {
     match serve_input(rt, rt.alloc(), options, log, input, output) {
         Ok(()) => 0,
-        Err(why) => report_end(faults, explains, fault_of_serve(why), output.failed),
+        Err(why) => report_unserved(rt, faults, explains, log, why, output.failed),
     }
+}
+
+/// Reports why an input wasn't served to its end, and gives the status. Why its log can't be used
+/// is said behind the line where that is asked for.
+fn report_unserved<R: AllocGlobal + Files<File = File>, E: Write>(
+    rt: &R,
+    faults: &mut E,
+    explains: bool,
+    log: Option<LogAsk<'_>>,
+    why: ServeError,
+    failed: Option<Error>,
+) -> u8
+    ensures { IsServeEnd explains (Err why) result (E.contents faults.old)
+        (E.contents faults.new) }
+{
+    match why {
+        ServeError::Log(LogFault::Device) if explains => {
+            let more = explain_log(rt, log);
+            report_with(faults, Fault::Log(LogFault::Device), more.as_bytes())
+        }
+        _ => report_end(faults, explains, fault_of_serve(why), failed),
+    }
+}
+
+/// Why a log can't be opened or locked, as a second try shows; nothing where that shows nothing, or
+/// memory runs out.
+fn explain_log<R: AllocGlobal + Files<File = File>>(rt: &R, log: Option<LogAsk<'_>>) -> String {
+    let alloc = rt.alloc();
+    let Some(LogAsk { path, .. }) = log else {
+        return String::new(alloc);
+    };
+    let said = match lock_log(rt, path) {
+        Ok(_) => Ok(String::new(alloc)),
+        Err(error) => match error.kind() {
+            ErrorKind::NotSeekable => format!(in alloc; "the log: it is no plain file\n"),
+            ErrorKind::WouldBlock => format!(in alloc; "the log: another process has it\n"),
+            _ => format!(in alloc; "the log: {error}\n"),
+        },
+    };
+    said.unwrap_or_else(|_| String::new(alloc))
 }

@@ -1,5 +1,5 @@
 -- Rows are rated one after the other.
-use Rattle.std.proofs.Common.{◌≡◌, ℕ, ◌<◌, ◌≤◌, Bool, true, false, List, [], ◌∷◌, ◌++◌, length, map, take, Option, Some, None, Result, Ok, Err, refl, sym, ap, subst, ◌∙◌, inl, inr, append_assoc, append-nil, arith}
+use Rattle.std.proofs.Common.{◌≡◌, ℕ, ◌<◌, ◌≤◌, Bool, true, false, List, [], ◌∷◌, ◌++◌, length, map, take, Option, Result, Ok, Err, refl, sym, ap, subst, ◌∙◌, inl, inr, append_assoc, append-nil, arith}
 use Rattle.std.specs.Prelude.{fold, ◌&&◌, IfErr, OnOk, if◌then◌else◌, ◌⊎◌, IsErrAnd, MatchResult, nat_lt}
 use Rattle.std.specs.Io.KnownBytes.{Appends, Keeps}
 use Rattle.std.specs.List.{flat_map}
@@ -30,6 +30,8 @@ use Rattle.rating.specs.Texts.{AreRated, IsRatedRow, RateInput, RatedRow, rated_
 use Rattle.rating.specs.Asks.{NamesWish}
 use Rattle.rating.specs.Columns.{found_columns}
 use Rattle.rating.specs.Faults.{of_rows}
+use Rattle.rating.specs.declared.fault.HeaderFault.{HeaderFault}
+use Rattle.rating.specs.declared.fault.HeaderFault.TheVariants as header_fault
 use Rattle.rating.specs.declared.fault.RateFault.{RateFault}
 use Rattle.rating.specs.declared.fault.RateFault.TheVariants as fault
 use Rattle.run_texts.specs.InputFaults.{RefusesInput}
@@ -213,7 +215,7 @@ failed_ends differing meaning old new (Err named) why met is part = rw (met, is)
 
 pub stops : (differing : Bool) (meaning : Result RateInput RateFault) (old new : Option (List ℕ)) (why : RateFault) → RateFaultMayAlwaysCome why → Keeps old new ⊎ IsInPart differing meaning old new
     → StopsBy differing meaning old new why
-stops differing meaning old new fault.Header may part = absurd may
+stops differing meaning old new (fault.Header found) may part = absurd may
 stops differing meaning old new fault.Output may part = absurd may
 stops differing meaning old new (fault.Input input_fault.Device) may part = part
 stops differing meaning old new (fault.Input input_fault.OutOfMemory) may part = part
@@ -245,9 +247,15 @@ pub refused_ends : {Y : Type 0} (differing : Bool) (meaning : Result RateInput R
 refused_ends differing meaning part known (Ok score) why met refused so = absurd met
 refused_ends differing meaning part known (Err named) why met refused so = rw met (refused_stops differing meaning part known why refused so)
 
+-- the header was refused, and nothing was written
+pub header_ends : (differing : Bool) (meaning : Result RateInput RateFault) (known : Option (List ℕ)) (answer : Result Score RateFault) (why : HeaderFault)
+    → IsErrAnd answer (λ met. met ≡ fault.Header why) → meaning ≡ Err (fault.Header why) → EndsRating differing meaning known known answer
+header_ends differing meaning known (Ok score) why met is = absurd met
+header_ends differing meaning known (Err named) why met is = rw met (is, Keeps-refl known)
+
 -- where nothing was written, any fault is silent
 pub still_silent : (known : Option (List ℕ)) (why : RateFault) → IsRatingSilent known known why
-still_silent known fault.Header = Keeps-refl known
+still_silent known (fault.Header found) = Keeps-refl known
 still_silent known fault.Output = tt
 still_silent known (fault.Input input_fault.Device) = tt
 still_silent known (fault.Input input_fault.OutOfMemory) = tt
@@ -276,29 +284,28 @@ header_whole : (whole : Fields) → row_size (shown whole) ≤ MAX_SHOWN → Who
 header_whole whole within (inl same) = same
 header_whole whole within (inr over) = absurd (omega (arith, within, over.0))
 
-first_headed : (names : NamesWish) (bands : List Band) (first : Fields) (rated_below : List Fields) (columns : Columns) → row_size first ≤ MAX_SHOWN → found_columns first names ≡ Some columns
-    → headed names bands (first ∷ rated_below) ≡ Ok (record { bands = bands; header = first; columns = columns; rows = rated_below })
-first_headed names bands first rated_below columns within found = rw (over_header (row_size first) within, found) refl
+first_headed : (names : NamesWish) (bands : List Band) (first : Fields) (below : List Fields) → row_size first ≤ MAX_SHOWN
+    → headed names bands (first ∷ below) ≡ rated_below bands first below (found_columns first names)
+first_headed names bands first below within = rw (over_header (row_size first) within) refl
 
 -- a header that has few bytes was not cut, and is followed by the rows below it
-headed_is : (names : NamesWish) (bands : List Band) (rows rest : List Fields) (first : Fields) (columns : Columns) → map shown rows ≡ first ∷ rest → row_size first ≤ MAX_SHOWN
-    → found_columns first names ≡ Some columns
-    → (rated_below : List Fields) × (headed names bands rows ≡ Ok (record { bands = bands; header = first; columns = columns; rows = rated_below })) × (rest ≡ map shown rated_below)
-headed_is names bands rows rest first columns is within found =
-    let (whole, rated_below, rows_are, first_is, rest_is) = first_left rows first rest is in
+headed_is : (names : NamesWish) (bands : List Band) (rows rest : List Fields) (first : Fields) → map shown rows ≡ first ∷ rest → row_size first ≤ MAX_SHOWN
+    → (below : List Fields) × (headed names bands rows ≡ rated_below bands first below (found_columns first names)) × (rest ≡ map shown below)
+headed_is names bands rows rest first is within =
+    let (whole, below, rows_are, first_is, rest_is) = first_left rows first rest is in
     let same : first ≡ whole = first_is ∙ header_whole whole (rw first_is at within) (whole_or_over whole MAX_SHOWN) in
-    let all : rows ≡ first ∷ rated_below = rows_are ∙ ap (λ l. l ∷ rated_below) (sym same) in
-    (rated_below, ap (λ l. headed names bands l) all ∙ first_headed names bands first rated_below columns within found, rest_is)
+    let all : rows ≡ first ∷ below = rows_are ∙ ap (λ l. l ∷ below) (sym same) in
+    (below, ap (λ l. headed names bands l) all ∙ first_headed names bands first below within, rest_is)
 
 -- the first row of a table whose long rows are cut, and those below it
-pub opened : {R : Type 0} (remaining : R → Option (List ℕ)) (names : NamesWish) (bands : List Band) (text : List ℕ) (rows : Rows R) (columns : Columns)
-    → TakesNext remaining rows (rows_of (cut_start MAX_SHOWN text)) true → row_size (fields_of rows.row) ≤ MAX_SHOWN → found_columns (fields_of rows.row) names ≡ Some columns
-    → (rated_below : List Fields)
-    × (headed names bands (rows_of text) ≡ Ok (record { bands = bands; header = fields_of rows.row; columns = columns; rows = rated_below })) × HasRowsLeft remaining rows (map shown rated_below)
-opened remaining names bands text rows columns takes within found =
+pub opened : {R : Type 0} (remaining : R → Option (List ℕ)) (names : NamesWish) (bands : List Band) (text : List ℕ) (rows : Rows R)
+    → TakesNext remaining rows (rows_of (cut_start MAX_SHOWN text)) true → row_size (fields_of rows.row) ≤ MAX_SHOWN
+    → (below : List Fields)
+    × (headed names bands (rows_of text) ≡ rated_below bands (fields_of rows.row) below (found_columns (fields_of rows.row) names)) × HasRowsLeft remaining rows (map shown below)
+opened remaining names bands text rows takes within =
     let (rest, first, left) = takes in
-    let (rated_below, is, rest_is) = headed_is names bands (rows_of text) rest (fields_of rows.row) columns (sym (table_cut 131069 text) ∙ first) within found in
-    (rated_below, is, rw rest_is at left)
+    let (below, is, rest_is) = headed_is names bands (rows_of text) rest (fields_of rows.row) (sym (table_cut 131069 text) ∙ first) within in
+    (below, is, rw rest_is at left)
 
 -- the bytes of a header, as it was printed
 
@@ -310,31 +317,15 @@ over_printed text fields is over = rw is at over
 
 -- a table without a header that counts
 
-header_by : (over : Bool) (bands : List Band) (header : Fields) (rows : List Fields) → (if over then Err fault.Header else rated_below bands header rows None) ≡ Err fault.Header
-header_by true bands header rows = refl
-header_by false bands header rows = refl
-
-pub no_header : (names : NamesWish) (bands : List Band) (text : List ℕ) → rows_of (cut_start MAX_SHOWN text) ≡ [] → headed names bands (rows_of text) ≡ Err fault.Header
+pub no_header : (names : NamesWish) (bands : List Band) (text : List ℕ) → rows_of (cut_start MAX_SHOWN text) ≡ [] → headed names bands (rows_of text) ≡ Err (fault.Header header_fault.Absent)
 no_header names bands text none = ap (λ l. headed names bands l) (none_left (rows_of text) (sym (table_cut 131069 text) ∙ none))
-
-nameless : (names : NamesWish) (bands : List Band) (whole : Fields) (more : List Fields) → found_columns (shown whole) names ≡ None → WholeOrOver (shown whole) whole MAX_SHOWN
-    → headed names bands (whole ∷ more) ≡ Err fault.Header
-nameless names bands whole more none (inl same) = rw (rw same at none) (header_by (nat_lt MAX_SHOWN (row_size whole)) bands whole more)
-nameless names bands whole more none (inr over) = rw (less_is MAX_SHOWN (row_size whole) over.1) refl
-
-pub no_columns : {R : Type 0} (remaining : R → Option (List ℕ)) (names : NamesWish) (bands : List Band) (text : List ℕ) (rows : Rows R)
-    → TakesNext remaining rows (rows_of (cut_start MAX_SHOWN text)) true → found_columns (fields_of rows.row) names ≡ None → headed names bands (rows_of text) ≡ Err fault.Header
-no_columns remaining names bands text rows takes none =
-    let (rest, first, left) = takes in
-    let (whole, more, rows_are, first_is, rest_is) = first_left (rows_of text) (fields_of rows.row) rest (sym (table_cut 131069 text) ∙ first) in
-    ap (λ l. headed names bands l) rows_are ∙ nameless names bands whole more (rw first_is at none) (whole_or_over whole MAX_SHOWN)
 
 over_by : (whole : Fields) → MAX_SHOWN < row_size (shown whole) → WholeOrOver (shown whole) whole MAX_SHOWN → MAX_SHOWN < row_size whole
 over_by whole over (inl same) = rw same at over
 over_by whole over (inr both) = both.1
 
 pub long_header : {R : Type 0} (remaining : R → Option (List ℕ)) (names : NamesWish) (bands : List Band) (text : List ℕ) (rows : Rows R)
-    → TakesNext remaining rows (rows_of (cut_start MAX_SHOWN text)) true → MAX_SHOWN < row_size (fields_of rows.row) → headed names bands (rows_of text) ≡ Err fault.Header
+    → TakesNext remaining rows (rows_of (cut_start MAX_SHOWN text)) true → MAX_SHOWN < row_size (fields_of rows.row) → headed names bands (rows_of text) ≡ Err (fault.Header header_fault.TooLong)
 long_header remaining names bands text rows takes over =
     let (rest, first, left) = takes in
     let (whole, more, rows_are, first_is, rest_is) = first_left (rows_of text) (fields_of rows.row) rest (sym (table_cut 131069 text) ∙ first) in

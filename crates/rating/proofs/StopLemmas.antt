@@ -25,7 +25,7 @@ may_stop (Err named) why met may = rw met may
 -- whatever was written, a fault that may come in the middle of the rows is silent
 may_silent : (old new : Option (List ℕ)) (why : RateFault) → MayStop why
     → IsRatingSilent old new why
-may_silent old new fault.Header may = absurd may
+may_silent old new (fault.Header found) may = absurd may
 may_silent old new fault.Output may = tt
 may_silent old new (fault.Input input.Device) may = tt
 may_silent old new (fault.Input input.OutOfMemory) may = tt

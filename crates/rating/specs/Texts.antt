@@ -1,5 +1,5 @@
 -- The text that `rate` prints of an input.
-use Rattle.std.specs.Prelude.{◌≡◌, ℕ, Bool, List, [], ◌∷◌, ◌++◌, All, length, map, Option, Some, None, Result, Ok, Err, if◌then◌else◌, nat_lt}
+use Rattle.std.specs.Prelude.{◌≡◌, ℕ, Bool, List, [], ◌∷◌, ◌++◌, All, length, map, Result, Ok, Err, if◌then◌else◌, nat_lt}
 use Rattle.std.specs.List.{flat_map}
 use Rattle.run_texts.specs.FirstSections.{first_section}
 use Rattle.run_texts.specs.Inputs.{tariff_in}
@@ -15,6 +15,8 @@ use Rattle.rating.specs.Rated.{IsRated, Rating}
 use Rattle.rating.specs.Scores.{score_of_rows}
 use Rattle.rating.specs.declared.call.TheConstants.{MAX_SHOWN}
 use Rattle.rating.specs.declared.columns.Columns.{Columns}
+use Rattle.rating.specs.declared.fault.HeaderFault.{HeaderFault}
+use Rattle.rating.specs.declared.fault.HeaderFault.TheVariants as header_fault
 use Rattle.rating.specs.declared.fault.RateFault.{RateFault}
 use Rattle.rating.specs.declared.fault.RateFault.TheVariants as fault
 use Rattle.rating.specs.declared.score.Score.{Score}
@@ -27,14 +29,14 @@ pub record RateInput : Type 0 where
   pub rows : List Fields
 
 -- the rows below a header
-abbrev pub rated_below : List Band → Fields → List Fields → Option Columns → Result RateInput RateFault
-rated_below bands header rows None = Err fault.Header
-rated_below bands header rows (Some columns) = Ok (record { bands = bands; header = header; columns = columns; rows = rows })
+abbrev pub rated_below : List Band → Fields → List Fields → Result Columns HeaderFault → Result RateInput RateFault
+rated_below bands header rows (Err why) = Err (fault.Header why)
+rated_below bands header rows (Ok columns) = Ok (record { bands = bands; header = header; columns = columns; rows = rows })
 
 -- the rows of a table, the first of which is its header, unless it has too many bytes
 abbrev pub headed : NamesWish → List Band → List Fields → Result RateInput RateFault
-headed names bands [] = Err fault.Header
-headed names bands (header ∷ rows) = if nat_lt MAX_SHOWN (row_size header) then Err fault.Header else rated_below bands header rows (found_columns header names)
+headed names bands [] = Err (fault.Header header_fault.Absent)
+headed names bands (header ∷ rows) = if nat_lt MAX_SHOWN (row_size header) then Err (fault.Header header_fault.TooLong) else rated_below bands header rows (found_columns header names)
 
 -- an input: its first section, which is its tariff, and its header, judged in this order
 abbrev pub rate_input_of : NamesWish → List ℕ → Result RateInput RateFault

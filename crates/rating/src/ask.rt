@@ -1,5 +1,28 @@
 //! What `rate` is asked for.
 
+ghost use Rattle.std.specs.Prelude.{◌≡◌};
+ghost use Rattle.rating.specs.Asks.{name_of};
+ghost use Rattle.rating.specs.SaidOf.{wished_names};
+
+/// A column of records.
+#[derive(Clone, Copy, Debug)]
+pub enum Column {
+    /// The number that was called.
+    Called,
+    /// The moment at which the call was answered.
+    Answer,
+    /// Its time before the tariff switch.
+    Before,
+    /// Its time after it.
+    After,
+    /// How long it lasted.
+    Time,
+    /// The moment at which it ended.
+    End,
+    /// What was charged.
+    Paid,
+}
+
 /// By which columns the times of a call are found.
 #[derive(Clone, Copy)]
 pub enum TimeNames<'a> {
@@ -24,6 +47,27 @@ pub struct Names<'a> {
     pub times: TimeNames<'a>,
     /// What was charged. Without a name it is `paid`, where there is such a column.
     pub paid: Option<&'a str>,
+}
+
+impl<'a> Names<'a> {
+    /// The name by which a column is looked for: the one that is asked for, else the usual one.
+    pub fn of(&self, column: Column) -> &'a str
+        ensures { result.now ≡ name_of (wished_names self.now) column }
+    {
+        match (column, self.times) {
+            (Column::Called, _) => self.called,
+            (Column::Answer, _) => self.answer,
+            (Column::Before, TimeNames::Split(before, _)) => before,
+            (Column::Before, _) => "before",
+            (Column::After, TimeNames::Split(_, after)) => after,
+            (Column::After, _) => "after",
+            (Column::Time, TimeNames::Time(name)) => name,
+            (Column::Time, _) => "time",
+            (Column::End, TimeNames::End(name)) => name,
+            (Column::End, _) => "end",
+            (Column::Paid, _) => self.paid.unwrap_or("paid"),
+        }
+    }
 }
 
 /// What `rate` is asked for.

@@ -1,12 +1,12 @@
 //! The columns of a table, found by their names.
 
-ghost use Rattle.std.specs.Prelude.{◌≡◌, ◌≤◌, ◌+◌, ◌-◌, ◌^◌, drop, option_map, IfSome};
+ghost use Rattle.std.specs.Prelude.{◌≡◌, ◌≤◌, ◌+◌, ◌-◌, ◌^◌, drop, IfSome};
 ghost use Rattle.csv.specs.Records.{fields_of};
-ghost use Rattle.rating.specs.Columns.{found_columns, needed_column, paid_column, place_from, sought, times_in};
-ghost use Rattle.rating.specs.Asks.{ByUsualNames};
-ghost use Rattle.rating.specs.SaidOf.{wished_names, times_of};
+ghost use Rattle.rating.specs.Columns.{found_columns, needed_column, paid_column, place_from, sought, times_in, usual_times};
+ghost use Rattle.rating.specs.SaidOf.{wished_names};
 
-use crate::ask::{Names, TimeNames};
+use crate::ask::{Column, Names, TimeNames};
+use crate::fault::HeaderFault;
 use csv::ByteRecord;
 use table_core::has_word;
 
@@ -31,17 +31,16 @@ pub(crate) struct Columns {
 }
 
 impl Columns {
-    /// The columns of a header by these names; none where it hasn't one that must be there, or has
-    /// one twice.
+    /// The columns of a header by these names, or what is wrong with it first.
     #[tactic(auto, unfolding(crate::specs::Columns::found_columns))]
-    pub(crate) fn find(header: &ByteRecord, names: &Names<'_>) -> Option<Columns>
+    pub(crate) fn find(header: &ByteRecord, names: &Names<'_>) -> Result<Columns, HeaderFault>
         ensures { result ≡ found_columns (fields_of header.now) (wished_names names.now) }
     {
-        let called = needed(header, names.called)?;
-        let answer = needed(header, names.answer)?;
-        let times = times(header, names.times)?;
-        let paid = paid(header, names.paid)?;
-        Some(Columns {
+        let called = needed(header, names, Column::Called)?;
+        let answer = needed(header, names, Column::Answer)?;
+        let times = times(header, names)?;
+        let paid = paid(header, names)?;
+        Ok(Columns {
             called,
             answer,
             times,
@@ -51,64 +50,68 @@ impl Columns {
 }
 
 /// The columns of the times.
-fn times(header: &ByteRecord, names: TimeNames<'_>) -> Option<TimeColumns>
-    ensures { result ≡ times_in (fields_of header.now) (times_of names.entry) }
+fn times(header: &ByteRecord, names: &Names<'_>) -> Result<TimeColumns, HeaderFault>
+    ensures { result ≡ times_in (fields_of header.now) (wished_names names.now) }
 {
-    match names {
-        TimeNames::UsualNames => usual_times(header),
-        TimeNames::Time(name) => Some(TimeColumns::Time(needed(header, name)?)),
-        TimeNames::End(name) => Some(TimeColumns::End(needed(header, name)?)),
-        TimeNames::Split(before, after) => {
-            let before = needed(header, before)?;
-            let after = needed(header, after)?;
-            Some(TimeColumns::Split(before, after))
+    match names.times {
+        TimeNames::UsualNames => usual_times(header, names),
+        TimeNames::Time(_) => Ok(TimeColumns::Time(needed(header, names, Column::Time)?)),
+        TimeNames::End(_) => Ok(TimeColumns::End(needed(header, names, Column::End)?)),
+        TimeNames::Split(_, _) => {
+            let before = needed(header, names, Column::Before)?;
+            let after = needed(header, names, Column::After)?;
+            Ok(TimeColumns::Split(before, after))
         }
     }
 }
 
 /// The columns of the times by their usual names.
-fn usual_times(header: &ByteRecord) -> Option<TimeColumns>
-    ensures { result ≡ times_in (fields_of header.now) ByUsualNames }
+fn usual_times(header: &ByteRecord, names: &Names<'_>) -> Result<TimeColumns, HeaderFault>
+    ensures { result ≡ usual_times (fields_of header.now) (wished_names names.now) }
 {
-    let before = sought(header, "before")?;
-    let after = sought(header, "after")?;
+    let before = sought(header, names, Column::Before)?;
+    let after = sought(header, names, Column::After)?;
     if let (Some(before), Some(after)) = (before, after) {
-        return Some(TimeColumns::Split(before, after));
+        return Ok(TimeColumns::Split(before, after));
     }
-    match sought(header, "time")? {
-        Some(place) => Some(TimeColumns::Time(place)),
-        None => Some(TimeColumns::End(needed(header, "end")?)),
+    match sought(header, names, Column::Time)? {
+        Some(place) => Ok(TimeColumns::Time(place)),
+        None => Ok(TimeColumns::End(needed(header, names, Column::End)?)),
     }
 }
 
 /// The column of what was charged, where there is one.
-fn paid(header: &ByteRecord, name: Option<&str>) -> Option<Option<usize>>
-    ensures { result
-        ≡ paid_column (fields_of header.now) (option_map (λ name. name.now) name.entry) }
+fn paid(header: &ByteRecord, names: &Names<'_>) -> Result<Option<usize>, HeaderFault>
+    ensures { result ≡ paid_column (fields_of header.now) (wished_names names.now) }
 {
-    match name {
-        Some(name) => Some(Some(needed(header, name)?)),
-        None => sought(header, "paid"),
+    match names.paid {
+        Some(_) => Ok(Some(needed(header, names, Column::Paid)?)),
+        None => sought(header, names, Column::Paid),
     }
 }
 
-/// The place of a name that the header must have once.
-fn needed(header: &ByteRecord, name: &str) -> Option<usize>
-    ensures { result ≡ needed_column (fields_of header.now) name.now }
+/// The place of a column that the header must have once.
+fn needed(header: &ByteRecord, names: &Names<'_>, column: Column) -> Result<usize, HeaderFault>
+    ensures { result ≡ needed_column (fields_of header.now) (wished_names names.now) column }
 {
-    sought(header, name)?
+    sought(header, names, column)?.ok_or(HeaderFault::Missing(column))
 }
 
-/// The place of a name: `Some(None)` where the header doesn't have it, none where it has it twice.
-fn sought(header: &ByteRecord, name: &str) -> Option<Option<usize>>
-    ensures { result ≡ sought (fields_of header.now) name.now }
+/// The place of a column, none where the header doesn't have it; a fault where it has it twice.
+fn sought(
+    header: &ByteRecord,
+    names: &Names<'_>,
+    column: Column,
+) -> Result<Option<usize>, HeaderFault>
+    ensures { result ≡ sought (fields_of header.now) (wished_names names.now) column }
 {
+    let name = names.of(column);
     let Some(place) = place_from(header, name, 0) else {
-        return Some(None);
+        return Ok(None);
     };
     match place_from(header, name, place + 1) {
-        Some(_) => None,
-        None => Some(Some(place)),
+        Some(_) => Err(HeaderFault::Repeated(column)),
+        None => Ok(Some(place)),
     }
 }
 

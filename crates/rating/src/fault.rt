@@ -5,9 +5,23 @@ ghost use Rattle.run_texts.specs.declared.input_fault.InputFault.TheVariants as 
 ghost use Rattle.rating.specs.Faults.{of_rows};
 ghost use Rattle.rating.specs.declared.fault.RateFault.TheVariants as out;
 
+use crate::Column;
 use run_texts::InputFault;
-use std::alloc::{AllocError, AllocFailed};
+use std::alloc::AllocError;
 use table_core::TableFault;
+
+/// What is wrong with the header of records.
+#[derive(Clone, Copy, Debug)]
+pub enum HeaderFault {
+    /// There is none.
+    Absent,
+    /// It is longer than `MAX_SHOWN` as `csv` writes it.
+    TooLong,
+    /// It hasn't this column, and must have it.
+    Missing(Column),
+    /// It has this column twice.
+    Repeated(Column),
+}
 
 /// Why records are not rated to their end.
 #[derive(Clone, Copy, Debug)]
@@ -15,9 +29,8 @@ pub enum RateFault {
     /// The tariff in front of a divider has a fault, or is too long; there is no divider; a reader
     /// failed, or memory ran out.
     Input(InputFault),
-    /// The header hasn't a column that it must have, or has one twice, or is longer than
-    /// `MAX_SHOWN` as `csv` writes it; or there is no header.
-    Header,
+    /// The header is wrong: what is wrong with it first.
+    Header(HeaderFault),
     /// The output failed.
     Output,
 }
@@ -27,6 +40,14 @@ impl From<InputFault> for RateFault {
 
     fn from(why: InputFault) -> RateFault {
         RateFault::Input(why)
+    }
+}
+
+impl From<HeaderFault> for RateFault {
+    ghost from_gives = { λ why fault. fault ≡ out.Header why };
+
+    fn from(why: HeaderFault) -> RateFault {
+        RateFault::Header(why)
     }
 }
 
@@ -45,14 +66,6 @@ impl From<AllocError> for RateFault {
     ghost from_gives = { λ _ fault. fault ≡ out.Input input.OutOfMemory };
 
     fn from(_error: AllocError) -> RateFault {
-        RateFault::Input(InputFault::OutOfMemory)
-    }
-}
-
-impl<T: Drop> From<AllocFailed<T>> for RateFault {
-    ghost from_gives = { λ _ fault. fault ≡ out.Input input.OutOfMemory };
-
-    fn from(_error: AllocFailed<T>) -> RateFault {
         RateFault::Input(InputFault::OutOfMemory)
     }
 }

@@ -15,9 +15,10 @@ mod rated;
 mod rating;
 mod score;
 
-pub use ask::{Names, RateAsk, TimeNames};
+pub use ask::{Column, Names, RateAsk, TimeNames};
+pub use call::MAX_SHOWN;
 pub use charge::{PricedTimes, charge_call};
-pub use fault::RateFault;
+pub use fault::{HeaderFault, RateFault};
 pub use kind::RateKind;
 pub use laws::pieces_are_rated;
 pub use rating::rate;

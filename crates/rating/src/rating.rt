@@ -15,7 +15,7 @@ use crate::columns::Columns;
 use crate::cut_rows::CutRows;
 use crate::line::{push_fields, push_names, push_rated};
 use crate::rated::{Rated, rate_row};
-use crate::{RateAsk, RateFault, Score};
+use crate::{HeaderFault, RateAsk, RateFault, Score};
 use csv::ByteRecord;
 use run_texts::{InputFault, read_section, read_tariff};
 use std::alloc::{AllocError, Global};
@@ -72,16 +72,14 @@ fn rate_records<I: Read + Drop, O: Write>(
 {
     let mut rows = Rows::new(alloc, CutRows::new(records));
     if !rows.next_row()? {
-        return Err(RateFault::Header);
+        return Err(RateFault::Header(HeaderFault::Absent));
     }
-    let Some(columns) = Columns::find(rows.row(), &ask.names) else {
-        return Err(RateFault::Header);
-    };
     let mut text = Vec::new(alloc);
     push_fields(&mut text, rows.row())?;
     if text.len() > MAX_SHOWN {
-        return Err(RateFault::Header);
+        return Err(RateFault::Header(HeaderFault::TooLong));
     }
+    let columns = Columns::find(rows.row(), &ask.names)?;
     push_names(&mut text)?;
     let rater = Rater {
         tariff,

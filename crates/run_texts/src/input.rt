@@ -161,8 +161,8 @@ fn line_end(text: &[u8]) -> Option<usize>
     text.iter().position(|byte| *byte == b'\n')
 }
 
-/// Whether a line divides two sections.
-pub(crate) fn is_divider(line: &[u8]) -> bool
+/// Whether a line, with its line end, divides two sections.
+pub fn is_divider(line: &[u8]) -> bool
     ensures { result ≡ is_divider line.now }
 {
     line == b"%%\n".as_slice() || line == b"%%\r\n".as_slice() || line == b"%%".as_slice()

@@ -17,7 +17,7 @@ mod trace_rows;
 mod words;
 
 pub use input::{
-    RunTexts, Sections, divide, read_directory, read_tariff, read_texts, split_section,
+    RunTexts, Sections, divide, is_divider, read_directory, read_tariff, read_texts, split_section,
 };
 pub use input_fault::InputFault;
 pub use kind::LineKind;

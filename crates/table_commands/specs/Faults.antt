@@ -89,7 +89,7 @@ no_header name = fault.Table name (record { row = 1; kind = kind.Header })
 -- the fault of records that aren't rated to their end; an output that failed has none
 abbrev pub of_rate : RateFault → Option Fault
 of_rate (rate.Input why) = Some (of_run_input why)
-of_rate rate.Header = Some (no_header table_name.Records)
+of_rate (rate.Header why) = Some (no_header table_name.Records)
 of_rate rate.Output = None
 
 -- what a section of the input of a run means, its faults as the program's

@@ -130,7 +130,7 @@ fn said_of(alloc: Global, in_sections: bool, input: &[u8], fault: Fault) -> Opti
 /// What is said of the lines that divide an input, where these are wrong.
 fn dividers_of(alloc: Global, input: &[u8], fault: Fault) -> Option<String> {
     match fault {
-        Fault::Parts => explain_dividers(alloc, input, 2).ok(),
+        Fault::Parts => explain_dividers(alloc, input).ok(),
         _ => None,
     }
 }

@@ -15,6 +15,9 @@ use table_core::write_text;
 /// The most bytes of a line: more than any line has.
 const MOST_BYTES: usize = 256;
 
+/// The most bytes of what an error says that are said: with what is round them, a line has fewer.
+const MOST_WHY: usize = 240;
+
 /// The line of a fault, with LF at its end.
 fn fault_line(fault: Fault) -> Result<ArrayString<MOST_BYTES>, fmt::Error>
     ensures { IfOk result (λ line. line.bytes ≡ line_of_fault fault ++ codes "\n") }
@@ -24,19 +27,8 @@ fn fault_line(fault: Fault) -> Result<ArrayString<MOST_BYTES>, fmt::Error>
     Ok(line)
 }
 
-/// The status of a fault, whose line goes to the error writer. The line takes no memory.
-pub fn report<E: io::Write>(faults: &mut E, fault: Fault) -> u8
-    ensures status { result ≡ status_of fault }
-    ensures line { AppendsFront (E.contents faults.old) (E.contents faults.new)
-        (line_of_fault fault ++ codes "\n") }
-{
-    if let Ok(line) = fault_line(fault) {
-        write_text(faults, line.as_str().as_bytes());
-    }
-    fault.status()
-}
-
-/// As `report`, with what is said of the fault behind its line.
+/// The status of a fault, whose line goes to the error writer, with what is said of it behind that.
+/// The line takes no memory.
 pub fn report_with<E: io::Write>(faults: &mut E, fault: Fault, more: &[u8]) -> u8
     ensures status { result ≡ status_of fault }
     ensures line { AppendsFront (E.contents faults.old) (E.contents faults.new)
@@ -59,7 +51,7 @@ pub fn report_end<E: io::Write>(
     ensures { IsSaid explains fault result (E.contents faults.old) (E.contents faults.new) }
 {
     match fault {
-        Some(fault) => report(faults, fault),
+        Some(fault) => report_with(faults, fault, &[]),
         None => {
             report_output(faults, explains, failed);
             2
@@ -90,7 +82,7 @@ fn output_line(failed: Option<io::Error>) -> Result<ArrayString<MOST_BYTES>, fmt
 }
 
 /// What an error says; of a writer that has no error, and took nothing more, just that.
-fn words_of(failed: Option<io::Error>) -> ArrayString<MOST_BYTES> {
+fn words_of(failed: Option<io::Error>) -> ArrayString<MOST_WHY> {
     let mut why = ArrayString::new();
     // Where there is no room for all of it, a front of it is said.
     let _ = match failed {

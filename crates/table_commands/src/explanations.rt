@@ -3,6 +3,7 @@
 //! All of it is found in the bytes of the input once the fault is known, so no reader keeps
 //! anything for it.
 
+mod columns;
 mod dividers;
 mod earlier;
 mod empties;
@@ -21,6 +22,7 @@ mod unknown_words;
 mod walk;
 mod wants;
 
+pub(crate) use columns::explain_header;
 pub(crate) use dividers::explain_dividers;
 pub(crate) use explaining::explain;
 pub(crate) use said::Said;

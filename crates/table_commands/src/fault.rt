@@ -114,7 +114,7 @@ impl Fault {
     {
         match fault {
             RateFault::Input(fault) => Some(Fault::of_run_input(fault)),
-            RateFault::Header => Some(Fault::no_header(TableName::Records)),
+            RateFault::Header(_) => Some(Fault::no_header(TableName::Records)),
             RateFault::Output => None,
         }
     }

@@ -31,7 +31,7 @@ mod words_fault;
 pub use arguments::{explains, read_words};
 pub use commands::{audit_input, price_input, quote_input, replay_input};
 pub use ending::Ending;
-pub use error_lines::{report, report_end, report_output, report_with, write_both};
+pub use error_lines::{report_end, report_output, report_with, write_both};
 pub use fault::{Fault, TableName};
 pub use input::{MAX_INPUT, read_input};
 pub use noting::Noting;

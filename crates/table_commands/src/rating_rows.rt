@@ -2,20 +2,21 @@
 
 ghost use Rattle.std.specs.Prelude.{◌≡◌, ◌++◌, [], IfOk, IfSome, OnOk, if◌then◌else◌};
 ghost use Rattle.std.specs.Io.KnownBytes.{Keeps};
-ghost use Rattle.table_commands.specs.Ratings.{IsRatedByWish};
+ghost use Rattle.table_commands.specs.Ratings.{IsRatedByWish, IsSaidOfRating};
 ghost use Rattle.table_commands.specs.Summaries.{counts_text, status_of_rating, sums_text, summary_line};
 ghost use Rattle.table_core.specs.Fronts.{AppendsFront};
 ghost use Rattle.rating.specs.SaidOf.{rate_wish_of};
 ghost use Rattle.rating.specs.Scores.{IsBoundedScore};
 
-use crate::error_lines::report_end;
-use crate::fault::Fault;
+use crate::error_lines::{report_end, report_with};
+use crate::explanations::explain_header;
+use crate::fault::{Fault, TableName};
 use crate::noting::Noting;
 use arrayvec::ArrayString;
-use rating::{RateAsk, Score, rate};
+use rating::{Names, RateAsk, RateFault, Score, rate};
 use std::alloc::Global;
 use std::fmt::{self, Write as WriteText};
-use std::io::{Read, Write};
+use std::io::{self, Read, Write};
 use table_core::write_text;
 
 /// The most bytes of a summary: more than any has.
@@ -41,7 +42,32 @@ pub fn rate_input<I: Read + Drop, O: Write, E: Write>(
 {
     match rate(alloc, ask, input, output) {
         Ok(score) => report_rated(faults, ask.summary, &score),
-        Err(why) => report_end(faults, explains, Fault::of_rate(why), output.failed),
+        Err(why) => report_unrated(alloc, faults, explains, &ask.names, why, output.failed),
+    }
+}
+
+/// Reports why records weren't rated to their end, and gives the status. What is wrong with a
+/// header is said behind its line where that is asked for, unless memory runs out for it.
+fn report_unrated<E: Write>(
+    alloc: Global,
+    faults: &mut E,
+    explains: bool,
+    names: &Names<'_>,
+    why: RateFault,
+    failed: Option<io::Error>,
+) -> u8
+    ensures { IsSaidOfRating explains why result (E.contents faults.old) (E.contents faults.new) }
+{
+    match why {
+        RateFault::Header(wrong) if explains => {
+            let more = explain_header(alloc, names, wrong);
+            report_with(
+                faults,
+                Fault::no_header(TableName::Records),
+                more.as_bytes(),
+            )
+        }
+        _ => report_end(faults, explains, Fault::of_rate(why), failed),
     }
 }
 

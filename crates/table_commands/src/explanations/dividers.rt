@@ -1,19 +1,16 @@
 //! The lines that divide an input.
 
 use crate::explanations::said::Said;
+use run_texts::is_divider;
 use std::alloc::{AllocError, Global};
 
 /// The most lines whose numbers are said.
 const MOST_NUMBERS: usize = 5;
 
 /// How many lines of an input divide it, which, and which look as if they did.
-pub(crate) fn explain_dividers(
-    alloc: Global,
-    input: &[u8],
-    wanted: u32,
-) -> Result<String, AllocError> {
+pub(crate) fn explain_dividers(alloc: Global, input: &[u8]) -> Result<String, AllocError> {
     let mut said = Said::new(alloc);
-    push_dividers(&mut said, dividers_of(input), wanted);
+    push_dividers(&mut said, dividers_of(input));
     said.into_text()
 }
 
@@ -39,7 +36,7 @@ fn dividers_of(input: &[u8]) -> Dividers {
         joined: None,
     };
     let mut number: u64 = 0;
-    for line in input.split(|byte| *byte == b'\n') {
+    for line in input.split_inclusive(|byte| *byte == b'\n') {
         number = number.saturating_add(1);
         dividers.add(number, line);
     }
@@ -63,9 +60,9 @@ impl Dividers {
     }
 }
 
-/// Adds how many lines divide an input and which, how many are wanted, the line that nearly is one,
+/// Adds how many lines divide an input and which, that two are wanted, the line that nearly is one,
 /// and the line that has one at its end.
-fn push_dividers(said: &mut Said, dividers: Dividers, wanted: u32) {
+fn push_dividers(said: &mut Said, dividers: Dividers) {
     let found = dividers.found;
     let lines = if found == 1 {
         "line that is"
@@ -76,7 +73,7 @@ fn push_dividers(said: &mut Said, dividers: Dividers, wanted: u32) {
     for line in &dividers.numbers[..found.min(MOST_NUMBERS)] {
         write!(said, ", in line {line}");
     }
-    writeln!(said, "; wanted {wanted}");
+    said.push("; wanted 2\n");
     if let Some(line) = dividers.near {
         writeln!(said, "line {line} is %% with a blank at it");
     }
@@ -101,29 +98,14 @@ enum Looks {
     Otherwise,
 }
 
-/// What a line without its LF looks like.
+/// What a line looks like.
 fn looks_of(line: &[u8]) -> Looks {
-    if line == b"%%".as_slice() || line == b"%%\r".as_slice() {
-        return Looks::Divides;
-    }
-    let mut signs: usize = 0;
-    for byte in line {
-        match *byte {
-            b'%' => signs = signs.saturating_add(1),
-            b' ' | b'\t' | b'\r' => {}
-            _ => return looks_at_end_of(line),
-        }
-    }
-    if signs == 2 {
+    let text = line.trim_ascii();
+    if is_divider(line) {
+        Looks::Divides
+    } else if text == b"%%".as_slice() {
         Looks::Nearly
-    } else {
-        Looks::Otherwise
-    }
-}
-
-/// What a line looks like that has something else than signs and blanks.
-fn looks_at_end_of(line: &[u8]) -> Looks {
-    if line.ends_with(b"%%") || line.ends_with(b"%%\r") {
+    } else if text.ends_with(b"%%") && !text.starts_with(b"%") {
         Looks::Joined
     } else {
         Looks::Otherwise

@@ -224,11 +224,11 @@ const SETTLE_SWITCHED: &[(usize, Wants)] = &[
 /// The columns of a reply with this word, counted from it on.
 fn columns_of_reply(word: &[u8]) -> &'static [(usize, Wants)] {
     if is_word(word, "granted") {
-        &[(0, Wants::Word), (1, TIME), (2, Wants::Word), (3, MONEY)]
+        &[(0, Wants::Word), (3, MONEY), (1, TIME), (2, Wants::Word)]
     } else if is_word(word, "credited") || is_word(word, "over") || is_word(word, "denied") {
         &[(0, Wants::Word), (3, MONEY)]
     } else {
-        &[(0, Wants::Word), (1, MONEY), (3, MONEY)]
+        &[(0, Wants::Word), (3, MONEY), (1, MONEY)]
     }
 }
 

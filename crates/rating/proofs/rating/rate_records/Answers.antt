@@ -7,10 +7,10 @@ use Rattle.table_core.specs.Rows.{rows_of}
 use Rattle.table_core.proofs.Known.{at_known, if_known}
 use Rattle.rating.specs.Cuts.{cut_start, passed_text, cut_cursor, reader_of}
 use Rattle.rating.specs.SaidOf.{wished_names}
-use Rattle.rating.specs.Texts.{headed}
+use Rattle.rating.specs.Texts.{headed, rated_below}
 use Rattle.rating.specs.declared.call.TheConstants.{MAX_SHOWN}
 use Rattle.rating.proofs.StopLemmas.{stopped_silent}
-use Rattle.rating.proofs.RateLemmas.{ends_same, ends_silent, long_header, no_columns, no_header, opened, over_printed, rows_may, stopped_ends, within_printed}
+use Rattle.rating.proofs.RateLemmas.{ends_same, ends_silent, header_ends, long_header, no_header, opened, over_printed, rows_may, stopped_ends, within_printed}
 use Rattle.rating.proofs.rating.rate_records.Goals as goal
 
 no_more : (long many most : ℕ) → long ≤ most → long ≡ many → many ≤ most
@@ -27,12 +27,13 @@ pub returns-clause-ends : goal.returns-clause-ends
 returns-clause-ends g c = if_known (g.I.Read.remaining c.args.records) _ (λ text known.
     let has = at_known (option_map (passed_text (cut_cursor c.new.result)) (g.I.Read.remaining (reader_of c.new.result))) _ (cut_start MAX_SHOWN text)
     (passed_known passed_text g.I.Read.remaining _ _ _ _ text c.new.ensures.cursor c.new.ensures.reader known) c.new-rows.ensures in
-    let printed = rw (c.new-text.ensures.items, c.row-2.ensures) at c.in_ok-push_fields.ensures in
+    let printed = rw (c.new-text.ensures.items, c.row.ensures) at c.in_ok-push_fields.ensures in
     let small = within_printed _ _ printed (no_more _ _ _ c.if-len-gt-MAX_SHOWN.false (c.len.ensures ∙ c.push_fields.new.text.ok.0)) in
-    let (below, is, left) = opened _ (wished_names c.args.ask.now.names) c.args.tariff.now text c.next_row.new.self c.in-Some.columns
-    (rw c.if-not-branch.false at c.in_ok-next_row.ensures.takes (rows_of (cut_start MAX_SHOWN text)) has) small
-    (rw c.row.ensures at (sym c.find.ensures ∙ c.in-Some.is)) in
-    ends_same c.args.ask.now.differing (headed (wished_names c.args.ask.now.names) c.args.tariff.now (rows_of text)) _ _ _ _ is
+    let (below, is, left) = opened _ (wished_names c.args.ask.now.names) c.args.tariff.now text c.next_row.new.self
+    (rw c.if-not-branch.false at c.in_ok-next_row.ensures.takes (rows_of (cut_start MAX_SHOWN text)) has) small in
+    let found = rw c.row-2.ensures at c.in_ok-columns.ensures in
+    ends_same c.args.ask.now.differing (headed (wished_names c.args.ask.now.names) c.args.tariff.now (rows_of text)) _ _ _ _
+    (is ∙ ap (rated_below c.args.tariff.now (fields_of c.next_row.new.self.row) below) (sym found))
     (c.rate_rows.ensures.ends (fields_of c.next_row.new.self.row) below left
     (c.in_ok-push_names.ensures (fields_of c.next_row.new.self.row) printed)
     (sym (c.len-2.ensures ∙ ap (λ row. length (fields_of row)) c.row-3.ensures))))
@@ -46,21 +47,11 @@ returns-then-not-branch-clause-ends g c = if_known (g.I.Read.remaining c.args.re
       Keeps-refl (g.O.Write.contents c.args.output.now),
     ))
 
-pub returns-in_default-clause-ends : goal.returns-in_default-clause-ends
-returns-in_default-clause-ends g c = if_known (g.I.Read.remaining c.args.records) _ (λ text known.
-    let has = at_known (option_map (passed_text (cut_cursor c.new.result)) (g.I.Read.remaining (reader_of c.new.result))) _ (cut_start MAX_SHOWN text)
-    (passed_known passed_text g.I.Read.remaining _ _ _ _ text c.new.ensures.cursor c.new.ensures.reader known) c.new-rows.ensures in (
-      no_columns _ (wished_names c.args.ask.now.names) c.args.tariff.now text c.next_row.new.self
-          (rw c.if-not-branch.false at c.in_ok-next_row.ensures.takes (rows_of (cut_start MAX_SHOWN text)) has)
-          (rw c.row.ensures at (sym c.find.ensures ∙ c.in_default.is)),
-      Keeps-refl (g.O.Write.contents c.args.output.now),
-    ))
-
 pub returns-then-len-gt-MAX_SHOWN-clause-ends : goal.returns-then-len-gt-MAX_SHOWN-clause-ends
 returns-then-len-gt-MAX_SHOWN-clause-ends g c = if_known (g.I.Read.remaining c.args.records) _ (λ text known.
     let has = at_known (option_map (passed_text (cut_cursor c.new.result)) (g.I.Read.remaining (reader_of c.new.result))) _ (cut_start MAX_SHOWN text)
     (passed_known passed_text g.I.Read.remaining _ _ _ _ text c.new.ensures.cursor c.new.ensures.reader known) c.new-rows.ensures in
-    let printed = rw (c.new-text.ensures.items, c.row-2.ensures) at c.in_ok-push_fields.ensures in (
+    let printed = rw (c.new-text.ensures.items, c.row.ensures) at c.in_ok-push_fields.ensures in (
       long_header _ (wished_names c.args.ask.now.names) c.args.tariff.now text c.next_row.new.self
           (rw c.if-not-branch.false at c.in_ok-next_row.ensures.takes (rows_of (cut_start MAX_SHOWN text)) has)
           (over_printed _ _ printed (any_more _ _ _ c.if-len-gt-MAX_SHOWN.true (c.len.ensures ∙ c.push_fields.new.text.ok.0))),
@@ -87,6 +78,25 @@ returns-in_err-push_fields g c =
       bounded = IfOk-from_err stop.result _ stop.ensures.0;
     }
 
+pub returns-in_err-columns : goal.returns-in_err-columns
+returns-in_err-columns g c =
+    let held = g.O.Write.contents c.args.output.now in
+    let stop = c.from_residual-in_err-columns in
+    record {
+      ends = if_known (g.I.Read.remaining c.args.records) _ (λ text known.
+          let has = at_known (option_map (passed_text (cut_cursor c.new.result)) (g.I.Read.remaining (reader_of c.new.result))) _ (cut_start MAX_SHOWN text)
+          (passed_known passed_text g.I.Read.remaining _ _ _ _ text c.new.ensures.cursor c.new.ensures.reader known) c.new-rows.ensures in
+          let printed = rw (c.new-text.ensures.items, c.row.ensures) at c.in_ok-push_fields.ensures in
+          let small = within_printed _ _ printed (no_more _ _ _ c.if-len-gt-MAX_SHOWN.false (c.len.ensures ∙ c.push_fields.new.text.ok.0)) in
+          let (below, is, left) = opened _ (wished_names c.args.ask.now.names) c.args.tariff.now text c.next_row.new.self
+          (rw c.if-not-branch.false at c.in_ok-next_row.ensures.takes (rows_of (cut_start MAX_SHOWN text)) has) small in
+          let found = rw c.row-2.ensures at c.in_err-columns.ensures in
+          header_ends c.args.ask.now.differing (headed (wished_names c.args.ask.now.names) c.args.tariff.now (rows_of text)) held stop.result _ stop.ensures.1
+          (is ∙ ap (rated_below c.args.tariff.now (fields_of c.next_row.new.self.row) below) (sym found)));
+      silent = ends_silent held stop.result;
+      bounded = IfOk-from_err stop.result _ stop.ensures.0;
+    }
+
 pub returns-in_err-push_names : goal.returns-in_err-push_names
 returns-in_err-push_names g c =
     let held = g.O.Write.contents c.args.output.now in
@@ -108,12 +118,6 @@ returns-then-not-branch-clause-silent g c = Keeps-refl (g.O.Write.contents c.arg
 
 pub returns-then-not-branch-clause-bounded : goal.returns-then-not-branch-clause-bounded
 returns-then-not-branch-clause-bounded g c = tt
-
-pub returns-in_default-clause-silent : goal.returns-in_default-clause-silent
-returns-in_default-clause-silent g c = Keeps-refl (g.O.Write.contents c.args.output.now)
-
-pub returns-in_default-clause-bounded : goal.returns-in_default-clause-bounded
-returns-in_default-clause-bounded g c = tt
 
 pub returns-then-len-gt-MAX_SHOWN-clause-silent : goal.returns-then-len-gt-MAX_SHOWN-clause-silent
 returns-then-len-gt-MAX_SHOWN-clause-silent g c = Keeps-refl (g.O.Write.contents c.args.output.now)

@@ -5,4 +5,4 @@ use Rattle.table_commands.proofs.rating_rows.rate_input.Goals as goal
 
 pub returns-in-Err-clause-rated : goal.returns-in-Err-clause-rated
 returns-in-Err-clause-rated g c = if_known (g.I.Read.remaining c.args.input) _ (λ text known.
-    not_rated c.args.explains (rate_wish_of c.args.ask.now) text c.report_end.result _ _ c.in-Err.why (at_known _ _ text known c.in-Err.ensures.ends) (rw c.of_rate.ensures at c.report_end.ensures))
+    not_rated c.args.explains (rate_wish_of c.args.ask.now) text c.report_unrated.result _ _ c.in-Err.why (at_known _ _ text known c.in-Err.ensures.ends) c.report_unrated.ensures)
