@@ -4,8 +4,8 @@
 tests/failing_devices.c is loaded before the C library. An input fails behind each of its bytes, or is longer than it
 may be; an output and an error writer have room for each front of what goes to them, take a few bytes at once, and are
 interrupted; input, output and log of `serve` fail where lines come together, and the calls show what is written and
-synced when; each call by which a log is opened fails. A device fails once and takes all from then on, so a program that
-goes on behind a failure is seen.
+synced when; each call by which a log is opened fails, and the last thread that a run starts. A device
+fails once and takes all from then on, so a program that goes on behind a failure is seen.
 """
 import argparse
 import errno
@@ -69,6 +69,25 @@ PRINTED = [
     Row("rate --summary", RECORDS, RATED, SUMMARY, 3),
 ]
 SERVED = Row("serve --lines", HEAD.decode() + CALL, HEADER.decode() + ANSWERED + dict(ENDS)["serve --lines"])
+
+# A run of eleven accounts without calls, and what is printed of it.
+ACCOUNTS = run_input("", "".join(f"account,{it},5\n" for it in range(1, 12)), "").encode()
+CLOSED = "".join(f"account {it} opening 5 available 5 entries 0\n" for it in range(1, 12)).encode()
+# How many threads are started beside the main one, and whether a run fails for which the last of them can't be: one for
+# each further worker, which it does; or for each further group of neighbouring parts, which another thread plays then.
+STARTED = [
+    ("run", 1, True),
+    ("run --workers 1", 0, True),
+    ("run --workers 3", 2, True),
+    ("run --workers 16", 15, True),
+    ("run --parts 8", 0, False),
+    ("run --parts 8 --threads 1", 0, False),
+    ("run --parts 8 --threads 4", 3, False),
+    ("run --parts 8 --threads 5", 3, False),
+    ("run --parts 8 --threads 8", 7, False),
+    ("run --parts 3 --threads 64", 2, False),
+    ("run --parts 64 --threads 64", 10, False),
+]
 
 # How many bytes a writer takes at once. Where that is said, it is interrupted before it takes any.
 STEPS = [None, 7, 5, 1]
@@ -145,6 +164,17 @@ def served_inputs():
         yield row, {"input_room": room, "input_error": errno.EIO}
 
 
+def byte_by_byte():
+    """An input that gives a byte at once is read to its end, also lines that are too long."""
+    rated = RECORDS + "4930,0,600,1000\n" * 9 + "x" * 70_000 + "\n"
+    long = RATED.splitlines(keepends=True)[1]
+    output = RATED + long * 9 + "x" * 70_000 + ",,,,,,TooLong\n"
+    for row in (Row("serve", HEAD.decode() + "x" * 5_000 + "\n0,,1,switch,Ended,,,,\n",
+                    HEADER.decode() + ",,,service,fault,TooLong,2,,\n0,0,1,switch,Ended,,,,\n0,0,1,service,stray,,,,\n"),
+                Row("rate", rated, output, "", 3)):
+        yield row, {"input_step": 1}
+
+
 def narrow(device, room, step):
     """The limits of a device that has room for so many bytes, and takes so many at once."""
     return {f"{device}_room": room, f"{device}_step": step, "interrupted": 1 if step else None}
@@ -178,9 +208,19 @@ def bounds_the_input(trial):
     return len(LENGTHS)
 
 
+def writes_seldom(trial):
+    """Records that are rated are gathered, and go to the output some 64 KiB at once."""
+    count, calls = 20_000, trial.new(b"")
+    (status, output, _), _ = trial.over(trial.new((RECORDS + "4930,0,600,1000\n" * count).encode()), ["rate"], told_to=calls)
+    same("rows", (status, output.count(b"\n")), (3, count + 2))
+    same("writes", read(calls).count(b"OUTPUT write") <= len(output) // 65_536 + 1, True)
+    return 1
+
+
 def opens_a_log(trial):
     """Each call by which a log is opened fails once: that there is none, one that ends with a torn line, or a whole one.
-    Nothing is printed then, what the log has stays there but for the torn line, and the next start goes on."""
+    Nothing is printed then, what the log has stays there but for the torn line, and the next start goes on. The folder of
+    the log is opened and synced at the end, whatever the log has: a start that was killed may not have come to that."""
     talk, count, tried = trial.numbered, 0, ("open", "statx", "flock", "read", "ftruncate", "fsync")
     failed, logs = set(), [None, talk.logged(3), talk.logged(3) + talk.rows[3][:5]]
     for log, call in itertools.product(logs, tried):
@@ -193,15 +233,28 @@ def opens_a_log(trial):
             where, count = f"{call} {number} fails over {log}", count + 1
             same(where, said, (2, b"", b"prepaid: log: Device\n"))
             if log:
-                same(where, read(path), talk.logged(3) if call == "fsync" else log)
+                same(where, read(path), talk.logged(3) if call == "fsync" or (call, number) == ("open", 2) else log)
             trial.goes_on(where, path, talk, 0)
-            failed.add(call)
-    same("calls that failed", failed, {*tried})
+            failed.add((logs.index(log), call, number))
+    same("calls that failed", {*tried}, {call for _, call, _ in failed})
+    same("the folder", {(it, call, 2) for it in range(len(logs)) for call in ("open", "fsync")} - failed, set())
     return count
 
 
-ROWS = [read_inputs, served_inputs, outputs, error_writers]
-TRIES = [bounds_the_input, opens_a_log, *GROUPED]
+def starts_threads(trial):
+    """As many threads are started as a run is to have, and no more: the last of them can't be, or one more couldn't."""
+    path = trial.new(ACCOUNTS)
+    for (words, count, fails), more in itertools.product(STARTED, (0, 1)):
+        calls = trial.new(b"")
+        said, _ = trial.over(path, words.split(), failed_call="pthread_create", failed_number=count + more, told_to=calls)
+        last = count > 0 and not more
+        same(f"{words}: thread {count + more} is started", b"FAILED pthread_create" in read(calls), last)
+        same(f"{words}: thread {count + more} fails", said, (2, b"", b"prepaid: run: Thread\n") if last and fails else (0, CLOSED, b""))
+    return 2 * len(STARTED)
+
+
+ROWS = [read_inputs, served_inputs, byte_by_byte, outputs, error_writers]
+TRIES = [bounds_the_input, writes_seldom, opens_a_log, starts_threads, *GROUPED]
 
 
 def main():
@@ -215,7 +268,7 @@ def main():
                 runs += trial.rows(it()) if it in ROWS else it(trial)
             except (Wrong, OSError, subprocess.TimeoutExpired) as why:
                 wrong.append(f"devices: {it.__name__}: {why!s:.2000}")
-    print("\n".join(wrong) or f"devices: {runs} runs whose input, output, error writer or log fails")
+    print("\n".join(wrong) or f"devices: {runs} runs whose input, output, error writer, log or thread fails")
     return 1 if wrong else 0
 
 

@@ -14,6 +14,7 @@ import tempfile
 
 TOP = os.path.join(os.path.dirname(os.path.abspath(__file__)), "..")
 sys.path.insert(0, os.path.join(TOP, "examples"))
+import divide as dividing
 from divide import RUN, Limits, Wrong, divide
 from merge import merge
 from model.command import TABLES
@@ -245,6 +246,10 @@ def main():
             trial.threaded(name, one, path)
         for limits in SMALL:
             trial.same(f"evening {limits}", one, os.path.join(TOP, "examples", "evening.txt"), limits=limits)
+        # parts that are written piece by piece
+        held, dividing.HELD = dividing.HELD, 1_000
+        trial.same("evening, piece by piece", one, os.path.join(TOP, "examples", "evening.txt"), 3)
+        dividing.HELD = held
         for name, rows in WRONG.items():
             path = trial.new(wrong(*rows))
             fault = run(trial.program, one, path)[2]

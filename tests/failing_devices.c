@@ -3,6 +3,7 @@
  *
  *   INPUT_ROOM   the input gives so many bytes, and then a read fails
  *   INPUT_ERROR  with this error
+ *   INPUT_STEP   a read gives no more than so many bytes
  *   NAME_ROOM    NAME takes so many bytes, and then a write fails
  *   NAME_CALLS   it takes so many calls, writes and syncs, and then one fails
  *   NAME_STEP    a write takes no more than so many bytes
@@ -15,9 +16,11 @@
  * A limit that has made a call fail is none from then on, so that it is seen where a program goes
  * on behind a failure. The log is the one plain file that is written or synced. */
 #define _GNU_SOURCE
+#include <dlfcn.h>
 #include <errno.h>
 #include <fcntl.h>
 #include <limits.h>
+#include <pthread.h>
 #include <stdarg.h>
 #include <stdio.h>
 #include <stdlib.h>
@@ -36,6 +39,7 @@ struct device {
 
 static struct device devices[] = {{.name = "OUTPUT"}, {.name = "FAULTS"}, {.name = "LOG"}};
 static long input_room;
+static long input_step;
 static int input_error;
 static int interrupts;
 static const char *failed_call;
@@ -58,6 +62,7 @@ __attribute__((constructor)) static void begin(void)
         devices[it].step = number_in(devices[it].name, "_STEP");
     }
     input_room = number_in("INPUT", "_ROOM");
+    input_step = number_in("INPUT", "_STEP");
     input_error = (int)number_in("INPUT", "_ERROR");
     interrupts = getenv("INTERRUPTED") != NULL;
     failed_call = getenv("FAILED_CALL");
@@ -120,7 +125,7 @@ ssize_t read(int descriptor, void *bytes, size_t size)
         return is_failed("read") ? fail(EIO) : syscall(SYS_read, descriptor, bytes, size);
     if (is_over(&input_room))
         return fail(input_error);
-    long given = syscall(SYS_read, descriptor, bytes, least(size, input_room));
+    long given = syscall(SYS_read, descriptor, bytes, least(least(size, input_step), input_room));
     input_room -= given > 0 ? given : 0;
     return given;
 }
@@ -173,6 +178,15 @@ int ftruncate(int descriptor, off_t size)
 int rename(const char *from, const char *to)
 {
     return is_failed("rename") ? fail(EIO) : (int)syscall(SYS_rename, from, to);
+}
+
+int pthread_create(pthread_t *thread, const pthread_attr_t *how, void *(*run)(void *), void *with)
+{
+    int (*create)(pthread_t *, const pthread_attr_t *, void *(*)(void *), void *);
+    if (is_failed("pthread_create"))
+        return EAGAIN;
+    *(void **)&create = dlsym(RTLD_NEXT, "pthread_create");
+    return create(thread, how, run, with);
 }
 
 static int sync_by(long call, int descriptor)

@@ -204,11 +204,18 @@ def picture(evening, folder):
 
 
 def numbers_as_texts():
-    """A bill and a diagram are of one number alone, also where awk takes another for the same."""
-    bill = "call,calling\n1,491,4930,7,49,0,100,402,300,0,550,ended\n2,0491,4931,7,49,0,100,402,300,0,550,ended\n"
-    trace = "moment,number,call\n0,0,18446744073709551615,switch,Ended\n0,1,18446744073709551614,switch,Stray\n"
+    """A bill and a diagram are of one number alone, also where awk takes another for the same. A bill has all of the time that
+    was talked, and no call that wasn't answered; a diagram says what an account refused."""
+    bill = ("call,calling\n1,491,4930,7,49,0,100,402,300,0,550,ended\n2,0491,4931,7,49,0,100,402,300,0,550,ended\n"
+            "3,492,4930,7,49,0,100,702,300,300,850,ended\n4,492,4930,7,49,1000,,1200,0,0,0,noanswer\n")
+    trace = ("moment,number,call\n0,0,18446744073709551615,switch,Ended\n0,1,18446744073709551614,switch,Stray\n"
+             "0,2,7,switch,Ended,,,,\n0,2,7,service,refused,HistoryFull,,,\n0,2,7,service,stray,,,,\n")
     for words, text, wanted in (
         (["number=491", "bill"], bill, "00:00:00 4930 30.0 s 550\ntotal 550\n"),
+        (["number=492", "bill"], bill, "00:00:00 4930 60.0 s 850\ntotal 850\n"),
+        (["call=7", "sequence"], trace, f"{DIAGRAM}    switch->>service: Ended\n    Note right of service: refused HistoryFull\n"
+         "    Note right of service: stray\n"),
+        (["n=0", "units"], "1 01:02:03.4\n01:02:03.4\n901234\n", "901234\n37234\n1 01:02:03.4\n"),
         (["call=18446744073709551615", "sequence"], trace, f"{DIAGRAM}    switch->>service: Ended\n"),
     ):
         awk = ["awk", "-v", words[0], "-f", f"{EXAMPLES}/{words[1]}.awk"]

@@ -20,7 +20,7 @@ LONG_CALL = b"".join(b"%d,,1,switch,%s,\n" % it for it in [
     (0, b"InitialDP,491700001,4930,"), (100, b"EventReportBCSM,answer,,notify"), (950, b"ApplyChargingReport,inactive,n,850"),
     (950, b"EventReportBCSM,disconnect,1,interrupted"), (952, b"Ended,,,")])
 SHIM = """#!/bin/sh
-echo >> "$CALLS"
+echo "NAME" >> "$CALLS"
 if [ "$(wc -l < "$CALLS")" -eq "$CUT" ]; then kill -9 "$PPID"; exit 1; fi
 PATH=${PATH#*:} exec NAME "$@"
 """
@@ -71,22 +71,23 @@ def days(trial):
     talk, shims = trial.numbered, trial.new()
     os.mkdir(shims)
     for name in COMMANDS:
-        with open(f"{shims}/{name}", "w", encoding="ascii") as file:
-            file.write(SHIM.replace("NAME", name))
-        os.chmod(f"{shims}/{name}", 0o755)
+        put_shim(f"{shims}/{name}", SHIM.replace("NAME", name))
     left = modelled(["--lines"], talk.text())[1].split(b" available ")[1].split()[0]
     setup = b"kind,key,value,until\naccount,7,%s,1000\nsubscriber,491700001,7,\n" % left
     head = b"%%\n".join([HEAD.split(b"%%\n")[0], setup, HEADER])
     cut = calls = 0
     while calls >= cut:
         cut, folder = cut + 1, new_day(trial)
-        calls = day(trial, shims, folder, b"".join(talk.rows), cut)[1]
+        called = day(trial, shims, folder, b"".join(talk.rows), cut)[1]
+        calls = len(called)
         if read(f"{folder}/head.txt") != head:
             rows = [] if kept_in(folder) else talk.rows
             same(f"cut at {cut}, again", day(trial, shims, folder, b"".join(rows), 0)[0], 0)
         same(f"cut at {cut}", read(f"{folder}/head.txt"), head)
         # a day without messages may follow
         same(f"cut at {cut}", [it for it in kept_in(folder) if not it.endswith(HEADER)], [talk.logged()])
+    # all is on the disk before a name is changed
+    same("the last commands", called[called.index(b"sync") - 2 :], b"cat awk sync mkdir date mktemp mv mv".split())
     folder = new_day(trial)
     with open(f"{folder}/day.log", "wb") as file:
         file.write(talk.logged(3))
@@ -99,6 +100,9 @@ def days(trial):
             file.write(text)
     same("with other options", day(trial, shims, folder, LONG_CALL, 0, examples=examples)[0], 0)
     same("with other options", re.findall(b"^account,.*", read(f"{folder}/head.txt"), re.M), [b"account,7,33,"])
+    folder = new_day(trial)
+    status = day(trial, shims, folder, b"".join(talk.rows[:2]), 0)[0]
+    same("a call holds money", (status, read(f"{folder}/head.txt"), kept_in(folder)), (1, HEAD, []))
     return f"{cut - 1} cuts"
 
 
@@ -111,15 +115,21 @@ def new_day(trial):
     return folder
 
 
+def put_shim(path, text):
+    with open(path, "w", encoding="ascii") as file:
+        file.write(text)
+    os.chmod(path, 0o755)
+
+
 def kept_in(folder):
     """The logs of the days that are over."""
     return list(filter(None, (read(it) for it in sorted(glob.glob(f"{folder}/kept/*/day.log")))))
 
 
 def day(trial, shims, folder, text, cut, *first, examples=f"{ROOT}/examples"):
-    """Lets a day pass, cut off at its so manyth command: its status, how many commands it called, what it printed."""
+    """Lets a day pass, cut off at its so manyth command: its status, the commands that it called, what it printed."""
     path, calls = f"{shims}:{os.environ['PATH']}", trial.new(b"")
     more = {"PATH": path, "PREPAID": trial.program, "CALLS": calls, "CUT": str(cut)}
     words, environment = ["bash", f"{examples}/day.sh", folder, *first], {**os.environ, **more}
     ran = subprocess.run(words, input=text, capture_output=True, env=environment, timeout=SECONDS)
-    return ran.returncode, read(calls).count(b"\n"), ran.stdout
+    return ran.returncode, read(calls).split(), ran.stdout

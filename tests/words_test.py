@@ -244,9 +244,15 @@ def told_of(name, program):
 
 
 def statuses_in_help(program):
-    """The exit statuses that the help of each command has, in order."""
-    return {it: re.findall(r"^  (\d)  ", told_of(it, program).partition("\nExit status:\n")[2].partition("\n\n")[0], re.M)
-            for it in {*NEEDS, "audit", "rate"}}
+    """The exit statuses that the help of each command has, in order, and whether something is refused or failed then."""
+    texts = {it: told_of(it, program).partition("\nExit status:\n")[2].partition("\n\n")[0] for it in {*NEEDS, "audit", "rate"}}
+    return {it: [(status, *re.findall("refused|failed", said)[:1]) for status, said in re.findall(r"^  (\d)  (.*)", text, re.M)]
+            for it, text in texts.items()}
+
+
+def units_in_help(program):
+    """How many milliseconds the helps say that a unit has."""
+    return {unit for it in {*NEEDS, "audit", "rate"} for unit in re.findall(r"(\d+) ms", told_of(it, program))}
 
 
 def lengths_in_help(program):
@@ -466,7 +472,11 @@ def main():
     same("help", "faults of a line", faults_of("line", "serve", program), [it[0].strip("`") for it in tables_of(formats)["Fault of a line"]])
     same("help", "left out", of_help[1], {it: defaults[it] for it in defaults if it[0] == "run" or it in of_help[1]})
     same("help", "ranges", ranges_in_help(program), ranges_in_formats(formats, values))
-    same("help", "statuses", statuses_in_help(program), {it: list("0123" if it in ("audit", "rate") else "012") for it in {*NEEDS, "audit", "rate"}})
+    statuses = [("0",), ("1", "refused"), ("2", "failed")]
+    same("help", "statuses", statuses_in_help(program), {it: statuses for it in NEEDS} | {it: [*statuses, ("3",)] for it in ("audit", "rate")})
+    same("help", "milliseconds", units_in_help(program), {"100"})
+    told = {term: re.findall("went to the output|are wrong|failed", said)[:1] for section, _, term, said in entries_of(manual) if section == "EXIT STATUS"}
+    same("man page", "statuses", told, {"0": ["went to the output"], "1": ["are wrong"], "2": ["failed"], "3": ["went to the output"]})
     same("help", "lengths of a row and a line", lengths_in_help(program), lengths_in_formats(formats))
     for name, (found, told) in (("bash", of_bash), ("zsh", of_zsh)):
         same(name, "options", found, commands)

@@ -19,6 +19,10 @@ SECTIONS = [
     ("serve", f"prefix,from,fee,rate\n{BAND}%%\n", "kind,key,value\n", MESSAGES, MESSAGES),
 ]
 
+# A tariff whose rows end with CR, so that they are one line by LF, longer than any buffer; and records.
+BY_CR = "prefix,from,fee,rate\n" + "".join(f"{number},00:00,50,1000\r" for number in range(1000, 9000)) + BAND
+BY_CR += "%%\ncalled,answer,time\n4930,0,600\n"
+
 # A tariff, the line that divides, and the header of records.
 RECORDS = f"prefix,from,fee,rate\n{BAND}%%\ncalled,answer,time,note\n"
 # A row of them, and what is printed of it.
@@ -128,9 +132,15 @@ def long_sections():
         yield refused(words, f"{front}{filled}\n%%\n{behind}", "input: TooLong")
 
 
+def line_without_its_end():
+    """A tariff whose rows end with CR is one line by LF, of any length."""
+    yield Row("rate", BY_CR, "called,answer,time,prefix,before,after,price,difference,fault\n4930,0,600,4930,600,0,1050,,\n")
+
+
 def rows():
     yield from numbers_of_rows()
     yield from long_sections()
     yield from many_calls()
     yield from long_rows()
     yield from long_headers()
+    yield from line_without_its_end()

@@ -56,13 +56,16 @@ const ANSWER: Script = &[(100, BcsmEvent::Answer)];
 
 const BUSY: Script = &[(10, BcsmEvent::Busy)];
 
+/// It is answered before the service has been heard, and so wasn't to say so.
+const EARLY: Script = &[(1, BcsmEvent::Answer), (10, BcsmEvent::Busy)];
+
 const BACKWARDS: Script = &[(100, BcsmEvent::Answer), (50, BcsmEvent::Busy)];
 
 const UNASKED: Left = (0, None, 1500);
 
 /// A habit, the opening credit with its last moment, the delay and the script of a call, how it
 /// ends, and what is left.
-static CALLS: [(Habit, (u64, Option<u64>), u32, Script, End, Left); 14] = [
+static CALLS: [(Habit, (u64, Option<u64>), u32, Script, End, Left); 16] = [
     (
         Habit::Asks,
         (1500, None),
@@ -85,6 +88,22 @@ static CALLS: [(Habit, (u64, Option<u64>), u32, Script, End, Left); 14] = [
         2,
         BUSY,
         Ok((0, None, 0, 0)),
+        (2, Some(0), 1500),
+    ),
+    (
+        Habit::Asks,
+        (10_000, None),
+        2,
+        ANSWER,
+        Ok((10, Some(5970), 0, 0)),
+        (21, Some(10_000), 0),
+    ),
+    (
+        Habit::Asks,
+        (1500, None),
+        2,
+        EARLY,
+        Ok((0, None, 0, 1)),
         (2, Some(0), 1500),
     ),
     // A further period comes too late.

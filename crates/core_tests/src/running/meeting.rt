@@ -11,12 +11,14 @@ pub(crate) enum Of {
     Accounts,
 }
 
-/// Holds each of two numbers until it was asked for the other too; after a while it answers false.
+/// Holds each of two numbers until it was asked for the other too; after a while it answers false. It
+/// keeps in mind whether it was shown a call with another worker than the one of two that serves it.
 #[derive(Drop)]
 pub(crate) struct Meeting {
     of: Of,
     first: (u64, AtomicBool),
     second: (u64, AtomicBool),
+    mistaken: AtomicBool,
 }
 
 impl Meeting {
@@ -25,6 +27,18 @@ impl Meeting {
             of,
             first: (first, AtomicBool::new(false)),
             second: (second, AtomicBool::new(false)),
+            mistaken: AtomicBool::new(false),
+        }
+    }
+
+    /// Whether it was shown a call with another worker.
+    pub(crate) fn is_mistaken(&self) -> bool {
+        self.mistaken.load(Ordering::SeqCst)
+    }
+
+    fn look(&self, worker: u32, call: u64) {
+        if u64::from(worker) != call % 2 {
+            self.mistaken.store(true, Ordering::SeqCst);
         }
     }
 
@@ -55,7 +69,8 @@ pub(crate) fn is_soon(flag: &AtomicBool) -> bool {
 impl Gate for Meeting {
     ghost may_shut = { Unit {0} };
 
-    fn before(&self, _worker: u32, call: u64) -> bool {
+    fn before(&self, worker: u32, call: u64) -> bool {
+        self.look(worker, call);
         self.of != Of::Calls || self.meet(call)
     }
 
@@ -63,5 +78,7 @@ impl Gate for Meeting {
         self.of != Of::Accounts || self.meet(u64::from(account))
     }
 
-    fn after(&self, _worker: u32, _call: u64) {}
+    fn after(&self, worker: u32, call: u64) {
+        self.look(worker, call);
+    }
 }

@@ -230,6 +230,7 @@ fn expect_met<R: Abort + Wait + Threads + Sync>(
     let played = play::<TurnAccount, _, _>(rt, alloc, &staged, gate);
     let (counts, _) = played.expect(rt, "the run");
     gives(rt, &second, &counts, &entries);
+    gives(rt, &"another worker", &gate.is_mistaken(), &false);
 }
 
 const REFUSED_FIRST: [Round; 1] = [(Say::Begins(2, TWO), Some(CALL))];
