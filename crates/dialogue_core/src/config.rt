@@ -14,7 +14,8 @@ pub struct ServiceConfig {
     pub wanted: u32,
     /// The least time that is worth a grant, at most `wanted`.
     pub least: u32,
-    /// How long the gsmSSF waits for a further period, at least 1 and at most `least`.
+    /// How long the gsmSSF waits for a further period, at least 1 and at most `least`, so that a
+    /// period is longer than the wait for it. The gsmSSF isn't told: it has a Tccd of its own.
     pub tccd: u32,
     pub ghost tccd_positive: { 1 ≤ tccd },
     pub ghost tccd_within_least: { tccd ≤ least },

@@ -40,7 +40,8 @@ pub trait Asker<P> {
 
 /// Puts the asks of a dialogue, one after another, from its turn `turn` on, and gives the
 /// instructions that it sends when it asks no more. An ask that gets nothing ends the talk, and is
-/// still pending then.
+/// still pending then; so does one whose reply has no place there: one of another kind, or a grant
+/// of other than 1 to 864000 units. `Dialogue::refused` goes on from there.
 pub fn converse<P, A: Asker<P>>(
     asker: &mut A,
     way: &mut P,

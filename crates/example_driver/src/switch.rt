@@ -21,6 +21,15 @@ enum Next {
     Nothing,
 }
 
+/// What the service orders of the call.
+#[derive(Clone, Copy)]
+enum Order {
+    /// It may talk for a period.
+    Talk(Charge),
+    /// It is cleared.
+    Clear,
+}
+
 /// A switch with one call.
 #[derive(Drop)]
 pub(crate) struct Switch {
@@ -129,21 +138,34 @@ impl Switch {
     }
 }
 
-/// Puts down what answers order, and gives the last period that they grant.
-fn hear(log: &mut String, answers: &[Answer]) -> Result<Option<Charge>, AllocError> {
-    let mut granted = None;
+/// Puts down what answers say, and gives the last thing that they order of the call.
+fn hear(log: &mut String, answers: &[Answer]) -> Result<Option<Order>, AllocError> {
+    let mut order = None;
     for answer in answers {
         write!(log, "message {}:", answer.number)?;
         let operations = operations_of(answer.instructions);
         for op in operations.as_slice() {
-            if let ScfOp::ApplyCharging(charge) = op {
-                granted = Some(*charge);
-            }
+            order = order_of(op).or(order);
             put_down(log, op)?;
+        }
+        if answer.stray {
+            log.push_str(" stray")?;
+        }
+        if let Some(why) = answer.refused {
+            write!(log, " refused {why}")?;
         }
         writeln!(log)?;
     }
-    Ok(granted)
+    Ok(order)
+}
+
+/// What an operation orders of the call, if it does.
+fn order_of(op: &ScfOp) -> Option<Order> {
+    match op {
+        ScfOp::ApplyCharging(charge) => Some(Order::Talk(*charge)),
+        ScfOp::ReleaseCall(_) => Some(Order::Clear),
+        ScfOp::RequestReport(_) | ScfOp::Continue => None,
+    }
 }
 
 /// Puts down an operation.
@@ -155,7 +177,7 @@ fn put_down(log: &mut String, op: &ScfOp) -> Result<(), AllocError> {
             write!(log, " ApplyCharging({}{end})", charge.period)
         }
         ScfOp::Continue => write!(log, " Continue"),
-        ScfOp::ReleaseCall(_) => write!(log, " ReleaseCall"),
+        ScfOp::ReleaseCall(cause) => write!(log, " ReleaseCall({})", cause.value),
     }
 }
 
@@ -182,7 +204,11 @@ impl Driver for Switch {
     }
 
     fn round(&mut self, answers: &[Answer]) -> Result<bool, AllocError> {
-        self.granted = hear(&mut self.log, answers)?.or(self.granted);
+        match hear(&mut self.log, answers)? {
+            Some(Order::Talk(charge)) => self.granted = Some(charge),
+            Some(Order::Clear) => self.next = Next::End,
+            None => {}
+        }
         let Some(msg) = self.next_message() else {
             self.ended = true;
             return Ok(false);

@@ -19,10 +19,11 @@ use std::alloc::Global;
 /// delivery or due moment is left, and says what it came to.
 ///
 /// At each moment it first delivers the operations that are due, then lets the call meet the events
-/// of the script, and then the timers run. Each ask of the service goes to the port at once, and a
-/// refusal of the port back to the service. The operations of an answer at a moment are delivered
-/// `delay` units of 100 ms after it, one after the other. What the gsmSSF refuses is counted, and
-/// has no other effect.
+/// of the script, and then the timers run; those that are due by then have run before the gsmSSF
+/// takes an operation or an event, so a delay of `tccd` is too late for a further period. Each ask
+/// of the service goes to the port at once, and a refusal of the port back to the service. The
+/// operations of an answer at a moment are delivered `delay` units of 100 ms after it, one after
+/// the other. What the gsmSSF refuses is counted, and has no other effect.
 ///
 /// No report of the call is answered by a forfeit, whatever the script, where the port states what
 /// it keeps of the call, and the call is new to it.

@@ -11,7 +11,7 @@ use cap_values::{Instructions, SsfMsg};
 pub enum Body {
     /// A message of the gsmSSF of a call.
     Ssf {
-        /// The call.
+        /// The call. The number inside an InitialDP isn't looked at.
         call: u64,
         /// The message.
         msg: SsfMsg,
@@ -20,7 +20,7 @@ pub enum Body {
     Recharge {
         /// The account's number.
         account: u32,
-        /// How much, in units of money.
+        /// How much, in units of money, 1 to `MAX_MONEY`; an account refuses any other.
         amount: u64,
         /// The account's last moment from then on, in units of 100 ms; none leaves it as it is.
         until: Option<u64>,
