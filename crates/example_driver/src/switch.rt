@@ -104,6 +104,17 @@ impl Switch {
         }
     }
 
+    /// Does what the service orders of the call.
+    fn obey(&mut self, order: Option<Order>)
+        ensures { self.new.given ≡ self.old.given }
+    {
+        match order {
+            Some(Order::Talk(charge)) => self.granted = Some(charge),
+            Some(Order::Clear) => self.next = Next::End,
+            None => {}
+        }
+    }
+
     /// Gives a message at a moment.
     fn give(&mut self, at: u64, msg: SsfMsg) -> Result<(), AllocError>
         requires { at ≤ HORIZON }
@@ -204,11 +215,8 @@ impl Driver for Switch {
     }
 
     fn round(&mut self, answers: &[Answer]) -> Result<bool, AllocError> {
-        match hear(&mut self.log, answers)? {
-            Some(Order::Talk(charge)) => self.granted = Some(charge),
-            Some(Order::Clear) => self.next = Next::End,
-            None => {}
-        }
+        let order = hear(&mut self.log, answers)?;
+        self.obey(order);
         let Some(msg) = self.next_message() else {
             self.ended = true;
             return Ok(false);
