@@ -8,21 +8,21 @@ use Rattle.rating.specs.Texts.{rate_input_of}
 use Rattle.rating.specs.declared.fault.RateFault.{RateFault}
 use Rattle.rating.specs.declared.fault.RateFault.TheVariants as rate
 use Rattle.run_texts.specs.declared.input_fault.InputFault.TheVariants as input
-use Rattle.table_commands.specs.Ratings.{IsRatedByWish, IsSaidOfRating}
+use Rattle.table_commands.specs.Ratings.{ExplainsHeaderAlone, IsRatedByWish, IsSaidOfRating}
 use Rattle.table_commands.specs.Faults.{line_of_fault, of_rate, status_of}
 use Rattle.table_commands.specs.Writers.{IsSaid, Written}
 use Rattle.table_commands.specs.declared.fault.Fault.{Fault}
 
 unexplained : (explaining : Bool) (wish : RateWish) (text : List ℕ) (status : ℕ) (old new : Written) (why : RateFault) (fault : Fault)
-    → (rate_input_of wish.names text ≡ Err why) × Keeps old.output new.output → of_rate why ≡ Some fault
+    → (rate_input_of wish.names text ≡ Err why) × Keeps old.output new.output → of_rate why ≡ Some fault → ExplainsHeaderAlone explaining why []
     → (status ≡ status_of fault) × AppendsFront old.faults new.faults (line_of_fault fault ++ codes "\n") → IsRatedByWish explaining wish text status old new
-unexplained explaining wish text status old new why fault refused is said = inr (inl (record {
+unexplained explaining wish text status old new why fault refused is nothing said = inr (inl (record {
   why = why;
   refused = refused.0;
   fault = fault;
   fault_is = is;
   more = [];
-  only = λ unasked. refl;
+  only = nothing;
   reported = record { status_is = said.0; line = said.1; output = refused.1 };
 }))
 
@@ -46,8 +46,8 @@ not_rated explaining wish text status old new (rate.Header wrong) stops said = i
   only = said.only;
   reported = record { status_is = said.status_is; line = said.line; output = stops.1 };
 }))
-not_rated explaining wish text status old new (rate.Input input.Parts) stops said = unexplained explaining wish text status old new (rate.Input input.Parts) _ stops refl said
-not_rated explaining wish text status old new (rate.Input input.TooLong) stops said = unexplained explaining wish text status old new (rate.Input input.TooLong) _ stops refl said
-not_rated explaining wish text status old new (rate.Input (input.Tariff row)) stops said = unexplained explaining wish text status old new (rate.Input (input.Tariff row)) _ stops refl said
-not_rated explaining wish text status old new (rate.Input (input.Setup row)) stops said = unexplained explaining wish text status old new (rate.Input (input.Setup row)) _ stops refl said
-not_rated explaining wish text status old new (rate.Input (input.Script row)) stops said = unexplained explaining wish text status old new (rate.Input (input.Script row)) _ stops refl said
+not_rated explaining wish text status old new (rate.Input input.Parts) stops said = unexplained explaining wish text status old new (rate.Input input.Parts) _ stops refl refl said
+not_rated explaining wish text status old new (rate.Input input.TooLong) stops said = unexplained explaining wish text status old new (rate.Input input.TooLong) _ stops refl refl said
+not_rated explaining wish text status old new (rate.Input (input.Tariff row)) stops said = unexplained explaining wish text status old new (rate.Input (input.Tariff row)) _ stops refl refl said
+not_rated explaining wish text status old new (rate.Input (input.Setup row)) stops said = unexplained explaining wish text status old new (rate.Input (input.Setup row)) _ stops refl refl said
+not_rated explaining wish text status old new (rate.Input (input.Script row)) stops said = unexplained explaining wish text status old new (rate.Input (input.Script row)) _ stops refl refl said

@@ -26,6 +26,11 @@ abbrev pub IsSaidOfRating : Bool → RateFault → ℕ → Option (List ℕ) →
 IsSaidOfRating explaining (rate.Header wrong) status old new = IsFaultExplained explaining (no_header table.Records) status old new
 IsSaidOfRating explaining why status old new = IsSaid explaining (of_rate why) status old new
 
+-- what stands behind the line of a rating that stopped: something at a wrong header alone, and only where that is asked for
+abbrev pub ExplainsHeaderAlone : Bool → RateFault → List ℕ → Type 0
+ExplainsHeaderAlone explaining (rate.Header wrong) more = explaining ≡ false → more ≡ []
+ExplainsHeaderAlone explaining why more = more ≡ []
+
 -- all rows were rated and printed: the status says whether all are right, and the summary went to the error writer where it was asked for, or a front of it
 pub record IsRatedInput (wish : RateWish) (text : List ℕ) (status : ℕ) (old new : Written) : Type 0 where
   pub score : Score
@@ -33,14 +38,14 @@ pub record IsRatedInput (wish : RateWish) (text : List ℕ) (status : ℕ) (old 
   pub status_is : status ≡ status_of_rating score
   pub line : AppendsFront old.faults new.faults (summary_of wish score)
 
--- the tariff or the header has a fault, which is reported with what is said of it, nothing where that isn't asked for, and the output stays as it was
+-- the tariff or the header has a fault, which is reported, a header's with what is said of it, and the output stays as it was
 pub record IsRatingRefused (explaining : Bool) (wish : RateWish) (text : List ℕ) (status : ℕ) (old new : Written) : Type 0 where
   pub why : RateFault
   pub refused : rate_input_of wish.names text ≡ Err why
   pub fault : Fault
   pub fault_is : of_rate why ≡ Some fault
   pub more : List ℕ
-  pub only : explaining ≡ false → more ≡ []
+  pub only : ExplainsHeaderAlone explaining why more
   pub reported : IsReportedWith fault more status old new
 
 -- the input, memory or the output failed, at status 2: a front of the text was printed, or nothing, and of a line about it a front, or nothing
