@@ -4,12 +4,13 @@ import os
 import random
 import re
 import subprocess
+import time
 
-from model.command import do_run
+from model.command import MAX_INPUT, do_run
 from model.inputs import runs
 from model.tables import Fault, read_setup
 from pipe_test import ROOT, SECONDS
-from serve_trial import HEAD, HEADER, modelled, read, same
+from serve_trial import HEAD, HEADER, OTHER, modelled, read, same
 
 # The commands of day.sh that may be the last before it is cut off.
 COMMANDS = ["awk", "cat", "date", "mkdir", "mktemp", "mv", "sed", "sync", "tail"]
@@ -24,6 +25,15 @@ echo "NAME" >> "$CALLS"
 if [ "$(wc -l < "$CALLS")" -eq "$CUT" ]; then kill -9 "$PPID"; exit 1; fi
 PATH=${PATH#*:} exec NAME "$@"
 """
+# Programs: the one that is tried, one whose audit finds an account wrong, and one that ends as it prints a book.
+PLAIN = '#!/bin/sh\nexec PROGRAM "$@"\n'
+SAYS_NO = '#!/bin/sh\n[ "$1" != audit ] || { echo account 7 no; exit 3; }\nexec PROGRAM "$@"\n'
+IS_CUT = '#!/bin/sh\ncase "$*" in *--book) PROGRAM "$@" | head -n -1; exit 9 ;; esac\nexec PROGRAM "$@"\n'
+# What is kept of a day.
+KEPT = ["audit.txt", "book.csv", "day.log", "next.csv", "setup.csv"]
+# A recharge that is over what an account may have, and its row in a book.
+OVER = b"0,,,operator,Recharge,7,1000000000000000,1000000000000,\n"
+OVER_ENTRY = b"7,0,credit,,1000000000000000,1000000000000,,,,,,over,,,1500\n"
 
 
 def next_day(trial):
@@ -88,31 +98,62 @@ def days(trial):
         same(f"cut at {cut}", [it for it in kept_in(folder) if not it.endswith(HEADER)], [talk.logged()])
     # all is on the disk before a name is changed
     same("the last commands", called[called.index(b"sync") - 2 :], b"cat awk sync mkdir date mktemp mv mv".split())
-    folder = new_day(trial)
-    with open(f"{folder}/day.log", "wb") as file:
-        file.write(talk.logged(3))
-    same("from message 1 on", day(trial, shims, folder, b"".join(talk.rows[3:]), 0, "1")[2], HEADER + talk.answered(1))
-    folder, examples = new_day(trial), trial.new()
-    os.mkdir(examples)
-    for name in ("day.sh", "next_setup.awk"):
-        text = read(f"{ROOT}/examples/{name}").replace(b"serve --log", b"serve --wanted 900 --log")
-        with open(f"{examples}/{name}", "wb") as file:
-            file.write(text)
-    same("with other options", day(trial, shims, folder, LONG_CALL, 0, examples=examples)[0], 0)
-    same("with other options", re.findall(b"^account,.*", read(f"{folder}/head.txt"), re.M), [b"account,7,33,"])
-    folder = new_day(trial)
-    status = day(trial, shims, folder, b"".join(talk.rows[:2]), 0)[0]
-    same("a call holds money", (status, read(f"{folder}/head.txt"), kept_in(folder)), (1, HEAD, []))
+    (kept,) = os.listdir(f"{folder}/kept")
+    same("what is there", (sorted(os.listdir(folder)), sorted(os.listdir(f"{folder}/kept/{kept}"))), (["head.txt", "kept"], KEPT))
+    same("when it was kept", is_now(kept.rpartition(".")[0]), True)
     return f"{cut - 1} cuts"
 
 
-def new_day(trial):
+def other_days(trial):
+    """A day that goes on behind its log, has other options, or is long; and one that can't be ended, which goes on: its
+    head is another, an account is wrong by the audit, or a call holds money."""
+    talk, shims, folder = trial.numbered, trial.new(), new_day(trial)
+    text = b"".join(talk.rows[3:])
+    put(f"{folder}/day.log", talk.logged(3))
+    same("from message 1 on", day(trial, shims, folder, text, 0, "1")[2], HEADER + talk.answered(1))
+    folder, examples = new_day(trial), trial.new()
+    os.mkdir(examples)
+    for name in ("day.sh", "next_setup.awk"):
+        script = read(f"{ROOT}/examples/{name}").replace(b"serve --log", b"serve --wanted 900 --least 45 --tccd 40 --log")
+        put(f"{examples}/{name}", script)
+    same("with other options", day(trial, shims, folder, LONG_CALL, 0, examples=examples)[0], 0)
+    same("with other options", re.findall(b"^account,.*", read(f"{folder}/head.txt"), re.M), [b"account,7,33,"])
+    same("with other options", b",900,45,0,0,granted," in kept_in(folder, "book.csv")[0], True)
+    folder = new_day(trial)
+    same("a long day", day(trial, shims, folder, OVER * (MAX_INPUT // len(OVER_ENTRY) + 1), 0)[0], 0)
+    same("a long day", (len(kept_in(folder, "book.csv")[0]) > MAX_INPUT, kept_in(folder, "audit.txt")), (True, [b"account 7 yes\n"]))
+    other_head = HEAD.replace(b"1000", b"1001")
+    for what, head, count, script, status in [
+        ("another head", other_head, 3, PLAIN, OTHER[0]),
+        ("an account is wrong", HEAD, len(talk.rows), SAYS_NO, 3),
+        ("a book is cut", HEAD, len(talk.rows), IS_CUT, 9),
+        ("a call holds money", HEAD, 4, PLAIN, 1),
+    ]:
+        folder, program = new_day(trial, head), trial.new()
+        put(f"{folder}/day.log", talk.logged(3))
+        put_shim(program, script.replace("PROGRAM", trial.program))
+        ended = day(trial, shims, folder, b"".join(talk.rows[3:count]), 0, program=program)[0]
+        same(what, (ended, read(f"{folder}/head.txt"), kept_in(folder)), (status, head, []))
+        same(what, read(f"{folder}/day.log"), talk.logged(count))
+    return "7 days"
+
+
+def is_now(text):
+    """Whether a date and a time are those of now, by a clock that may have been put back or forward."""
+    return abs(time.time() - time.mktime(time.strptime(text, "%Y-%m-%dT%H:%M:%S"))) < 2 * 3600
+
+
+def new_day(trial, head=HEAD):
     """A folder with the head of a day."""
     folder = trial.new()
     os.mkdir(folder)
-    with open(f"{folder}/head.txt", "wb") as file:
-        file.write(HEAD)
+    put(f"{folder}/head.txt", head)
     return folder
+
+
+def put(path, text):
+    with open(path, "wb") as file:
+        file.write(text)
 
 
 def put_shim(path, text):
@@ -121,15 +162,15 @@ def put_shim(path, text):
     os.chmod(path, 0o755)
 
 
-def kept_in(folder):
-    """The logs of the days that are over."""
-    return list(filter(None, (read(it) for it in sorted(glob.glob(f"{folder}/kept/*/day.log")))))
+def kept_in(folder, name="day.log"):
+    """The logs of the days that are over, or what else is kept of them."""
+    return list(filter(None, (read(it) for it in sorted(glob.glob(f"{folder}/kept/*/{name}")))))
 
 
-def day(trial, shims, folder, text, cut, *first, examples=f"{ROOT}/examples"):
+def day(trial, shims, folder, text, cut, *first, examples=f"{ROOT}/examples", program=None):
     """Lets a day pass, cut off at its so manyth command: its status, the commands that it called, what it printed."""
     path, calls = f"{shims}:{os.environ['PATH']}", trial.new(b"")
-    more = {"PATH": path, "PREPAID": trial.program, "CALLS": calls, "CUT": str(cut)}
+    more = {"PATH": path, "PREPAID": program or trial.program, "CALLS": calls, "CUT": str(cut)}
     words, environment = ["bash", f"{examples}/day.sh", folder, *first], {**os.environ, **more}
     ran = subprocess.run(words, input=text, capture_output=True, env=environment, timeout=SECONDS)
     return ran.returncode, read(calls).split(), ran.stdout

@@ -18,7 +18,7 @@ import time
 
 from model.command import MAX_INPUT
 from model.tables import Fault
-from serve_days import days, next_day
+from serve_days import days, next_day, other_days
 from serve_kills import kills
 from serve_trial import (
     DEVICE,
@@ -430,7 +430,7 @@ def sync_fails(trial, call, number):
 
 TRIES = [cut_at_each_byte, altered_at_each_byte, altered_in_a_row, begun_otherwise, long_head, no_log, unreadable, disk_is_full]
 TRIES += [bad_lines, longer_than_an_input, again, sent_again, reader_is_gone, one_by_one, synced_first, synced_together]
-TRIES += [next_day, days, kills]
+TRIES += [next_day, days, other_days, kills]
 # Those whose logs lie on a disk, where a row takes the time of a sync.
 ON_DISK = [kills]
 
