@@ -103,7 +103,7 @@ install: bin/prepaid
 	install -D -m 644 completions/prepaid.bash $(DESTDIR)$(PREFIX)/share/bash-completion/completions/prepaid
 	install -D -m 644 completions/_prepaid $(DESTDIR)$(ZSH_FUNCTIONS)/_prepaid
 	install -D -m 755 -t $(docs)/examples $(wildcard examples/*.py)
-	install -D -m 644 -t $(docs)/examples $(filter-out %.py,$(wildcard examples/*))
+	install -D -m 644 -t $(docs)/examples $(filter-out %.py,$(wildcard examples/*.*))
 	install -D -m 644 -t $(docs) docs/FORMATS.md docs/RECIPES.md docs/SCALING.md docs/SPEED.md docs/balance.svg
 	sed -i 's,bin/prepaid,prepaid,g' $(docs)/RECIPES.md $(docs)/SCALING.md
 

@@ -24,14 +24,22 @@ ROOT = os.path.dirname(os.path.dirname(os.path.abspath(__file__)))
 SYSTEM = "/usr/local/bin:/usr/bin:/bin"
 # The moment of the commits, in seconds.
 COMMITTED = 1_000_000_000
-COPIED = ["Makefile", "README.md", ".gitignore", "completions", "dist", "docs", "examples", "man"]
+COPIED = [".ci", "Makefile", "README.md", ".gitignore", "completions", "dist", "docs", "examples", "man"]
 PAGES = ["FORMATS.md", "RECIPES.md", "SCALING.md", "SPEED.md"]
 PROVED, SUMS = (f"share/doc/prepaid/{it}" for it in ("PROVED", "SHA256SUMS"))
-TOOLCHAIN = "#!/bin/sh\ncase $1 in version) echo 'a toolchain' ;; ci) echo '3 passed, 0 failed' ;; esac\n"
-TEST = """#!/bin/sh
-[ "$0" != "$COMMITTING" ] || git commit --quiet --allow-empty --message 'another commit'
-[ "$0" != "$FAILING" ]
+# Each tells that it is called, and fails where FAILING names it with its first word.
+TOOLCHAIN = """#!/bin/sh
+echo "rt $*" >> "${TOLD:-/dev/null}"
+case $1 in version) echo 'a toolchain' ;; ci) echo '3 passed, 0 failed' ;; esac
+case " $FAILING " in *" rt$1 "*) exit 1 ;; esac
 """
+TEST = """#!/bin/sh
+echo "$0 $*" >> "${TOLD:-/dev/null}"
+[ "$0" != "$COMMITTING" ] || git commit --quiet --allow-empty --message 'another commit'
+case " $FAILING " in *" $0$1 "*) exit 1 ;; esac
+"""
+# What the gate calls without the program.
+ALONE = {"rt ci", "tests/definitions.py", "tests/proofs_test.py", "tests/gate_edits.py", "tests/prove_test.py"}
 # The packages that have the libraries which a program needs, and the family of the versions of each one's symbols.
 LIBRARIES = {"libc6": "GLIBC", "libgcc-s1": "GCC"}
 NO_GATE = "none has passed on this commit"
@@ -67,10 +75,12 @@ class Repository:
         identity = {"NAME": "somebody", "EMAIL": "somebody@one.example", "DATE": f"{COMMITTED} +0000"}
         self.environment = {"PATH": f"{folder}/stand-ins:{SYSTEM}", "HOME": folder, "DPKG_DEB_COMPRESSOR_LEVEL": "0"}
         self.environment |= {f"GIT_{who}_{it}": identity[it] for who in ("AUTHOR", "COMMITTER") for it in identity}
+        os.makedirs(self.top)
         for name in COPIED:
-            copy = shutil.copytree if os.path.isdir(f"{ROOT}/{name}") else shutil.copy
-            os.makedirs(self.top, exist_ok=True)
-            copy(f"{ROOT}/{name}", f"{self.top}/{name}")
+            if os.path.isdir(f"{ROOT}/{name}"):
+                shutil.copytree(f"{ROOT}/{name}", f"{self.top}/{name}", ignore=shutil.ignore_patterns("__pycache__"))
+            else:
+                shutil.copy(f"{ROOT}/{name}", self.top)
         for path in glob.glob(f"{ROOT}/tests/*.*"):
             write(f"{self.top}/tests/{os.path.basename(path)}", TEST, 0o755)
         write(f"{folder}/stand-ins/rt", TOOLCHAIN, 0o755)
@@ -134,10 +144,61 @@ def try_gates(repository):
     repository.make("test")
     repository.says("changed", NO_GATE)
     os.remove(stray)
-    hold(repository.run("make", "test", FAILING="tests/random.sh").returncode, "make test passes where a test fails")
+    hold(repository.run(".ci/run", FAILING="tests/random.sh--program").returncode, "the gate passes where a test fails")
     hold(not os.path.exists(passed), "a gate whose last test fails has passed")
-    repository.make("test")
+    ran = repository.run(".ci/run")
+    hold(ran.returncode == 0, ran.stderr)
     return repository.says("clean", "3 passed, 0 failed")
+
+
+def calls_of_the_gate():
+    """What the gate calls by the list in CONTRIBUTING.md, in its order, each with its words."""
+    gate = read(f"{ROOT}/CONTRIBUTING.md").decode().partition("\n## The gate\n")[2].partition("\n## ")[0]
+    listed = re.findall(r"^\d+\. `([^`]+)`", gate, re.M)
+    program = " --program crates/prepaid/out/prepaid"
+    called = [it if it in ALONE or "edits_test" in it else it + program for it in listed]
+    tests = {os.path.relpath(it, ROOT) for it in glob.glob(f"{ROOT}/tests/*_test.py")}
+    hold(not tests - set(listed), f"the gate lacks {tests - set(listed)}")
+    return called
+
+
+def try_calls(repository, folder):
+    """The gate calls all that its page has, begins with what is first there, and fails where one of these fails. Libraries
+    without a stamp are gone before the edits are tried, and others stay."""
+    called, told = calls_of_the_gate(), f"{folder}/told"
+    stamped, bare = (f"{repository.top}/crates/{it}" for it in ("table_commands/out/rlib/stamp", "prepaid/out/rlib/bare"))
+    write(stamped, "")
+    write(bare, "")
+    repository.make("test", TOLD=told)
+    hold((os.path.exists(stamped), os.path.exists(bare)) == (True, False), "which libraries are kept before a gate")
+    found = read(told).decode().replace(" \n", "\n").splitlines()
+    hold((found[:4], sorted(found)) == (called[:4], sorted(called)), f"the gate calls {found}, and not {called}")
+    for it in called[:4]:
+        write(told, "")
+        hold(repository.run("make", "test", FAILING=it.replace(" ", ""), TOLD=told).returncode, f"the gate passes where {it} fails")
+        hold(read(told).decode().replace(" \n", "\n").splitlines()[-1] == it, f"the gate goes on where {it} fails")
+    failing = [it.replace(" crates/prepaid/out/prepaid", "").replace(" ", "") for it in called[4:]]
+    ran = repository.run("make", "--keep-going", "test", FAILING=" ".join(failing))
+    failed = set(re.findall(r": (test-\w+)\] Error 1", ran.stderr))
+    hold(ran.returncode and len(failed) == len(failing), f"of {failing} only {sorted(failed)} make the gate fail")
+    hold(not os.path.exists(f"{repository.top}/out/passed.txt"), "a gate whose tests fail has passed")
+
+
+def try_targets(repository, folder, program):
+    """Without a proof there is no program, nor where it says so. One that is there plays the evening and reports it, and is
+    installed where the README says."""
+    os.remove(f"{repository.top}/bin/prepaid")
+    ran = repository.run("make", FAILING="tests/prove.pyprepaid")
+    hold(ran.returncode and not os.path.exists(f"{repository.top}/bin/prepaid"), "make builds a program that isn't proved")
+    repository.build(program)
+    ran = repository.run("make", "--silent", "run")
+    hold("\naccount 106 opening 1000 available 730 entries 15\n" in ran.stdout, f"make run: {ran.stdout}{ran.stderr}")
+    repository.make("picture")
+    hold(b"<title>Calls and balances: evening</title>" in read(f"{repository.top}/out/report.html"), "make report")
+    changed = repository.run("git", "status", "--porcelain").stdout
+    hold(not changed, f"make picture changes {changed}")
+    repository.make("install", f"DESTDIR={folder}/installed")
+    hold(read(f"{folder}/installed/usr/local/bin/prepaid") == program, "make install puts the program elsewhere")
 
 
 def try_bytes(repository):
@@ -163,7 +224,8 @@ def wanted(program, zsh):
         files[f"share/doc/prepaid/{name}"] = 0o644, read(f"{ROOT}/docs/{name}").replace(b"bin/prepaid", b"prepaid")
     for name in os.listdir(f"{ROOT}/examples"):
         mode = 0o755 if name.endswith(".py") else 0o644
-        files[f"share/doc/prepaid/examples/{name}"] = mode, read(f"{ROOT}/examples/{name}")
+        if name != "__pycache__":
+            files[f"share/doc/prepaid/examples/{name}"] = mode, read(f"{ROOT}/examples/{name}")
     return files
 
 
@@ -300,6 +362,10 @@ def main():
         repository = Repository(folder)
         try_refusals(repository, read(program))
         day = try_gates(repository)
+        try_calls(repository, folder)
+        try_targets(repository, folder, read(program))
+        repository.make("test")
+        repository.make("dist")
         try_bytes(repository)
         packages = shutil.move(f"{repository.top}/out/dist", f"{folder}/packages")
         shutil.rmtree(repository.top)
