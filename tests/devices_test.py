@@ -16,6 +16,7 @@ import sys
 import tempfile
 
 from devices_groups import GROUPED
+from explain_test import EACH, FIRST, on_terminal
 from pipe_test import ROOT, SECONDS
 from program_test import FOLDER, difference
 from serve_trial import HEAD, HEADER, Talk, Trial, Wrong, read, same
@@ -253,8 +254,23 @@ def starts_threads(trial):
     return 2 * len(STARTED)
 
 
+def shows_how_far(trial):
+    """By the clock it is shown on a terminal how far a run is once that takes two seconds, and then each fifth of one."""
+    words, step = [sys.executable, f"{ROOT}/examples/generate.py", "--calls", "4000"], 30
+    text = subprocess.run(words, capture_output=True, check=True).stdout.decode()
+    calls, now, shown = trial.new(b""), 0, {}
+    _, output, status = on_terminal(trial.program, "run --workers 1", text, environment=trial.failing(clock_step=step, told_to=calls))
+    same("a run on a terminal", (output != "", status), (True, 0))
+    for device, what, *_ in map(str.split, read(calls).decode().splitlines()):
+        now = int(what) if device == "CLOCK" else now
+        shown |= {now: None} if device == "FAULTS" else {}
+    first, each = (-(-int(1000 * it) // step) * step for it in (FIRST, EACH))
+    same("when it is shown", list(shown)[:20], [first + each * it for it in range(20)])
+    return 1
+
+
 ROWS = [read_inputs, served_inputs, byte_by_byte, outputs, error_writers]
-TRIES = [bounds_the_input, writes_seldom, opens_a_log, starts_threads, *GROUPED]
+TRIES = [bounds_the_input, writes_seldom, opens_a_log, starts_threads, shows_how_far, *GROUPED]
 
 
 def main():

@@ -17,6 +17,7 @@ import os
 import pty
 import re
 import signal
+import socket
 import subprocess
 import sys
 import tempfile
@@ -257,11 +258,12 @@ def answers(program):
 HELPS = ["help", "--version", "run --help"]
 FULL = "the output: No space left on device (os error 28)\n"
 CLOSED = "the output: Bad file descriptor (os error 9)\n"
+UNCONNECTED = "the output: Transport endpoint is not connected (os error 107)\n"
 
 
 def outputs(program):
-    """What is said of an output that fails, at each command: nothing without the word, and with it why, as of a full device
-    and of a closed file."""
+    """What is said of an output that fails, at each command: nothing without the word, and with it why, as of a full device,
+    of a closed file and of a socket that has no other end."""
     run_text = sections(script="20,,recharge,7,0\n")
     book = run(program, "run --book", sections())[0]
     texts = {
@@ -280,7 +282,7 @@ def outputs(program):
     for words, text in texts.items():
         if run(program, words, text)[2] != 0:
             return f"{words} has no answer: {run(program, words, text)}"
-        for front, full, closed in (("", "", ""), ("--explain ", FULL, CLOSED)):
+        for front, full, closed, unconnected in (("", "", "", ""), ("--explain ", FULL, CLOSED, UNCONNECTED)):
             with open("/dev/full", "wb") as output:
                 found = failing(program, front + words, text, output)
             if found != (full, 2):
@@ -289,6 +291,10 @@ def outputs(program):
                 found = failing(program, front + words, text, output)
             if found != (closed, 2):
                 return f"{front}{words} to a file that is read: {found} in place of {closed!r}"
+            with socket.socket(socket.AF_UNIX, socket.SOCK_DGRAM) as output:
+                found = failing(program, front + words, text, output)
+            if found != (unconnected, 2):
+                return f"{front}{words} to a socket: {found} in place of {unconnected!r}"
     return None
 
 

@@ -10,8 +10,10 @@
  *   INTERRUPTED  where it is said, each write that is taken is interrupted once before it takes any
  *   FAILED_CALL  of a call with this name, and of no stream, as ftruncate,
  *   FAILED_NUMBER  the so manyth fails
+ *   CLOCK_STEP   the clock begins at 0, and goes on by so many milliseconds from call to call
  *   TOLD_TO      the calls that are taken are told in this file, each by a line as "LOG write 40",
- *                and the one that FAILED_CALL has made fail by a line as "FAILED ftruncate"
+ *                the one that FAILED_CALL has made fail by a line as "FAILED ftruncate", and what
+ *                the clock said, where CLOCK_STEP is said, by a line as "CLOCK 40"
  *
  * A limit that has made a call fail is none from then on, so that it is seen where a program goes
  * on behind a failure. The log is the one plain file that is written or synced. */
@@ -27,6 +29,7 @@
 #include <string.h>
 #include <sys/stat.h>
 #include <sys/syscall.h>
+#include <time.h>
 #include <unistd.h>
 
 struct device {
@@ -44,6 +47,8 @@ static int input_error;
 static int interrupts;
 static const char *failed_call;
 static long failed_number;
+static long clock_step;
+static long clock_said;
 static int told = -1;
 
 static long number_in(const char *device, const char *what)
@@ -67,6 +72,7 @@ __attribute__((constructor)) static void begin(void)
     interrupts = getenv("INTERRUPTED") != NULL;
     failed_call = getenv("FAILED_CALL");
     failed_number = number_in("FAILED", "_NUMBER");
+    clock_step = number_in("CLOCK", "_STEP");
     const char *file = getenv("TOLD_TO");
     if (file)
         told = (int)syscall(SYS_openat, AT_FDCWD, file, O_WRONLY | O_CREAT | O_APPEND | O_CLOEXEC, 0666);
@@ -187,6 +193,18 @@ int pthread_create(pthread_t *thread, const pthread_attr_t *how, void *(*run)(vo
         return EAGAIN;
     *(void **)&create = dlsym(RTLD_NEXT, "pthread_create");
     return create(thread, how, run, with);
+}
+
+int clock_gettime(clockid_t clock, struct timespec *time)
+{
+    if (clock_step == LONG_MAX)
+        return (int)syscall(SYS_clock_gettime, clock, time);
+    if (told >= 0)
+        dprintf(told, "CLOCK %ld\n", clock_said);
+    time->tv_sec = clock_said / 1000;
+    time->tv_nsec = clock_said % 1000 * 1000000;
+    clock_said += clock_step;
+    return 0;
 }
 
 static int sync_by(long call, int descriptor)
