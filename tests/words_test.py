@@ -13,9 +13,24 @@ import subprocess
 import sys
 import tempfile
 
+import quick
+
 HELP = {"-h", "--help"}
 # What the program takes in the place of a command, and in front of one.
 VERSION = {"-V", "--version", "--explain", "--plain"}
+BASH, ZSH = "completions/prepaid.bash", "completions/_prepaid"
+# What bash completes of words behind `prepaid`, where it isn't all options of a command: the last word is begun.
+COMPLETED = [
+    (["--explain", "pr"], {"price"}),
+    (["--explain", "run", "--work"], {"--workers"}),
+    (["--plain", "rate", "--su"], {"--summary"}),
+    (["run", "--default", "pro"], {"proceed"}),
+    (["serve", "--log", "READ"], {"README.md"}),
+    (["run", "--into", "READ"], set()),
+    (["run", "--into", "exam"], {"examples"}),
+]
+# Options whose help goes on from that of --tssf, which is of a switch: other shells list them in another order.
+OF_SWITCH = {("run", "--tccd"), ("run", "--delay")}
 # Kinds of a tariff's faults that the program says as those of a run.
 OF_RUN = {"Device", "OutOfMemory"}
 TABLES_NAMED = r"(reports|ops|setup|script|book|records|messages) row"
@@ -175,22 +190,23 @@ def said_in_man(text):
     return commands, values, lines, kinds
 
 
-def said_in_bash(path, names):
+def completed(*words):
+    """What bash completes behind these words, the last of which is begun."""
+    shell = 'source "$1"; shift; COMP_WORDS=("$@"); COMP_CWORD=$(($# - 1)); _prepaid; echo "${COMPREPLY[*]}"'
+    said = subprocess.run(["bash", "-c", shell, "bash", BASH, *words], capture_output=True, text=True, check=True)
+    return set(said.stdout.split())
+
+
+def said_in_bash(names):
     """What bash completes: the commands, and the options of each of them."""
-
-    def completed(*words):
-        shell = 'source "$1"; shift; COMP_WORDS=("$@"); COMP_CWORD=$(($# - 1)); _prepaid; echo "${COMPREPLY[*]}"'
-        said = subprocess.run(["bash", "-c", shell, "bash", path, *words], capture_output=True, text=True, check=True)
-        return set(said.stdout.split())
-
     shell = 'source "$1"; complete -p prepaid'
-    how = subprocess.run(["bash", "-c", shell, "bash", path], capture_output=True, text=True, check=True).stdout
+    how = subprocess.run(["bash", "-c", shell, "bash", BASH], capture_output=True, text=True, check=True).stdout
     if not all(f"-o {it} " in how for it in ("default", "filenames")):
-        raise SystemExit(f"{path}: no names of files where no word fits: {how}")
+        raise SystemExit(f"{BASH}: no names of files where no word fits: {how}")
     first = completed("prepaid", "")
     commands = {it: completed("prepaid", it, "") for it in first | names if not it.startswith("-")}
     if not commands["help"] == set(commands):
-        raise SystemExit(f"{path}: help takes other commands: {commands['help']}")
+        raise SystemExit(f"{BASH}: help takes other commands: {commands['help']}")
     commands["help"] = set()
     words = {("run", "--default"): ", ".join(sorted(completed("prepaid", "run", "--default", "")))}
     return commands if HELP | VERSION <= first else {}, words
@@ -204,7 +220,7 @@ def said_in_zsh(path):
     commands = {}
     for name, arm in re.findall(r"^    ([a-z]+)\)\n(.*?);;", text, re.M | re.S):
         commands[name] = set(re.findall(r"'(--[a-z]+)\[", arm)) | (HELP if "{-h,--help}" in arm else set())
-    words = {("run", "--default"): ", ".join(re.search(r"--default\[[^:]*:word:\(([^)]*)\)", text)[1].split())}
+    words = {("run", "--default"): ", ".join(re.search(r"--default\[[^]]*\]:word:\(([^)]*)\)", text)[1].split())}
     if any(it not in text for it in ("{-V,--version}", "'--explain[", "'--plain[")):
         raise SystemExit(f"{path}: no version, or no word in front of a command")
     return commands if listed == set(commands) else {"listed": listed}, words
@@ -230,6 +246,74 @@ def said_in_help(program):
     if not VERSION <= set(told("--help").replace(",", " ").split()):
         raise SystemExit("help: no version")
     return commands, left, {re.sub(TABLES_NAMED, "TABLE row", it) for it in lines}, kinds
+
+
+def options_in_help(program, names):
+    """Of each option of a command what its value is called, if it takes one, and what its help says of it."""
+    found = {}
+    for name in names:
+        text = told_of(name, program).partition("\nOptions:\n")[2].partition("\n\n")[0]
+        rows = re.findall(r"^ +(--[a-z]+)(?: <(\w+)>)? +(.*?)(?: \[[^]]*\])?$", text, re.M)
+        found |= {(name, option): (value, said) for option, value, said in rows}
+    return found
+
+
+def completion_faults(options, commands):
+    """Where a shell completes other words behind an option than that takes, or says something else of it than the help."""
+    wrong = []
+    for (name, option), (value, _) in options.items():
+        if value not in ("FILE", "FOLDER", "WORD") and completed("prepaid", name, option, "") != (set() if value else commands[name]):
+            wrong.append(f"{BASH}: prepaid {name} {option}: {completed('prepaid', name, option, '')}")
+    for words, wanted in COMPLETED:
+        if (found := completed("prepaid", *words)) != wanted:
+            wrong.append(f"{BASH}: prepaid {' '.join(words)}: {found} in place of {wanted}")
+    with open(ZSH) as file:
+        arms = re.findall(r"^    ([a-z]+)\)\n(.*?);;", file.read(), re.M | re.S)
+    found = {(name, option): (bool(more), said) for name, arm in arms for option, said, more in re.findall(r"'(--[a-z]+)\[([^]]*)\](:?)", arm)}
+    for it, (value, said) in options.items():
+        said = said.replace(" it", " a switch") if it in OF_SWITCH else said
+        if found.get(it) != (bool(value), said):
+            wrong.append(f"{ZSH}: {it}: {found.get(it)} in place of {bool(value), said}")
+    return wrong
+
+
+def sentences_of(formats):
+    """What helps and the man page say in the words of the formats: which of them, and these words."""
+
+    def found(pattern):
+        return re.search(pattern, formats.replace("`", "")).groups()
+
+    (difference,), (over,) = found(r"\| difference \| (.*?),"), found(r"Over is (.*?), over the rows")
+    (times,), (monday, sunday) = found(r"Without one they are (.*)\. So the table"), found(r"(\d) is Monday and (\d) is Sunday")
+    (again,), (files,) = found(r"with --again N so that their rows (.*?) behind the header"), found(r"(once all four are) on the disk they get their names")
+    torn, cut = found(r"(What is behind the last LF of) a log was (cut off)")
+    days = f"digits from {monday} (Monday) to {sunday}"
+    return [
+        (["rate", "man"], f"The difference is {difference}"),
+        (["rate"], f"over: {over}, under: how much less"),
+        (["rate", "man"], times.replace(" where it has that", "")),
+        (["run", "quote", "rate", "serve", "man"], days),
+        (["run", "quote", "rate", "serve"], f"{days} (Sunday)"),
+        (["price", "replay", "run", "quote", "rate", "serve", "man"], "a rate is money a minute"),
+        (["serve"], f"with --again N the rows of those {again} again"),
+        (["serve"], f"{torn} FILE is {cut}"),
+        (["run", "man"], f"{files} written"),
+    ]
+
+
+def sentence_faults(program, formats, manual):
+    """Where a help or the man page says something else than the formats of what a figure or an option is."""
+    entries = entries_of(manual)
+    pages = {"man": " ".join(map(plain, manual.split("\n")))}
+    pages |= {name: " ".join(told_of(name, program).split()) for name in (*NEEDS, "audit", "rate")}
+    wrong = [f"{it}: doesn't say: {said}" for names, said in sentences_of(formats) for it in names if said not in pages[it]]
+    for name in ("run", "serve"):
+        of_man = {term.split()[0]: said for section, below, term, said in entries if section == "COMMANDS" and below == name and term}
+        for option, _, _, said in tables_of(formats)[f"Option of `{name}`"]:
+            option, said = option.strip("`").split()[0], said.replace("gsmSSF", "switch").partition(";")[0]
+            if re.match("how |the (time|least) ", said) and not of_man[option].lower().startswith(said):
+                wrong.append(f"man: {name} {option}: {of_man[option]} in place of {said}")
+    return wrong
 
 
 def faults_of(what, name, program):
@@ -353,12 +437,18 @@ def continued(line):
 
 
 def version_faults(program):
-    """How the version that is printed differs from the changelog's newest day."""
+    """How the version that is printed differs from the changelog's newest day, and that of the sources from which a program
+    is built without proofs from this day with a word that says so."""
     told = subprocess.run([program, "--version"], capture_output=True, text=True, check=True).stdout
     with open("CHANGELOG.md") as file:
         day = re.search(r"^## (\S+)$", file.read(), re.M)[1]
+    with tempfile.TemporaryDirectory() as folder:
+        quick.copy_sources(folder)
+        with open(f"{folder}/crates/table_commands/src/help.rt") as copy, open("crates/table_commands/src/help.rt") as file:
+            is_marked = copy.read() == file.read().replace(f'VERSION: &str = "{day}"', f'VERSION: &str = "{day} (unproved)"')
     wanted = f"prepaid {day}\n"
-    return [] if told == wanted else [f"version: {told!r} in place of {wanted!r}"]
+    wrong = [] if told == wanted else [f"version: {told!r} in place of {wanted!r}"]
+    return wrong if is_marked else [*wrong, "version: that of a program that is built without proofs doesn't say so"]
 
 
 def answer(program, name, words, text, option=None, value=None):
@@ -445,10 +535,11 @@ def main():
     with open("man/prepaid.1") as file:
         manual = file.read()
     of_man, of_help = said_in_man(manual), said_in_help(program)
-    of_bash, of_zsh = said_in_bash("completions/prepaid.bash", set(commands)), said_in_zsh("completions/_prepaid")
+    of_bash, of_zsh = said_in_bash(set(commands)), said_in_zsh(ZSH)
     defaults = {it: left for it, (_, left) in values.items() if left}
     words = {("run", "--default"): values["run", "--default"][0]}
     faults = version_faults(program) + range_faults(program, values, lines) + long_books(program) + example_faults(program)
+    faults += completion_faults(options_in_help(program, {*NEEDS, "audit", "rate"}), commands) + sentence_faults(program, formats, manual)
 
     def same(where, what, found, wanted):
         if found != wanted:
