@@ -1,9 +1,10 @@
 #!/usr/bin/env python3
-"""Makes packages of a program, and uses them where the repository is out of reach: tests/dist_test.py [--program FILE]
+"""Tries the Makefile, and packages of a program where the repository is out of reach: tests/dist_test.py [--program FILE]
 
 `make`, `make test` and `make dist` run in a repository made for this, which has what is packed, and stand-ins for the
-toolchain and the tests. It shows what `make dist` refuses, what a package says of its program, and that a commit gives
-the same bytes again. Then that repository is taken away. The tarball and the Debian package must hold what they should,
+toolchain and the tests. It shows what the gate calls, and that it fails where any of that fails; what `make run` and its
+like do; what `make dist` refuses, what a package says of its program, and that a commit gives the same bytes again. Then
+that repository is taken away. The tarball and the Debian package must hold what they should,
 byte for byte. Each is unpacked, and the commands of its pages run in an empty folder and an empty environment. A byte of
 each file is changed, which the checksums must find.
 """
@@ -185,11 +186,12 @@ def try_calls(repository, folder):
 
 
 def try_targets(repository, folder, program):
-    """Without a proof there is no program, nor where it says so. One that is there plays the evening and reports it, and is
-    installed where the README says."""
-    os.remove(f"{repository.top}/bin/prepaid")
+    """Without a proof there is no program. One that is there plays the evening and reports it, and is installed where the
+    README says."""
+    built = f"{repository.top}/bin/prepaid"
+    write(f"{repository.top}/crates/prepaid/out/prepaid", program, 0o755)
     ran = repository.run("make", FAILING="tests/prove.pyprepaid")
-    hold(ran.returncode and not os.path.exists(f"{repository.top}/bin/prepaid"), "make builds a program that isn't proved")
+    hold(ran.returncode and not os.path.exists(built), "make builds a program that isn't proved")
     repository.build(program)
     ran = repository.run("make", "--silent", "run")
     hold("\naccount 106 opening 1000 available 730 entries 15\n" in ran.stdout, f"make run: {ran.stdout}{ran.stderr}")
@@ -199,6 +201,7 @@ def try_targets(repository, folder, program):
     hold(not changed, f"make picture changes {changed}")
     repository.make("install", f"DESTDIR={folder}/installed")
     hold(read(f"{folder}/installed/usr/local/bin/prepaid") == program, "make install puts the program elsewhere")
+    os.remove(built)
 
 
 def try_bytes(repository):
@@ -355,17 +358,15 @@ def main():
     words = asked.parse_args()
     os.chdir(ROOT)
     program = os.path.abspath(words.program)
-    if not all(shutil.which(it) for it in ("dpkg-deb", "dpkg-shlibdeps")):
-        print("dist: passed over: dpkg-deb or dpkg-shlibdeps isn't here: apt-get install dpkg-dev")
-        return
     with tempfile.TemporaryDirectory() as folder:
         repository = Repository(folder)
-        try_refusals(repository, read(program))
-        day = try_gates(repository)
         try_calls(repository, folder)
         try_targets(repository, folder, read(program))
-        repository.make("test")
-        repository.make("dist")
+        if not all(shutil.which(it) for it in ("dpkg-deb", "dpkg-shlibdeps")):
+            print("dist: no package was made: dpkg-deb or dpkg-shlibdeps isn't here: apt-get install dpkg-dev")
+            return
+        try_refusals(repository, read(program))
+        day = try_gates(repository)
         try_bytes(repository)
         packages = shutil.move(f"{repository.top}/out/dist", f"{folder}/packages")
         shutil.rmtree(repository.top)
