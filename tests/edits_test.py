@@ -95,7 +95,9 @@ not refused: sample/has_another_most
 not refused: sample/names_what_is_not_there
 3 refused, 7 not refused
 """
-GATE_LAST = "not refused: sample/answers_half\n0 refused, 1 not refused\n"
+GATE_LAST = "not refused: sample/answers_half\nnot refused: second/is_in_no_file\n0 refused, 2 not refused\n"
+# An edit that is tried without a check.
+NOWHERE = "file: src/gone.rt\nold: x\nnew: y\n"
 
 
 def write(path, text):
@@ -130,8 +132,10 @@ def twins(root, crate):
 
 
 def lay(root):
-    """Makes the repository of the sample."""
-    write(f"{root}/crates.txt", "sample:\n")
+    """Makes the repository of the sample, and of a second crate, of which only the gate has an edit."""
+    write(f"{root}/crates.txt", "sample:\nsecond:\n")
+    write(f"{root}/crates/second/src/lib.rt", "//! A second sample.\n")
+    write(f"{root}/crates/second/edits/gate/is_in_no_file.edit", NOWHERE)
     write(f"{root}/HANDLES", "Handles allowed: none.\n")
     write(f"{root}/crates/sample/src/lib.rt", LIBRARY)
 
@@ -145,7 +149,7 @@ def lay_edits(root, folder, of_folder):
 
 def lay_stale(root):
     """Adds edits that the program doesn't try, and a page."""
-    write(f"{root}/crates/sample/edits/is_in_no_file.edit", "file: src/gone.rt\nold: x\nnew: y\n")
+    write(f"{root}/crates/sample/edits/is_in_no_file.edit", NOWHERE)
     for name in ("adds_three", "adds_four"):
         write(f"{root}/crates/sample/edits/gate/{name}.edit", "file: src/lib.rt\nold:     x + 1\nnew:     x + 4\n")
     write(f"{root}/docs/edits/sample.md", PAGE)
@@ -168,7 +172,8 @@ def main():
         lay(root)
         lay_edits(root, "edits/gate", GATE)
         gate, unknown = (tries(root, *names, program="gate_edits.py") for names in ((), ("sample", "other")))
-        shutil.rmtree(f"{root}/crates/sample/edits")
+        for name in ("sample", "second"):
+            shutil.rmtree(f"{root}/crates/{name}/edits")
         lay_edits(root, "edits", EDITS)
         # one that doesn't fit is tried without a check
         ran, few = tries(root), tries(root, "sample", "fits_no_longer").stdout

@@ -4,7 +4,8 @@
 A library of which a body, or that of a library below, has changed isn't taken for proved; nor is one without a stamp, or
 one that was proved before a library below it. One that the prover refuses has none, and the status is 1. What tries the
 edits of the gate proves the same. What the toolchain says is tried of two libraries; else a program is in its place, which
-refuses the false clause alone.
+refuses the false clause alone. So it is of a program over a library: where that isn't proved the status is 1, and the one
+that was built before stays.
 """
 import os
 import re
@@ -12,6 +13,8 @@ import shutil
 import subprocess
 import sys
 import tempfile
+
+from quick import link_all, write_script
 
 TESTS = os.path.dirname(os.path.abspath(__file__))
 LIBRARY = """//! A sample.
@@ -30,15 +33,20 @@ pub fn {name}(x: u32) -> u32
 OPPOSITE = ("    x + 1", "    1 + x")
 # In place of the toolchain: it refuses a false clause, and makes the folder that it is to write.
 PLAYED = """#!/usr/bin/env python3
-import os, sys
-with open("src/lib.rt", encoding="utf-8") as it:
-    if "x + 2" in it.read():
-        sys.exit("logic=not-proved")
-os.mkdir(sys.argv[sys.argv.index("-o") + 1])
+import glob, os, sys
+for path in glob.glob("src/*.rt"):
+    with open(path, encoding="utf-8") as it:
+        if "x + 2" in it.read():
+            sys.exit("logic=not-proved")
+os.makedirs(sys.argv[sys.argv.index("-o") + 1], exist_ok=True)
 print("logic=proved functions=1")
 """
+# In place of the linker: the program says when it was linked.
+LINKER = '#!/bin/sh\nwhile [ "$1" != -o ]; do shift; done\ncp src/main.rt "$2"\n'
 # Calls prove.py with the toolchain that the last word names.
 CALL = "import sys, prove; prove.rtlib.RATTLE = sys.argv.pop() or prove.rtlib.RATTLE; sys.exit(prove.main())"
+# The same with the linker beside it.
+PROGRAM_CALL = "import os, sys, prove; prove.rtlib.KIT = os.path.dirname(sys.argv[-1]); " + CALL
 # The same of what tries the edits of the gate, up to where it tries them.
 GATE_CALL = """
 import sys, gate_edits
@@ -57,8 +65,8 @@ def write(path, text):
 class Sample:
     """A repository of these libraries, and of `top` above them."""
 
-    def __init__(self, root, libraries, toolchain=""):
-        self.root, self.toolchain = root, toolchain
+    def __init__(self, root, libraries, toolchain="", top="lib.rt"):
+        self.root, self.toolchain, self.top = root, toolchain, top
         listed = "".join(f"{name}: {below}\n" for name, below in libraries.items())
         write(f"{root}/crates.txt", f"{listed}top: {' '.join(libraries)}\n")
         write(f"{root}/HANDLES", "Handles allowed: none.\n")
@@ -69,7 +77,7 @@ class Sample:
             shutil.copy(f"{TESTS}/{name}", f"{root}/tests")
 
     def source(self, name):
-        return f"{self.root}/crates/{name}/src/lib.rt"
+        return f"{self.root}/crates/{name}/src/{self.top if name == 'top' else 'lib.rt'}"
 
     def stamp(self, name):
         return f"{self.root}/crates/{name}/out/rlib/stamp"
@@ -101,6 +109,13 @@ STEPS = [
     ("it has it still", lambda it: None, [], 1),
     ("side is as it was", lambda it: it.lay("side"), ["side"], 0),
 ]
+# The same of a program, `top`, and what was linked of it: its clause.
+PROGRAM_STEPS = [
+    ("all is new", lambda it: None, ["side", "top"], 0),
+    ("top has a false clause", lambda it: it.lay("top", more=2), [], 1),
+    ("side has one too", lambda it: it.lay("side", more=2), [], 1),
+    ("both are as they were", lambda it: (it.lay("side"), it.lay("top")), ["side", "top"], 0),
+]
 # The same of the toolchain itself.
 PROVED_STEPS = [
     ("all is new", lambda it: None, ["low", "side"], 0),
@@ -126,15 +141,30 @@ def tried(sample, steps, call=CALL):
             sys.exit(f"prove: FAILED: where {what}: the stamp of side")
 
 
+def tried_program(sample):
+    """Does to a program what its steps have."""
+    for what, change, proved, status in PROGRAM_STEPS:
+        change(sample)
+        found = sample.proved(PROGRAM_CALL)
+        with open(f"{sample.root}/crates/top/out/top", encoding="utf-8") as it:
+            is_right = "x + 1 }" in it.read()
+        if (*found, is_right) != (proved, status, True):
+            sys.exit(f"prove: FAILED: where {what}: {found}, {is_right}, and not {(proved, status, True)}")
+
+
 def main():
     with tempfile.TemporaryDirectory(prefix="prove-test-") as root:
-        write(f"{root}/played", PLAYED)
-        os.chmod(f"{root}/played", 0o755)
+        write_script(f"{root}/played", PLAYED)
         large = Sample(f"{root}/large", {"low": "", "middle": "low", "side": ""}, f"{root}/played")
         tried(large, STEPS)
         tried(large, GATE_STEPS, GATE_CALL)
+        link_all(os.path.dirname(os.path.dirname(os.path.realpath(shutil.which("rt")))), f"{root}/kit", ["bin"])
+        for path, text in ((f"{root}/kit/played", PLAYED), (f"{root}/kit/bin/rattle-link", LINKER)):
+            os.makedirs(os.path.dirname(path), exist_ok=True)
+            write_script(path, text)
+        tried_program(Sample(f"{root}/program", {"side": ""}, f"{root}/kit/played", "main.rt"))
         tried(Sample(f"{root}/small", {"low": "", "side": "low"}), PROVED_STEPS)
-    count = len(STEPS) + len(GATE_STEPS)
+    count = len(STEPS) + len(GATE_STEPS) + len(PROGRAM_STEPS)
     print(f"prove: what is proved where {count} things have happened, and {len(PROVED_STEPS)} by the toolchain: ok")
 
 
