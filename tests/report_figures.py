@@ -17,6 +17,14 @@ WHY = {
 MARKS = {"cut": "cut", "denied": "denied", "noroute": "other", "refused": "other", "forfeit": "other"}
 CALL = re.compile(r"call (\d+): (\d+) to (\d+), ([\d: .]+?)(?:, ring ([\d.]+) s)?(?:, talk ([\d.]+) s)?"
                   r"(?:, after the switch ([\d.]+) s)?(?:, paid ([\d.]+))?, (\w+)")
+# What the colours of the accounts' pictures stand for, by the classes of what is drawn.
+LEGEND = {
+    "available": "available", "held": "held by open calls", "recharge": "recharge", "ring": "ring", "talk": "talk",
+    "late": "talk after the switch", "cut": "cut", "denied": "denied", "other": "no route, refused or forfeit",
+}
+# The heads of the tables behind the pictures of an account.
+OF_BALANCE = ["from", "lowest", "highest", "most held", "recharged", "paid", "available at its end"]
+OF_CALLS = ["call", "calling", "called", "start", "ring, s", "talk, s", "after the switch, s", "paid", "outcome"]
 # What was compared.
 compared = []
 
@@ -37,6 +45,13 @@ def signed(amount, decimals):
 
 def seconds(units):
     return f"{units / 10:.1f}"
+
+
+def moment_of(text):
+    """The moment of a time of day, with tenths or without seconds, which is behind the number of its day or in the first."""
+    day, hour = text.split() if " " in text else ("0", text)
+    hours, minutes, seconds = [*map(float, hour.split(":")), 0][:3]
+    return round(int(day) * 864_000 + hours * 36_000 + minutes * 600 + seconds * 10)
 
 
 def report(output, *words, **more):
@@ -67,8 +82,16 @@ class Looked:
         shown = [money(it, decimals) for it in amounts]
         return shown + [signed(amounts[1] - amounts[0], decimals)] if len(amounts) > 1 else shown
 
+    def heads(self, names):
+        """The heads of the columns of these measures."""
+        if len(self.runs) == 1:
+            return names
+        return [f"{name}, {of}" for name in names for of in [*self.names, "difference"]]
+
     def look(self):
         self.structure()
+        self.top()
+        self.legends()
         self.cards()
         self.split("hour", "start / 36000 % 24", lambda key: f"{key:02}:00")
         self.split("prefix", "prefix", lambda key: key or "none")
@@ -97,6 +120,27 @@ class Looked:
             texts = [it.one("figcaption").text, first.text, it.one("summary").text, behind.one("caption").text]
             if first.name != "title" or not all(texts) or not list(behind.one("tbody").all("td")):
                 raise SystemExit(f"a picture without title or table: {texts}")
+
+    def top(self):
+        """The title, and from when to when the runs last."""
+        root, ends = self.page.root, self.ask("SELECT MIN(moment), MAX(moment) FROM trace")
+        title = f"Calls and balances: {' and '.join(self.names)}"
+        same("titles", (root.one("title").text, root.one("h1").text), (title, title))
+        first, last = (pick(at or 0 for (row,) in ends for at in [row[place]]) for place, pick in ((0, min), (1, max)))
+        same("first and last moment", root.one("header").one("p").text, f"From {clock(first)} to {clock(last)}.")
+
+    def legends(self):
+        """What each colour stands for, which is the colour of what is drawn."""
+        found = [[(it.one("i")["class"], it.text) for it in legend.all("span")] for legend in self.page.root.all("p") if legend["class"] == "legend"]
+        runs = [(f"run{at}", name) for at, name in enumerate(self.names)]
+        same("legends", found, [runs, [*LEGEND.items()]] if len(runs) > 1 else [[*LEGEND.items()]])
+        styles = self.text.partition("<style>")[2].partition("</style>")[0]
+        colours = defaultdict(set)
+        for names, rule in re.findall(r"([^{}]+){([^{}]*)}", styles):
+            for name in names.split(","):
+                colours[name.strip().removeprefix(".picture ")] |= {*re.findall(r"--\w+", rule)}
+        for kind in [*LEGEND, "run0", "run1"]:
+            same(f"colours of {kind}", (colours[f".{kind}"], len(colours[f".{kind}"]) > 0), (colours[f"i.{kind}"], True))
 
     def cards(self):
         queries = {
@@ -129,12 +173,17 @@ class Looked:
         for it in order:
             counts, paid = zip(*(run.get(it, (0, 0)) for run in asked))
             wanted.append([label(it), *self.beside(counts, False), *self.beside(paid)])
-        same(f"by {name}", [rows for _, rows in self.page.tables(f"Paid by {name}")], [wanted] if keys else [])
+        head = [name, *self.heads(["calls", "paid"])]
+        same(f"by {name}", self.page.tables(f"Paid by {name}"), [(head, wanted)] if keys else [])
         for figure in self.figures[f"Paid by {name}"]:
+            labels = [it.text for it in figure.one("svg").all("text") if not it["text-anchor"]]
+            same(f"the labels of bars by {name}", labels, [label(it) or "none" for it in order][:24])
             self.bars(name, figure, [[run.get(it, (0, 0))[1] for run in asked] for it in order][:24])
 
     def bars(self, name, figure, wanted):
         sizes = [float(it["width"][:-1]) for it in figure.all("rect")]
+        classes = [f"run{at}" for row in wanted for at in range(len(row))]
+        same(f"whose the bars by {name} are", [it["class"] for it in figure.all("rect")], classes)
         most = max(max(it) for it in wanted) or 1
         same(f"bars by {name}", sizes, [round(80 * it / most, 2) for row in wanted for it in row])
         told = [it.text for it in figure.one("svg").all("text") if it["text-anchor"] == "end"]
@@ -159,8 +208,7 @@ class Looked:
             wanted.append([str(rows[0][0])])
             for at, name in enumerate(names, 1):
                 wanted[-1] += self.beside([row[at] for row in rows], name not in ("calls", "cut", "denied"))
-        (_, found), = self.page.tables("Accounts")
-        same("accounts", found, wanted)
+        same("accounts", self.page.tables("Accounts"), [(["account", *self.heads(names)], wanted)])
 
     def why(self, run, call, outcome):
         if outcome not in ("cut", "denied"):
@@ -185,8 +233,10 @@ class Looked:
             *_, calling, called, account, start = rows[0]
             paid = self.beside([it[0] for it in rows])
             wanted.append([number, clock(start), str(account), *whys, *paid, calling, called])
+        outcomes = ["outcome"] if len(self.runs) == 1 else [f"outcome, {name}" for name in self.names]
+        head = ["call", "start", "account", *outcomes, *self.heads(["paid"]), "calling", "called"]
         found = self.page.tables("Calls that were cut, denied or not taken")
-        same("calls that were not taken", [rows for _, rows in found], [wanted] if wanted else [])
+        same("calls that were not taken", found, [(head, wanted)] if wanted else [])
 
     # the pictures of one run
 
@@ -209,10 +259,10 @@ class Looked:
     def axis(self):
         """The start of the time axis, its span, and its parts."""
         ticks = [it.text for it in next(it for it in self.page.root.all("g") if it["id"] == "time").all("text")]
-        day, hour = ticks[0].split() if " " in ticks[0] else ("0", ticks[0])
-        parts = [*map(float, hour.split(":")), 0]
         span = next(int(it["viewbox"].split()[2]) for it in self.page.root.all("svg") if it["viewbox"])
-        return int(int(day) * 864_000 + parts[0] * 36_000 + parts[1] * 600 + parts[2] * 10), span, len(ticks) - 1
+        start, parts = moment_of(ticks[0]), len(ticks) - 1
+        same("the labels of the time axis", [*map(moment_of, ticks)], [start + span // parts * it for it in range(parts + 1)])
+        return start, span, parts
 
     def balance(self, number, figure, steps, start, span, parts):
         amount = lambda it: money(it, self.decimals)
@@ -225,8 +275,8 @@ class Looked:
         self.curve(f"held of account {number}", drawn["held"], [(it[0] - start, it[1] + it[2]) for it in steps], span)
         marks = [(it.one("title").text, it["d"]) for it in figure.all("path") if it["class"] == "recharge"]
         same(f"recharges of account {number}", marks, self.recharges(steps, start, -(-span // 1000), amount))
-        rows = [row[1:] for row in self.rows(figure)]
-        same(f"table of the balance of account {number}", rows, self.parts(steps, start, span // parts, parts, amount))
+        found = [(moment_of(at), *row) for at, *row in self.rows(figure, OF_BALANCE)]
+        same(f"table of the balance of account {number}", found, self.parts(steps, start, span // parts, parts, amount))
 
     def recharges(self, steps, start, width, amount):
         columns = {}
@@ -244,12 +294,14 @@ class Looked:
             earlier = [it for it in steps if it[0] < a][-1:] or steps[:1]
             if inside:
                 seen = inside + (earlier if inside[0][0] > a else [])
-                wanted.append([amount(it) for it in (
+                wanted.append((a, *(amount(it) for it in (
                     min(it[1] for it in seen), max(it[1] for it in seen), max(it[2] for it in seen),
-                    sum(it[4] for it in inside if it[5] == "credit"), inside[-1][3] - earlier[0][3], inside[-1][1])])
+                    sum(it[4] for it in inside if it[5] == "credit"), inside[-1][3] - earlier[0][3], inside[-1][1]))))
         return wanted
 
-    def rows(self, figure):
+    def rows(self, figure, head):
+        """The rows of the table behind a picture, whose head has to be this one."""
+        same("the head of a table", [it.text for it in figure.one("thead").all("th")], head)
         return [[cell.text for cell in row.all("th", "td")] for row in figure.one("tbody").all("tr")]
 
     def curve(self, what, path, steps, span):
@@ -270,7 +322,7 @@ class Looked:
     def calls(self, number, figure, calls, start):
         amount = lambda it: money(it, self.decimals)
         wanted = [[*it[:3], clock(it[3]), *map(seconds, it[4:7]), amount(it[7]), it[8]] for it in calls]
-        same(f"calls of account {number}", self.rows(figure), wanted)
+        same(f"calls of account {number}", self.rows(figure, OF_CALLS), wanted)
         lanes = {}
         for group, row in zip(figure.one("svg").one("svg").all("g"), calls, strict=True):
             call, calling, called, at, ring, before, after, paid, outcome = row
