@@ -62,6 +62,11 @@ def write(path, text):
         it.write(text)
 
 
+def read(path):
+    with open(path, encoding="utf-8") as it:
+        return it.read()
+
+
 class Sample:
     """A repository of these libraries, and of `top` above them."""
 
@@ -109,7 +114,7 @@ STEPS = [
     ("it has it still", lambda it: None, [], 1),
     ("side is as it was", lambda it: it.lay("side"), ["side"], 0),
 ]
-# The same of a program, `top`, and what was linked of it: its clause.
+# The same of a program, `top`.
 PROGRAM_STEPS = [
     ("all is new", lambda it: None, ["side", "top"], 0),
     ("top has a false clause", lambda it: it.lay("top", more=2), [], 1),
@@ -142,14 +147,16 @@ def tried(sample, steps, call=CALL):
 
 
 def tried_program(sample):
-    """Does to a program what its steps have."""
+    """Does to a program what its steps have. What is linked and its stamp are always of the sources that are proved."""
+    linked = None
     for what, change, proved, status in PROGRAM_STEPS:
         change(sample)
-        found = sample.proved(PROGRAM_CALL)
-        with open(f"{sample.root}/crates/top/out/top", encoding="utf-8") as it:
-            is_right = "x + 1 }" in it.read()
-        if (*found, is_right) != (proved, status, True):
-            sys.exit(f"prove: FAILED: where {what}: {found}, {is_right}, and not {(proved, status, True)}")
+        if (found := sample.proved(PROGRAM_CALL)) != (proved, status):
+            sys.exit(f"prove: FAILED: where {what}: {found}, and not {(proved, status)}")
+        built = [read(f"{sample.root}/crates/top/out/{it}") for it in ("top", "top.stamp")]
+        linked = linked or built
+        if built != linked:
+            sys.exit(f"prove: FAILED: where {what}: another program, or another stamp")
 
 
 def main():
