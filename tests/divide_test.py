@@ -8,6 +8,7 @@ no line of a run, and a run in parts must take less memory.
 import argparse
 import csv
 import os
+import re
 import subprocess
 import sys
 import tempfile
@@ -33,6 +34,10 @@ WRONG = {
     "Unknown account": (["subscriber,493,9"], []),
     "What": (["accounts,9,5"], []),
 }
+# Two accounts whose subscribers' numbers are the same but for a zero, in tables with marks, quotes and each end of a line.
+FORMS = ("prefix,from,fee,rate\r49,00:00,50,1000\n%%\r\n\ufeffkind,key,value\raccount,7,1500\r\n\"subscriber\",491,7\r\raccount,8,1500\n"
+         "subscriber,0491,8\n%%\n\ufeff\"moment\",call,what,x,y\r0,1,start,491,4930\r0,2,start,0491,4930\n100,1,answer,,\r\n"
+         "100,2,\"answer\",,\n\n400,1,disconnect,1,\r500,2,disconnect,1,\r").encode()
 # How many threads play the parts inside the program.
 THREADS = ["1", "2", "4", "64"]
 # Files with lines of parts, and what is merged of them, or the beginning of what refuses them behind `merge: FILE: `.
@@ -44,6 +49,7 @@ MERGED = [
         [ACCOUNT.format(10) + CALL.format(11, 10) + CALL.format(9, 10), ACCOUNT.format(9) + CALL.format(11, 9) + CALL.format(100, 9)],
         ACCOUNT.format(9) + ACCOUNT.format(10) + CALL.format(9, 10) + CALL.format(11, 9) + CALL.format(11, 10) + CALL.format(100, 9),
     ),
+    ([CALL.format(9, 7).replace("returned", it) for it in ("holding", "forfeit")], "".join(CALL.format(9, 7).replace("returned", it) for it in ("forfeit", "holding"))),
     ([ACCOUNT.format(7), ACCOUNT.format(8) + ACCOUNT.format(7)], "account 7 is in two parts"),
     ([ACCOUNT.format(7)[:-1]], "no whole line of a run"),
     ([CALL.format(1, 7)[:-1]], "no whole line of a run"),
@@ -169,7 +175,7 @@ def merges(trial):
 
 def undivided(trial, path):
     """Tries what divide.py refuses of an input that runs, of its folder and of the parts that are asked for."""
-    full = trial.new()
+    full, missing = trial.new(), trial.new()
     os.mkdir(full)
     with open(os.path.join(full, "part"), "wb"):
         pass
@@ -187,6 +193,23 @@ def undivided(trial, path):
             said = str(why)
         if said != wanted:
             raise SystemExit(f"divide.py: {said}, and not {wanted}")
+    for words, status, wanted in [
+        ([tries[2][0], trial.new()], 1, "divide: input: Parts\n"),
+        ([missing, trial.new()], 1, f"divide: [Errno 2] No such file or directory: '{missing}'\n"),
+        (["--parts", "0", path, trial.new()], 2, "error: --parts is at least 1\n"),
+    ]:
+        ran = subprocess.run([sys.executable, f"{TOP}/examples/divide.py", *words], capture_output=True, text=True)
+        if (ran.returncode, ran.stdout) != (status, "") or not ran.stderr.endswith(wanted):
+            raise SystemExit(f"divide.py {words}: {ran.returncode} {ran.stdout!r} {ran.stderr!r}, and not {wanted!r}")
+
+
+def limits_said():
+    """What a run takes, as the formats say it."""
+    with open(f"{TOP}/docs/FORMATS.md", encoding="utf-8") as file:
+        text = file.read()
+    size, = re.search(r"An input has at most (\d+) bytes", text).groups()
+    setup, accounts, script = re.search(r"A setup has at most (\d+) rows and (\d+) accounts, a script at most (\d+) rows", text).groups()
+    return Limits(*map(int, (size, accounts, setup, script)))
 
 
 def memory(program, words, path):
@@ -234,6 +257,8 @@ def main():
     words = asked.parse_args()
     with tempfile.TemporaryDirectory() as folder:
         trial = Trial(os.path.abspath(words.program), folder)
+        if RUN != limits_said():
+            raise SystemExit(f"divide.py: a run takes {RUN}, and by the formats {limits_said()}")
         merges(trial)
         takes_less(trial)
         one = ["run", "--workers", "1"]
@@ -244,6 +269,7 @@ def main():
                 trial.same(name, one, path, count)
                 trial.inside(name, one, path, count, wanted)
             trial.threaded(name, one, path)
+        trial.same("marks, quotes and ends of lines", one, trial.new(FORMS), 2)
         for limits in SMALL:
             trial.same(f"evening {limits}", one, os.path.join(TOP, "examples", "evening.txt"), limits=limits)
         # parts that are written piece by piece
