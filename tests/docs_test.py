@@ -27,6 +27,8 @@ def blocks(page):
         lines = it.read().split("\n")
     found, inside = [], False
     for number, line in enumerate(lines, 1):
+        if line.startswith("$ ") and not inside:
+            raise SystemExit(f"{page}:{number}: a command that is in no block ```console: {line}")
         if line.startswith("```"):
             inside = line == "```console"
         elif inside and line.startswith("$ "):
