@@ -2,11 +2,12 @@
 """Names edits that went stale, and tries the programs that try edits: tests/edits_test.py [--stale]
 
 Each edit of edits/ and edits/gate/, in each crate, names files that are there, and each of its old texts is in its file
-once; no two edits of a crate have the same name; edits/gate/ has one edit of a function; and each row of docs/edits is
-of an edit that is there, and names the functions that it changes.
+once; no two edits of a crate have the same name; edits/gate/ has one edit of a function, and the wrong bodies that
+CONTRIBUTING.md names; and each row of docs/edits is of an edit that is there, and names the functions that it changes.
 Then the programs are tried on a crate with edits of each kind: they name those that the prover lets through. With
 --stale they aren't.
 """
+import glob
 import os
 import re
 import shutil
@@ -68,6 +69,8 @@ PAGE = """| Edit | Changes | Refused by |
 | `adds_three` | `after` | clause `value` |
 | `is_gone` | `after` | clause `value` |
 """
+# What the gate is said to try.
+SAID = "- eleven wrong bodies, which cost most: `adds_three` and `adds_five`.\n"
 # What is said of these edits before any is tried.
 STALE = [
     "sample/changes_nothing: an old text is its new one",
@@ -85,6 +88,7 @@ STALE = [
     "docs/edits/sample.md: has_another_most has no row",
     "docs/edits/sample.md: names_what_is_not_there has no row",
     "docs/edits/sample.md: adds_one changes `second_after`",
+    "CONTRIBUTING.md: edits/gate/ has no adds_five",
 ]
 LAST = """not refused: sample/answers_another
 not refused: sample/changes_nothing
@@ -121,7 +125,15 @@ def stale(root):
         said += [f"{page}: {it.name} has no row" for it in crate.edits if not it.fault and it.name not in rows]
         changed = {it: edits.changed(crate, it) for it in rows if it in names}
         said += [f"{page}: {it} changes {changed[it]}" for it in changed if rows[it].split(" | ")[1] != changed[it]]
-    return said
+    return said + untried(root)
+
+
+def untried(root):
+    """Returns the wrong bodies that the gate is said to try, a line each where edits/gate/ hasn't one."""
+    with open(f"{root}/CONTRIBUTING.md", encoding="utf-8") as it:
+        listed = re.search("^- eleven wrong bodies, .*", it.read(), re.M)[0]
+    there = {os.path.basename(it) for it in glob.glob(f"{root}/crates/*/edits/gate/*.edit")}
+    return [f"CONTRIBUTING.md: edits/gate/ has no {it}" for it in re.findall(r"`(\w+)`", listed) if f"{it}.edit" not in there]
 
 
 def twins(root, crate):
@@ -153,6 +165,7 @@ def lay_stale(root):
     for name in ("adds_three", "adds_four"):
         write(f"{root}/crates/sample/edits/gate/{name}.edit", "file: src/lib.rt\nold:     x + 1\nnew:     x + 4\n")
     write(f"{root}/docs/edits/sample.md", PAGE)
+    write(f"{root}/CONTRIBUTING.md", SAID)
 
 
 def tries(root, *names, program="edits.py"):
