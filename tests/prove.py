@@ -19,6 +19,8 @@ from concurrent.futures import FIRST_COMPLETED, ThreadPoolExecutor, wait
 ROOT = os.path.dirname(os.path.dirname(os.path.abspath(__file__)))
 # More jobs on one crate than these take more time of the processors and end hardly sooner.
 MOST_JOBS = 4
+# A file system in memory, and the room that it has to have: of four processes each writes up to 250 MB there.
+IN_MEMORY, ROOM = "/dev/shm", 4 << 30
 sys.path.insert(0, os.path.dirname(os.path.realpath(shutil.which("rt") or sys.exit("rt isn't there"))))
 import rtlib
 
@@ -187,13 +189,26 @@ def build_program(crate, jobs):
     return status
 
 
+def roomy():
+    """Where the toolchain writes what it removes at its end: in memory, where there is room, and no other place is asked for.
+
+    It writes thousands of files for each library, and ext4 looks at each number of a file that was removed lately before
+    it gives one to a new file. That takes 2 to 4 % of the processors' time.
+    """
+    has_room = os.access(IN_MEMORY, os.W_OK) and shutil.disk_usage(IN_MEMORY).free >= ROOM
+    return IN_MEMORY if has_room and not os.environ.get("TMPDIR") else tempfile.gettempdir()
+
+
 def main():
     name = sys.argv[1] if sys.argv[1:] else "prepaid"
     crate = rtlib.Crate(f"{ROOT}/crates/{name}", ROOT, {})
-    jobs = prove_all(crate.below())
-    if not jobs:
-        return 1
-    return build_program(crate, jobs) if crate.is_program else 0
+    # What a toolchain leaves that was ended is removed too.
+    with tempfile.TemporaryDirectory(prefix="prove-", dir=roomy()) as folder:
+        os.environ["TMPDIR"] = folder
+        jobs = prove_all(crate.below())
+        if not jobs:
+            return 1
+        return build_program(crate, jobs) if crate.is_program else 0
 
 
 if __name__ == "__main__":

@@ -5,7 +5,7 @@ A library of which a body, or that of a library below, has changed isn't taken f
 one that was proved before a library below it. One that the prover refuses has none, and the status is 1. What tries the
 edits of the gate proves the same. What the toolchain says is tried of two libraries; else a program is in its place, which
 refuses the false clause alone. So it is of a program over a library: where that isn't proved the status is 1, and the one
-that was built before stays.
+that was built before stays. What the toolchain writes beside is where TMPDIR says, and is removed.
 """
 import os
 import re
@@ -31,9 +31,14 @@ pub fn {name}(x: u32) -> u32
 }}
 """
 OPPOSITE = ("    x + 1", "    1 + x")
-# In place of the toolchain: it refuses a false clause, and makes the folder that it is to write.
+# In place of the toolchain: it refuses a false clause, and makes the folder that it is to write. It leaves a file where it
+# is told to write what is removed, and refuses another place than was asked for.
 PLAYED = """#!/usr/bin/env python3
 import glob, os, sys
+folder = os.environ["TMPDIR"]
+open(f"{folder}/left", "w").close()
+if not folder.startswith(os.environ["ASKED"]):
+    sys.exit("logic=not-proved")
 for path in glob.glob("src/*.rt"):
     with open(path, encoding="utf-8") as it:
         if "x + 2" in it.read():
@@ -93,7 +98,11 @@ class Sample:
     def proved(self, call=CALL):
         """Runs prove.py, and returns the libraries that it has proved, in order of their names, and its status."""
         how = {"cwd": f"{self.root}/tests", "stdout": subprocess.PIPE, "stderr": subprocess.STDOUT, "text": True}
-        ran = subprocess.run([sys.executable, "-c", call, "top", self.toolchain], **how)
+        with tempfile.TemporaryDirectory() as folder:
+            how["env"] = {**os.environ, "TMPDIR": folder, "ASKED": folder}
+            ran = subprocess.run([sys.executable, "-c", call, "top", self.toolchain], **how)
+            if call != GATE_CALL and os.listdir(folder):
+                sys.exit(f"prove: FAILED: what the toolchain writes beside is left: {os.listdir(folder)}")
         return sorted(re.findall(r"^(\w+): logic=proved ", ran.stdout, re.M)), ran.returncode
 
 
