@@ -44,6 +44,13 @@ ALONE = {"rt ci", "tests/definitions.py", "tests/proofs_test.py", "tests/gate_ed
 # The packages that have the libraries which a program needs, and the family of the versions of each one's symbols.
 LIBRARIES = {"libc6": "GLIBC", "libgcc-s1": "GCC"}
 NO_GATE = "none has passed on this commit"
+# What is called where a program is built.
+TARGETS = {
+    "recipes": "tests/docs_test.py --all docs/RECIPES.md",
+    "edits": "tests/edits.py",
+    "edits CRATE=price_core": "tests/edits.py price_core",
+    "bin/prepaid-unproved": "tests/quick.py bin/prepaid-unproved",
+}
 
 
 def hold(holds, what):
@@ -199,6 +206,11 @@ def try_targets(repository, folder, program):
     hold(b"<title>Calls and balances: evening</title>" in read(f"{repository.top}/out/report.html"), "make report")
     changed = repository.run("git", "status", "--porcelain").stdout
     hold(not changed, f"make picture changes {changed}")
+    for words, called in TARGETS.items():
+        write(f"{folder}/told", "")
+        repository.make(*words.split(), TOLD=f"{folder}/told")
+        found = read(f"{folder}/told").decode().replace(" \n", "\n")
+        hold(found == f"{called}\n", f"make {words} calls {found}, and not {called}")
     repository.make("install", f"DESTDIR={folder}/installed")
     hold(read(f"{folder}/installed/usr/local/bin/prepaid") == program, "make install puts the program elsewhere")
     os.remove(built)

@@ -3,9 +3,9 @@
 
 A block ```console has commands, a line `$ WORDS` each, and below each what it prints. They run in a folder of their own
 for each page, which has `bin/prepaid` and `examples`, and what they print, errors too, must be what is there, byte
-for byte. A command that wants a program that isn't here is passed over, and told; with --all that is a failure. Of
-`cd crates/NAME && rt run` the text is compared with crates/NAME/stdout, since the gate compares the program with that.
-In a table with the columns Command and Audit each command makes a book: its audit says yes for each account, or for one
+for byte. A command has 60 seconds. One that wants a program that isn't here is passed over, and told; with --all that is a
+failure. Of `cd crates/NAME && rt run` the text is compared with crates/NAME/stdout, since the gate compares the program
+with that. In a table with the columns Command and Audit each command makes a book: its audit says yes for each account, or for one
 of them no, as the table says, with the status that goes with it. Without a PAGE these are README.md and docs/*.md.
 """
 import argparse
@@ -13,10 +13,13 @@ import glob
 import os
 import re
 import shutil
+import signal
 import subprocess
 import sys
 import tempfile
 
+# A command that takes longer has failed.
+SECONDS = 60
 # Programs that a page may want beside a shell and what every system has, and the package of each.
 WANTED = {"sqlite3": "sqlite3"}
 
@@ -55,10 +58,22 @@ def altered_books(page):
 
 def audit_word(words, folder):
     """What the audit of the book that a command makes says: yes, no, or what else comes of it."""
-    ran = subprocess.run(["bash", "-c", f"set -o pipefail; {words} | bin/prepaid audit"], cwd=folder, text=True, capture_output=True)
-    refused = [line for line in ran.stdout.splitlines() if not line.endswith(" yes")]
-    said = {(0, 0): "yes", (3, 1): "no"}.get((ran.returncode, len(refused)))
-    return said if ran.stdout and not ran.stderr and said else f"status {ran.returncode}: {refused} {ran.stderr}"
+    status, output = ran_in(folder, f"set -o pipefail; {words} | bin/prepaid audit")
+    refused = [line for line in output.splitlines() if not re.fullmatch(r"account \d+ yes", line)]
+    said = {(0, 0): "yes", (3, 1): "no"}.get((status, len(refused)))
+    return said if output and said else f"status {status}: {refused}"
+
+
+def ran_in(folder, words):
+    """What comes of a command: its status, and what it prints, errors too. What it has started ends with it in any case."""
+    how = {"cwd": folder, "text": True, "stdout": subprocess.PIPE, "stderr": subprocess.STDOUT, "start_new_session": True}
+    with subprocess.Popen(["bash", "-c", words], **how) as it:
+        try:
+            output = it.communicate(timeout=SECONDS)[0]
+        except subprocess.TimeoutExpired:
+            os.killpg(it.pid, signal.SIGKILL)
+            output = f"{it.communicate()[0]}It hadn't ended after {SECONDS} seconds.\n"
+    return it.returncode, output
 
 
 def lacks(words):
@@ -71,8 +86,7 @@ def printed(words, folder):
     if crate := re.fullmatch(r"cd (crates/\w+) && rt run", words):
         with open(f"{crate[1]}/stdout", encoding="utf-8") as it:
             return it.read()
-    ran = subprocess.run(["bash", "-c", words], cwd=folder, text=True, stdout=subprocess.PIPE, stderr=subprocess.STDOUT)
-    return ran.stdout
+    return ran_in(folder, words)[1]
 
 
 def try_page(page, program, takes_all):
