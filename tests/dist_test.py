@@ -216,6 +216,16 @@ def try_targets(repository, folder, program):
     os.remove(built)
 
 
+def try_bench():
+    """The scripts of `make bench` can be read, and what they time programs by refuses one that fails, or that prints
+    something else than the others."""
+    for path in glob.glob(f"{ROOT}/bench/*.sh"):
+        hold(subprocess.run(["bash", "-n", path]).returncode == 0, path)
+    for words, is_right in (("echo a -- echo a", True), ("echo a -- echo b", False), ("false -- true", False), ("true -- false", False)):
+        ran = subprocess.run([f"{ROOT}/bench/beside.py", "2", "/dev/null", *words.split()], capture_output=True)
+        hold((ran.returncode == 0) == is_right, f"bench/beside.py {words}: {ran}")
+
+
 def try_bytes(repository):
     """The same commit gives the same bytes at another time, in another time zone, and with another umask."""
     first = {path: read(path) for path in glob.glob(f"{repository.top}/out/dist/*")}
@@ -374,6 +384,7 @@ def main():
         repository = Repository(folder)
         try_calls(repository, folder)
         try_targets(repository, folder, read(program))
+        try_bench()
         if not all(shutil.which(it) for it in ("dpkg-deb", "dpkg-shlibdeps")):
             print("dist: no package was made: dpkg-deb or dpkg-shlibdeps isn't here: apt-get install dpkg-dev")
             return
