@@ -301,8 +301,8 @@ def sentences_of(formats):
     ]
 
 
-def sentence_faults(program, formats, manual):
-    """Where a help or the man page says something else than the formats of what a figure or an option is."""
+def sentence_faults(program, formats, manual, options):
+    """Where a help or the man page says something else of what a figure or an option is than the formats, or than the other."""
     entries = entries_of(manual)
     pages = {"man": " ".join(map(plain, manual.split("\n")))}
     pages |= {name: " ".join(told_of(name, program).split()) for name in (*NEEDS, "audit", "rate")}
@@ -313,6 +313,11 @@ def sentence_faults(program, formats, manual):
             option, said = option.strip("`").split()[0], said.replace("gsmSSF", "switch").partition(";")[0]
             if re.match("how |the (time|least) ", said) and not of_man[option].lower().startswith(said):
                 wrong.append(f"man: {name} {option}: {of_man[option]} in place of {said}")
+    for section, name, term, said in entries:
+        if section == "COMMANDS" and name not in ("run", "serve", "help") and term and not term.startswith("-h"):
+            clause = options[name, term.split()[0]][1].partition(",")[0]
+            if not said.startswith(clause):
+                wrong.append(f"man: {name} {term}: {said} in place of {clause}")
     return wrong
 
 
@@ -539,7 +544,8 @@ def main():
     defaults = {it: left for it, (_, left) in values.items() if left}
     words = {("run", "--default"): values["run", "--default"][0]}
     faults = version_faults(program) + range_faults(program, values, lines) + long_books(program) + example_faults(program)
-    faults += completion_faults(options_in_help(program, {*NEEDS, "audit", "rate"}), commands) + sentence_faults(program, formats, manual)
+    options = options_in_help(program, {*NEEDS, "audit", "rate"})
+    faults += completion_faults(options, commands) + sentence_faults(program, formats, manual, options)
 
     def same(where, what, found, wanted):
         if found != wanted:
