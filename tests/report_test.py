@@ -39,6 +39,21 @@ account,8,900
 %%
 moment,call,what,x,y
 """
+# A call after the last moment of its account, which a recharge has left as it was, and one without credit at that of another.
+EXPIRED = b"""prefix,from,fee,rate
+49,00:00,50,1000
+%%
+kind,key,value,until
+account,7,1500,1000
+subscriber,491,7,
+account,8,0,2000
+subscriber,492,8,
+%%
+moment,call,what,x,y,z
+500,,recharge,7,100,
+2000,1,start,491,4930,
+2000,2,start,492,4930,
+"""
 DIAGRAM = "sequenceDiagram\n    participant switch\n    participant service\n"
 IDLE = NONE + b"5,1,start,491,4930\n100,1,answer,,\n400,1,disconnect,1,\n"
 
@@ -89,6 +104,7 @@ WRONG = [
     ("book.csv", without("^106,,opening"), "book.csv: account 106 has no opening"),
     ("book.csv", twice("106,,opening"), "book.csv: account 106 has no opening, or two"),
     ("book.csv", changed("^(101,0,settle,1,)(\\d+)", r"\g<1>9\2"), f"a settle of call 1 {NO_MESSAGE}"),
+    ("book.csv", changed("^(101,0,settle,1,\\d+,n,)600", r"\g<1>599"), f"a settle of call 1 {NO_MESSAGE}"),
     ("book.csv", changed("^(101,0,reserve,1,.*,)648700", r"\g<1>648701"), f"a reserve of call 1 {NO_MESSAGE}"),
     ("book.csv", changed("^101,0,credit,,8000", "101,0,credit,,8001"), f"account 101: a credit {NO_MESSAGE}"),
     ("book.csv", changed("^(101,0,reserve,1,.*,)9050$", r"\g<1>10001"),
@@ -102,6 +118,7 @@ WRONG = [
     ("calls.csv", changed("49155566666", "49155566667"), f"{SEVERAL}: call 25: calls.csv has calling 4917160001"),
     ("calls.csv", changed("49155566666", "<b>"), "calls.csv row 26: no row of this table"),
     ("calls.csv", changed(",360,0,770,cut", ",359,0,770,cut"), f"{SEVERAL}: call 25: calls.csv has account 106"),
+    ("calls.csv", changed("0,unknown", "5,unknown"), f"{SEVERAL}: call 20: calls.csv has account None, paid 5"),
     ("calls.csv", changed("0,noroute", "0,denied"), "call 18 is denied in calls.csv, and book.csv has no reserve"),
     ("calls.csv", changed("770,cut", "770"), "calls.csv row 26: no row of this table"),
     ("calls.csv", changed("770,cut", "-770,cut"), "calls.csv row 26: no row of this table"),
@@ -249,6 +266,7 @@ def main():
         Looked(f"{folder}/two.html", [evening, dearer], 2).look()
         for name in ("expiring", "free_minute", "call"):
             Looked(f"{folder}/{name}.html", [play(program, example(name), f"{folder}/{name}")]).look()
+        Looked(f"{folder}/expired.html", [play(program, EXPIRED, f"{folder}/expired")]).look()
         random(program, folder, 12)
         picture(evening, folder)
         refuses(evening, dearer, folder)
