@@ -258,8 +258,9 @@ def options_in_help(program, names):
     return found
 
 
-def completion_faults(options, commands):
-    """Where a shell completes other words behind an option than that takes, or says something else of it than the help."""
+def completion_faults(program, options, commands):
+    """Where a shell completes other words behind an option than that takes, or says something else of it, or of a command,
+    than the help."""
     wrong = []
     for (name, option), (value, _) in options.items():
         if value not in ("FILE", "FOLDER", "WORD") and completed("prepaid", name, option, "") != (set() if value else commands[name]):
@@ -268,7 +269,12 @@ def completion_faults(options, commands):
         if (found := completed("prepaid", *words)) != wanted:
             wrong.append(f"{BASH}: prepaid {' '.join(words)}: {found} in place of {wanted}")
     with open(ZSH) as file:
-        arms = re.findall(r"^    ([a-z]+)\)\n(.*?);;", file.read(), re.M | re.S)
+        text = file.read()
+    told = subprocess.run([program, "--help"], capture_output=True, text=True, check=True).stdout
+    for name, said in re.findall(r"^  ([a-z]+) +(.*)$", told.partition("Options:")[0], re.M):
+        if name != "help" and f"\n    '{name}:{said}'\n" not in text:
+            wrong.append(f"{ZSH}: doesn't say of {name}: {said}")
+    arms = re.findall(r"^    ([a-z]+)\)\n(.*?);;", text, re.M | re.S)
     found = {(name, option): (bool(more), said) for name, arm in arms for option, said, more in re.findall(r"'(--[a-z]+)\[([^]]*)\](:?)", arm)}
     for it, (value, said) in options.items():
         said = said.replace(" it", " a switch") if it in OF_SWITCH else said
@@ -545,7 +551,7 @@ def main():
     words = {("run", "--default"): values["run", "--default"][0]}
     faults = version_faults(program) + range_faults(program, values, lines) + long_books(program) + example_faults(program)
     options = options_in_help(program, {*NEEDS, "audit", "rate"})
-    faults += completion_faults(options, commands) + sentence_faults(program, formats, manual, options)
+    faults += completion_faults(program, options, commands) + sentence_faults(program, formats, manual, options)
 
     def same(where, what, found, wanted):
         if found != wanted:
