@@ -4,9 +4,9 @@
 `make`, `make test` and `make dist` run in a repository made for this, which has what is packed, and stand-ins for the
 toolchain and the tests. It shows what the gate calls, and that it fails where any of that fails; what `make run` and its
 like do; what `make dist` refuses, what a package says of its program, and that a commit gives the same bytes again. Then
-that repository is taken away. The tarball and the Debian package must hold what they should,
-byte for byte. Each is unpacked, and the commands of its pages run in an empty folder and an empty environment. A byte of
-each file is changed, which the checksums must find.
+that repository is taken away. The tarball and the Debian package must hold what they should, byte for byte. Each is
+unpacked, and the commands of its pages run in an empty folder and an empty environment. A byte of each file is changed,
+which the checksums must find.
 """
 import argparse
 import glob
@@ -15,30 +15,14 @@ import os
 import re
 import shutil
 import subprocess
-import sys
 import tarfile
 import tempfile
 
+from dist_repository import COMMITTED, ROOT, SYSTEM, Repository, hold, printed, read, write
 from docs_test import blocks, lacks
 
-ROOT = os.path.dirname(os.path.dirname(os.path.abspath(__file__)))
-SYSTEM = "/usr/local/bin:/usr/bin:/bin"
-# The moment of the commits, in seconds.
-COMMITTED = 1_000_000_000
-COPIED = [".ci", "Makefile", "README.md", ".gitignore", "completions", "dist", "docs", "examples", "man"]
 PAGES = ["FORMATS.md", "RECIPES.md", "SCALING.md", "SPEED.md"]
 PROVED, SUMS = (f"share/doc/prepaid/{it}" for it in ("PROVED", "SHA256SUMS"))
-# Each tells that it is called, and fails where FAILING names it with its first word.
-TOOLCHAIN = """#!/bin/sh
-echo "rt $*" >> "${TOLD:-/dev/null}"
-case $1 in version) echo 'a toolchain' ;; ci) echo '3 passed, 0 failed' ;; esac
-case " $FAILING " in *" rt$1 "*) exit 1 ;; esac
-"""
-TEST = """#!/bin/sh
-echo "$0 $*" >> "${TOLD:-/dev/null}"
-[ "$0" != "$COMMITTING" ] || git commit --quiet --allow-empty --message 'another commit'
-case " $FAILING " in *" $0$1 "*) exit 1 ;; esac
-"""
 # What the gate calls without the program.
 ALONE = {"rt ci", "tests/definitions.py", "tests/proofs_test.py", "tests/gate_edits.py", "tests/prove_test.py"}
 # The packages that have the libraries which a program needs, and the family of the versions of each one's symbols.
@@ -53,80 +37,16 @@ TARGETS = {
 }
 
 
-def hold(holds, what):
-    """Ends with a failure where something doesn't hold."""
-    if not holds:
-        sys.exit(f"dist: FAILED: {what}")
-
-
-def read(path):
-    with open(path, "rb") as it:
-        return it.read()
-
-
-def write(path, text, mode=0o644):
-    os.makedirs(os.path.dirname(path), exist_ok=True)
-    with open(path, "wb") as it:
-        it.write(text if isinstance(text, bytes) else text.encode())
-    os.chmod(path, mode)
-
-
-def printed(*words, **more):
-    return subprocess.run(words, check=True, capture_output=True, **more).stdout
-
-
-class Repository:
-    """A repository with what is packed, and with stand-ins for the toolchain and the tests."""
-
-    def __init__(self, folder):
-        self.top = f"{folder}/repository"
-        identity = {"NAME": "somebody", "EMAIL": "somebody@one.example", "DATE": f"{COMMITTED} +0000"}
-        self.environment = {"PATH": f"{folder}/stand-ins:{SYSTEM}", "HOME": folder, "DPKG_DEB_COMPRESSOR_LEVEL": "0"}
-        self.environment |= {f"GIT_{who}_{it}": identity[it] for who in ("AUTHOR", "COMMITTER") for it in identity}
-        os.makedirs(self.top)
-        for name in COPIED:
-            if os.path.isdir(f"{ROOT}/{name}"):
-                shutil.copytree(f"{ROOT}/{name}", f"{self.top}/{name}", ignore=shutil.ignore_patterns("__pycache__"))
-            else:
-                shutil.copy(f"{ROOT}/{name}", self.top)
-        for path in glob.glob(f"{ROOT}/tests/*.*"):
-            write(f"{self.top}/tests/{os.path.basename(path)}", TEST, 0o755)
-        write(f"{folder}/stand-ins/rt", TOOLCHAIN, 0o755)
-        write(f"{self.top}/crates.txt", "table_commands:\nprepaid: table_commands\n")
-        for path in ("table_commands/src/lib.rt", "prepaid/src/main.rt"):
-            write(f"{self.top}/crates/{path}", "")
-        self.run("git", "init", "--quiet")
-        self.run("git", "add", "--all")
-        self.run("git", "commit", "--quiet", "--message", "a commit")
-
-    def run(self, *words, **more):
-        return subprocess.run(words, cwd=self.top, env=self.environment | more, capture_output=True, text=True)
-
-    def make(self, *words, **more):
-        ran = self.run("make", *words, **more)
-        hold(ran.returncode == 0, f"make {' '.join(words)}: {ran.stdout}{ran.stderr}")
-
-    def build(self, program):
-        """Makes bin/prepaid of a program, as `make` does."""
-        write(f"{self.top}/crates/prepaid/out/prepaid", program, 0o755)
-        shutil.rmtree(f"{self.top}/bin", ignore_errors=True)
-        self.make()
-
-    def refuses(self, fault):
-        ran = self.run("make", "dist")
-        hold(ran.returncode and ran.stderr.startswith(f"make dist: {fault}"), f"not refused by '{fault}': {ran.stderr}")
-        hold(not os.path.exists(f"{self.top}/out/dist"), f"what is refused by '{fault}' leaves packages")
-
-    def says(self, state, gate):
-        """Makes the packages, and tries what they say of their program; returns the day of its version."""
-        self.make("dist")
-        day = printed(f"{self.top}/bin/prepaid", "--version").decode().split()[1]
-        commit = self.run("git", "rev-parse", "HEAD").stdout.strip()
-        words = ("tar", "xzOf", f"out/dist/prepaid-{day}.tar.gz", f"prepaid-{day}/{PROVED}")
-        said = self.run(*words).stdout
-        wanted = f"version: {day}\ncommit: {commit}\ntree: {state}\ntoolchain: a toolchain\ngate: {gate}\n"
-        hold(said == wanted, f"a package says\n{said}in place of\n{wanted}")
-        return day
+def says(repository, state, gate):
+    """Makes the packages, and tries what they say of their program; returns the day of its version."""
+    repository.make("dist")
+    day = printed(f"{repository.top}/bin/prepaid", "--version").decode().split()[1]
+    commit = repository.run("git", "rev-parse", "HEAD").stdout.strip()
+    words = ("tar", "xzOf", f"out/dist/prepaid-{day}.tar.gz", f"prepaid-{day}/{PROVED}")
+    said = repository.run(*words).stdout
+    wanted = f"version: {day}\ncommit: {commit}\ntree: {state}\ntoolchain: a toolchain\ngate: {gate}\n"
+    hold(said == wanted, f"a package says\n{said}in place of\n{wanted}")
+    return day
 
 
 def try_refusals(repository, program):
@@ -147,16 +67,16 @@ def try_gates(repository):
     """A package names a gate that has passed as a whole, which began on its commit, with no change beside it."""
     stray, passed = (f"{repository.top}/{it}" for it in ("stray", "out/passed.txt"))
     repository.make("test", COMMITTING="tests/random.sh")
-    repository.says("clean", NO_GATE)
+    says(repository, "clean", NO_GATE)
     write(stray, "")
     repository.make("test")
-    repository.says("changed", NO_GATE)
+    says(repository, "changed", NO_GATE)
     os.remove(stray)
     hold(repository.run(".ci/run", FAILING="tests/random.sh--program").returncode, "the gate passes where a test fails")
     hold(not os.path.exists(passed), "a gate whose last test fails has passed")
     ran = repository.run(".ci/run")
     hold(ran.returncode == 0, ran.stderr)
-    return repository.says("clean", "3 passed, 0 failed")
+    return says(repository, "clean", "3 passed, 0 failed")
 
 
 def calls_of_the_gate():
