@@ -15,8 +15,8 @@ pub enum SsfMsg {
         /// The number that was dialled.
         called: Number,
     },
-    /// EventReportBCSM: a watched point was met. To the service each but an answer ends the charging
-    /// of the call.
+    /// EventReportBCSM: a watched point was met. To the service each but an answer ends the
+    /// charging of the call.
     EventReport {
         /// The event.
         event: Event,

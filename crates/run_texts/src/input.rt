@@ -78,6 +78,7 @@ pub fn read_directory(alloc: Global, text: &[u8]) -> Result<Directory, InputFaul
     }
 }
 
+/// Reads a script over the accounts of a setup. Its first fault is given as that of an input.
 fn read_script(
     alloc: Global,
     directory: &Directory,

@@ -56,12 +56,14 @@ fn read_body(row: &ByteRecord, word: Word) -> Result<Body, RowKind>
     }
 }
 
+/// The call: any number of 64 bits.
 fn read_call(row: &ByteRecord) -> Result<u64, RowKind>
     ensures { result ≡ message_call_in (fields_of row.now) }
 {
     number(row, 2, u64::MAX)
 }
 
+/// InitialDP: x1 is the calling and x2 the called party.
 fn read_initial(row: &ByteRecord) -> Result<Body, RowKind>
     ensures { result_map_both speech_of (λ kind. kind) result ≡ initial_in (fields_of row.now) }
 {
@@ -79,6 +81,7 @@ fn read_initial(row: &ByteRecord) -> Result<Body, RowKind>
     )
 }
 
+/// EventReportBCSM, whose event and mode are words: x2 is the leg, or empty.
 fn read_event_report(row: &ByteRecord, event: Event, mode: Mode) -> Result<Body, RowKind>
     ensures { result_map_both speech_of (λ kind. kind) result
         ≡ event_report_in (fields_of row.now) event mode }
@@ -94,6 +97,7 @@ fn read_event_report(row: &ByteRecord, event: Event, mode: Mode) -> Result<Body,
     when_blank(is_blank(row, 8), Body::Ssf { call, msg })
 }
 
+/// ApplyChargingReport: x3 and x4 are its times.
 fn read_charging_report(row: &ByteRecord, active: bool, switched: bool) -> Result<Body, RowKind>
     ensures { result_map_both speech_of (λ kind. kind) result
         ≡ charging_report_in (fields_of row.now) active switched }
@@ -108,6 +112,7 @@ fn read_charging_report(row: &ByteRecord, active: bool, switched: bool) -> Resul
     when_blank(blank, Body::Ssf { call, msg })
 }
 
+/// The times of a report that knows no switch: x3.
 fn read_no_switch(row: &ByteRecord) -> Result<TimeInfo, RowKind>
     ensures { result ≡ report_without_switch (fields_of row.now) }
 {
@@ -115,6 +120,7 @@ fn read_no_switch(row: &ByteRecord) -> Result<TimeInfo, RowKind>
     Ok(TimeInfo::NoSwitch { t })
 }
 
+/// The times of a report that knows a switch: x3 is the time since, and x4 that before, or empty.
 fn read_switch(row: &ByteRecord) -> Result<TimeInfo, RowKind>
     ensures { result ≡ report_with_switch (fields_of row.now) }
 {
@@ -127,6 +133,7 @@ fn read_switch(row: &ByteRecord) -> Result<TimeInfo, RowKind>
     Ok(TimeInfo::Switch { since, interval })
 }
 
+/// Ended: it says no more.
 fn read_ended(row: &ByteRecord) -> Result<Body, RowKind>
     ensures { result_map_both speech_of (λ kind. kind) result ≡ ended_message_in
         (fields_of row.now) }
@@ -142,6 +149,7 @@ fn read_ended(row: &ByteRecord) -> Result<Body, RowKind>
     )
 }
 
+/// Recharge: x1 is the account, x2 the amount, and x3 its last moment from then on, or empty.
 fn read_recharge(row: &ByteRecord) -> Result<Body, RowKind>
     ensures { result_map_both speech_of (λ kind. kind) result ≡ recharge_message_in
         (fields_of row.now) }

@@ -207,6 +207,7 @@ fn read_row(row: &ByteRecord) -> Result<ScriptRow, RowKind>
     Ok(ScriptRow { at, what })
 }
 
+/// What happens in a row with this word.
 fn read_happening(row: &ByteRecord, word: Word) -> Result<Happening, RowKind>
     ensures says { result_map_both happens_of (λ kind. kind) result
         ≡ happens_in (fields_of row.now) word }
@@ -220,12 +221,14 @@ fn read_happening(row: &ByteRecord, word: Word) -> Result<Happening, RowKind>
     }
 }
 
+/// The call: any number of 64 bits.
 fn read_call(row: &ByteRecord) -> Result<u64, RowKind>
     ensures { result ≡ call_in (fields_of row.now) }
 {
     number(row, 1, u64::MAX)
 }
 
+/// A call starts: x is the calling and y the called party.
 fn read_start(row: &ByteRecord) -> Result<Happening, RowKind>
     ensures says { result_map_both happens_of (λ kind. kind) result
         ≡ start_row_in (fields_of row.now) }
@@ -242,6 +245,7 @@ fn read_start(row: &ByteRecord) -> Result<Happening, RowKind>
     when_blank(is_blank(row, 5), start)
 }
 
+/// A call meets an event that has no more to say.
 fn read_event(row: &ByteRecord, event: BcsmEvent) -> Result<Happening, RowKind>
     ensures says { result_map_both happens_of (λ kind. kind) result
         ≡ event_row_in (fields_of row.now) event }
@@ -252,6 +256,7 @@ fn read_event(row: &ByteRecord, event: BcsmEvent) -> Result<Happening, RowKind>
     when_blank(blank, Happening::Meets { call, event })
 }
 
+/// A party of a call hangs up: x is its leg.
 fn read_disconnect(row: &ByteRecord) -> Result<Happening, RowKind>
     ensures says { result_map_both happens_of (λ kind. kind) result
         ≡ disconnect_in (fields_of row.now) }
@@ -268,6 +273,7 @@ fn read_disconnect(row: &ByteRecord) -> Result<Happening, RowKind>
     when_blank(blank, Happening::Meets { call, event })
 }
 
+/// An account is recharged: x is the account, y the amount, and z its last moment from then on.
 fn read_recharge(row: &ByteRecord) -> Result<Happening, RowKind>
     ensures says { result_map_both happens_of (λ kind. kind) result
         ≡ recharge_row_in (fields_of row.now) }

@@ -91,6 +91,7 @@ fn list_row(directory: &mut Directory, row: &ByteRecord) -> Result<(), TakeFault
     }
 }
 
+/// Lists an account: its number, its opening credit, and its last moment or nothing.
 fn list_account(directory: &mut Directory, row: &ByteRecord) -> Result<(), TakeFault>
     requires { length directory.old.accounts ≤ MAX_ACCOUNTS }
     ensures means { ListsRow result (setup_in directory.new)
@@ -110,6 +111,7 @@ fn list_account(directory: &mut Directory, row: &ByteRecord) -> Result<(), TakeF
     listed(directory.account(number, opening))
 }
 
+/// Lists a subscriber: its number, and the account that pays for its calls.
 fn list_subscriber(directory: &mut Directory, row: &ByteRecord) -> Result<(), TakeFault>
     requires { length directory.old.accounts ≤ MAX_ACCOUNTS }
     ensures means { ListsRow result (setup_in directory.new)

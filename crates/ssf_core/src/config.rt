@@ -56,6 +56,7 @@ impl SsfConfig {
     }
 }
 
+/// Whether a timer is within its range: 1 to a day.
 fn is_timer(units: u32) -> bool
     ensures { IsTrue result ↔ IsTimer units }
 {

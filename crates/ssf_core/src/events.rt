@@ -85,6 +85,7 @@ fn activate(stage: Stage, sent: &mut ArrayVec<Out, 8>, now: Moment) -> Result<St
     Ok(Stage::Active(answered(early, now)))
 }
 
+/// What an answered call keeps: its answer, and the period that was ordered for it, which now runs.
 fn answered(early: Early, now: Moment) -> Active
     requires { IsSwitchTimely now early.switch }
     ensures matches { (tccd : ℕ) (t : List Happening) (items : List Item) → EarlyMatches early t
@@ -101,6 +102,7 @@ fn answered(early: Early, now: Moment) -> Active
     }
 }
 
+/// The units of a period, none where none was ordered.
 fn period_of(charge: Option<Charge>) -> u32
     ensures units { result ≡ period_of charge }
     ensures within_day { result ≤ DAY }
@@ -111,6 +113,7 @@ fn period_of(charge: Option<Charge>) -> u32
     }
 }
 
+/// The charging of a call that is answered: the period that was ordered runs, if there is one.
 fn charging_of(charge: Option<Charge>) -> Charging
     ensures wish { running_period result ≡ release_of charge }
     ensures no_wait { tccd_due_of result ≡ None }
@@ -168,6 +171,7 @@ fn abandon(stage: Stage, sent: &mut ArrayVec<Out, 8>, now: Moment) -> Result<Sta
     }
 }
 
+/// Ends a call that is abandoned, and reports it by mode.
 fn give_up(sent: &mut ArrayVec<Out, 8>, now: Moment, mode: Mode) -> Stage
     requires { array_vec_len sent.old ≤ 5 }
     ensures stage { result ≡ Stage.Ended }

@@ -176,6 +176,7 @@ fn resume(stage: Stage, sent: &mut ArrayVec<Out, 8>, now: Moment) -> Result<Stag
     }
 }
 
+/// Lets a call go on for the first time: it is monitored where there is something to monitor.
 fn go_on(early: Early, sent: &mut ArrayVec<Out, 8>, now: Moment) -> Stage
     requires room { array_vec_len sent.old ≤ 5 }
     requires timely { IsSwitchTimely now early.switch }

@@ -185,6 +185,7 @@ pub(crate) fn any_watched(modes: &Modes) -> bool
         || watches(modes.abandon)
 }
 
+/// Whether a mode has the event reported.
 fn watches(mode: Mode) -> bool
     ensures { result ≡ is_watched mode }
 {

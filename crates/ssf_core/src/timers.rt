@@ -73,6 +73,7 @@ fn tsw_due(stage: &Stage) -> Option<Moment>
     }
 }
 
+/// When a switch is due, while it is awaited.
 fn switch_due(switch: Switch) -> Option<Moment>
     ensures { result ≡ switch_due_of switch }
 {
@@ -126,6 +127,7 @@ fn tssf_due(stage: &Stage) -> Option<Moment>
     }
 }
 
+/// The expiry of a timer at its due moment, where it has one.
 fn expiry_at(timer: Timer, due: Option<Moment>) -> Option<Expiry>
     ensures { result ≡ expiry_of timer due }
 {

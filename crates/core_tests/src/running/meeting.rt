@@ -11,8 +11,9 @@ pub(crate) enum Of {
     Accounts,
 }
 
-/// Holds each of two numbers until it was asked for the other too; after a while it answers false. It
-/// keeps in mind whether it was shown a call with another worker than the one of two that serves it.
+/// Holds each of two numbers until it was asked for the other too; after a while it answers false.
+/// It keeps in mind whether it was shown a call with another worker than the one of two that serves
+/// it.
 #[derive(Drop)]
 pub(crate) struct Meeting {
     of: Of,
