@@ -44,8 +44,9 @@ impl Port for Till {
     }
 }
 
-/// What is left of an account: its entries, what call 1 paid, and the credit.
-type Left = (usize, Option<u64>, u64);
+/// What is left of an account: its entries, the number of its last Settle, what call 1 paid, and the
+/// credit.
+type Left = (usize, Option<u64>, Option<u64>, u64);
 
 /// How a call ends Idle: its reports, the last of them, the forfeits, and what the gsmSSF refused.
 type End = Result<(u64, Option<u32>, u64, u64), DriveFault>;
@@ -61,7 +62,7 @@ const EARLY: Script = &[(1, BcsmEvent::Answer), (10, BcsmEvent::Busy)];
 
 const BACKWARDS: Script = &[(100, BcsmEvent::Answer), (50, BcsmEvent::Busy)];
 
-const UNASKED: Left = (0, None, 1500);
+const UNASKED: Left = (0, None, None, 1500);
 
 /// A habit, the opening credit with its last moment, the delay and the script of a call, how it
 /// ends, and what is left.
@@ -72,7 +73,7 @@ static CALLS: [(Habit, (u64, Option<u64>), u32, Script, End, Left); 16] = [
         2,
         ANSWER,
         Ok((2, Some(870), 0, 0)),
-        (5, Some(1500), 0),
+        (5, Some(2), Some(1500), 0),
     ),
     (
         Habit::Asks,
@@ -80,7 +81,7 @@ static CALLS: [(Habit, (u64, Option<u64>), u32, Script, End, Left); 16] = [
         2,
         ANSWER,
         Ok((1, Some(600), 0, 0)),
-        (4, Some(1050), 0),
+        (4, Some(1), Some(1050), 0),
     ),
     (
         Habit::Asks,
@@ -88,7 +89,7 @@ static CALLS: [(Habit, (u64, Option<u64>), u32, Script, End, Left); 16] = [
         2,
         BUSY,
         Ok((0, None, 0, 0)),
-        (2, Some(0), 1500),
+        (2, None, Some(0), 1500),
     ),
     (
         Habit::Asks,
@@ -96,7 +97,7 @@ static CALLS: [(Habit, (u64, Option<u64>), u32, Script, End, Left); 16] = [
         2,
         ANSWER,
         Ok((10, Some(5970), 0, 0)),
-        (21, Some(10_000), 0),
+        (21, Some(10), Some(10_000), 0),
     ),
     (
         Habit::Asks,
@@ -104,7 +105,7 @@ static CALLS: [(Habit, (u64, Option<u64>), u32, Script, End, Left); 16] = [
         2,
         EARLY,
         Ok((0, None, 0, 1)),
-        (2, Some(0), 1500),
+        (2, None, Some(0), 1500),
     ),
     // A further period comes too late.
     (
@@ -113,7 +114,7 @@ static CALLS: [(Habit, (u64, Option<u64>), u32, Script, End, Left); 16] = [
         50,
         ANSWER,
         Ok((1, Some(600), 0, 1)),
-        (4, Some(1050), 450),
+        (4, Some(1), Some(1050), 450),
     ),
     (
         Habit::Asks,
@@ -154,7 +155,7 @@ static CALLS: [(Habit, (u64, Option<u64>), u32, Script, End, Left); 16] = [
         2,
         ANSWER,
         Ok((2, Some(870), 0, 0)),
-        (5, Some(1500), 0),
+        (5, Some(2), Some(1500), 0),
     ),
     (
         Habit::Asks,
@@ -162,7 +163,7 @@ static CALLS: [(Habit, (u64, Option<u64>), u32, Script, End, Left); 16] = [
         2,
         ANSWER,
         Ok((1, Some(600), 0, 0)),
-        (4, Some(1050), 450),
+        (4, Some(1), Some(1050), 450),
     ),
     (
         Habit::Closed,
@@ -187,7 +188,7 @@ static CALLS: [(Habit, (u64, Option<u64>), u32, Script, End, Left); 16] = [
         2,
         ANSWER,
         Ok((1, Some(600), 0, 0)),
-        (2, Some(0), 1500),
+        (2, None, Some(0), 1500),
     ),
     (
         Habit::Forfeits,
@@ -195,7 +196,7 @@ static CALLS: [(Habit, (u64, Option<u64>), u32, Script, End, Left); 16] = [
         2,
         ANSWER,
         Ok((1, Some(600), 1, 0)),
-        (2, Some(0), 1500),
+        (2, None, Some(0), 1500),
     ),
 ];
 
@@ -259,9 +260,21 @@ fn end_of(end: End) -> Result<CallEnd, DriveFault> {
     })
 }
 
+/// The number of the last Settle: how many messages were heard before it.
+fn last_settle(account: &Account) -> Option<u64> {
+    let mut last = None;
+    for entry in account.history() {
+        if let Op::Settle { number, .. } = entry.op {
+            last = Some(number);
+        }
+    }
+    last
+}
+
 fn left(account: &Account) -> Left {
     (
         account.history().len(),
+        last_settle(account),
         account.paid(1),
         account.available(),
     )
