@@ -126,11 +126,10 @@ fn read_switch(row: &ByteRecord) -> Result<TimeInfo, RowKind>
 {
     let since = number(row, 7, u64::from(DAY))? as u32;
     let interval = match optional(row, 8, u64::from(DAY))? {
-        Some(0) => return Err(RowKind::Number),
         Some(interval) => Some(interval as u32),
         None => None,
     };
-    Ok(TimeInfo::Switch { since, interval })
+    TimeInfo::switch(since, interval).map_err(|_| RowKind::Number)
 }
 
 /// Ended: it says no more.
