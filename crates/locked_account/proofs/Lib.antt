@@ -1,3 +1,4 @@
+pub mod Alike
 pub mod Merging
 pub mod Numbering
 pub mod Returning

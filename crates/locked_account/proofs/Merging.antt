@@ -2,6 +2,7 @@
 use Rattle.std.proofs.Common.{◌≡◌, ◌≤◌, ℕ, ◌+◌, ◌++◌, ◌<◌, Bool, true, false, List, [], ◌∷◌, length, map, take, drop, refl, sym, ap, ◌∙◌, arith, subst}
 use Rattle.std.specs.Prelude.{◌==◌, if◌then◌else◌, All, slice_index_or}
 use Rattle.std.proofs.lemmas.Bool.{eq-eqb}
+use Rattle.std.proofs.lemmas.Grind.{common_steps}
 use Rattle.std.proofs.lemmas.List.{drop_more, get_or-map, get_or_at, length-append, length-map, length-take-le, map-append, take-append-drop, take-map}
 use Rattle.std.proofs.lemmas.List.Elements.{All-map, filter-append}
 use Rattle.account_core.specs.Entries.{EntryData, entry_data}
@@ -82,3 +83,9 @@ next_own seat history mine k at entry is within its short begins all =
     let less : at < length M = more_own seat before after (entry_data entry) M at its taken long whole in
     let there : at < length mine = omega (arith, less, length-map mine entry_data) in
     (there, λ d. sym (get_or-map entry_data mine at d (entry_data entry) there) ∙ goes_next seat before after (entry_data entry) M at its taken long whole (entry_data entry))
+
+-- one entry more is the next of both
+pub one_more_own : (seat : ℕ) (history mine : List Entry) (k at : ℕ) (entry next : Entry) → entry ≡ slice_index_or history k entry → k < length history → entry.seat ≡ seat
+    → next ≡ slice_index_or mine at next → at < length mine → entry_data next ≡ entry_data entry → own seat (map entry_data (take k history)) ≡ map entry_data (take at mine)
+    → own seat (map entry_data (take (k + 1) history)) ≡ map entry_data (take (at + 1) mine)
+one_more_own seat history mine k at entry next is within its next_is short same begins = grind (arith, common_steps)

@@ -1,8 +1,7 @@
 //! The close of an account under its lock.
 
 ghost use Rattle.std.specs.Prelude.{◌≡◌, ◌↔◌, ◌<◌, map, IfOk, true, false, All, IsTrue};
-ghost use Rattle.account_core.specs.Entries.{entry_data, asked_of};
-ghost use Rattle.price_core.specs.RatesOf.{rates_of};
+ghost use Rattle.account_core.specs.Entries.{entry_data};
 ghost use Rattle.locked_account.specs.Closing.{IsClosable};
 ghost use Rattle.account_core.specs.Closed.{IsBookOf};
 ghost use Rattle.account_core.specs.Own.{IsMerged, own};
@@ -10,8 +9,7 @@ ghost use Rattle.account_core.specs.Seats.{are_all, are_numbered};
 ghost use Rattle.account_core.specs.declared.close_fault.CloseFault.TheVariants as close;
 
 use crate::Seat;
-use account_core::{Account, Book, CloseFault, Entry, Op};
-use price_core::Plan;
+use account_core::{Account, Book, CloseFault, Entry};
 
 /// What an account is opened with: the credit, its last moment, if it has one, how many entries it
 /// may have, and how many seats.
@@ -116,7 +114,7 @@ fn is_own(history: &[Entry], seat: u32, mine: &[Entry]) -> bool
     let mut at = 0;
     for entry in history {
         if entry.seat == seat {
-            if at >= mine.len() || !same_entry(&mine[at], entry) {
+            if at >= mine.len() || mine[at] != *entry {
                 return false;
             }
             at += 1;
@@ -135,72 +133,4 @@ fn are_of_seats(history: &[Entry], seats: usize) -> bool
         }
     }
     true
-}
-
-/// Whether two entries are of the same seat, operation and reply.
-fn same_entry(first: &Entry, second: &Entry) -> bool
-    ensures { IsTrue result ↔ (entry_data first.now ≡ entry_data second.now) }
-{
-    first.seat == second.seat && same_op(&first.op, &second.op) && first.reply == second.reply
-}
-
-/// Whether two operations ask the same.
-fn same_op(first: &Op, second: &Op) -> bool
-    ensures { IsTrue result ↔ (asked_of first.now ≡ asked_of second.now) }
-{
-    match *first {
-        Op::Credit { amount, until } => match *second {
-            Op::Credit {
-                amount: other,
-                until: other_until,
-            } => amount == other && until == other_until,
-            _ => false,
-        },
-        Op::Reserve {
-            call,
-            plan,
-            wanted,
-            least,
-            at,
-        } => match *second {
-            Op::Reserve {
-                call: other,
-                plan: other_plan,
-                wanted: other_wanted,
-                least: other_least,
-                at: other_at,
-            } => {
-                call == other
-                    && same_plan(&plan, &other_plan)
-                    && wanted == other_wanted
-                    && least == other_least
-                    && at == other_at
-            }
-            _ => false,
-        },
-        Op::Settle { call, number, info } => match *second {
-            Op::Settle {
-                call: other,
-                number: other_number,
-                info: other_info,
-            } => call == other && number == other_number && info == other_info,
-            _ => false,
-        },
-        Op::Return { call } => match *second {
-            Op::Return { call: other } => call == other,
-            _ => false,
-        },
-    }
-}
-
-/// Whether two plans have the same fee, rates, free units and billing steps.
-fn same_plan(first: &Plan, second: &Plan) -> bool
-    ensures { IsTrue result ↔ (rates_of first.now ≡ rates_of second.now) }
-{
-    first.fee == second.fee
-        && first.before == second.before
-        && first.after == second.after
-        && first.free == second.free
-        && first.first == second.first
-        && first.step == second.step
 }
