@@ -6,7 +6,7 @@ ghost use Rattle.account_core.specs.CallStages.{stage_of};
 ghost use Rattle.account_core.specs.Entries.{asked_of};
 ghost use Rattle.account_core.specs.Kept.{known_of};
 ghost use Rattle.account_core.specs.Known.{deed_of, known_after, paid_if_granted, plan_in_force, taken_of, Grants};
-ghost use Rattle.account_core.specs.Places.{needed_by, owed_to, refusal_for};
+ghost use Rattle.account_core.specs.Places.{refusal_for};
 ghost use Rattle.account_core.specs.Replies.{reserve_reply, return_reply, settle_reply, reply_for};
 ghost use Rattle.account_core.specs.Sound.{GrantsWithinDay, IsSound};
 ghost use Rattle.account_core.specs.Asked.{is_in_range};
@@ -134,23 +134,6 @@ impl CallState {
         }
     }
 
-    /// The places that an operation of the call needs beyond those that are owed.
-    pub fn needed(&self, op: &Op) -> usize
-        ensures value { result ≡ needed_by (known_of self.now) (asked_of op.now) }
-        ensures few { result ≤ 3 }
-    {
-        self.stage().needed(op)
-    }
-
-    /// The places that the call is owed: one for its Return, and one for a Settle while it awaits
-    /// it.
-    pub fn owed(&self) -> usize
-        ensures value { result ≡ owed_to (known_of self.now) }
-        ensures few { result ≤ 2 }
-    {
-        self.stage().owed()
-    }
-
     /// What is known after an entry of the call, in its place.
     #[inline(always)]
     pub fn after(self, op: Op, reply: Reply) -> CallState
@@ -213,8 +196,9 @@ impl CallState {
     {
         match self {
             CallState::Fresh => plan,
-            CallState::Granted(held) | CallState::Reported(held) | CallState::Over(held) =>
-                held.rates(),
+            CallState::Granted(held) | CallState::Reported(held) | CallState::Over(held) => {
+                held.plan.plan()
+            }
         }
     }
 
@@ -256,7 +240,7 @@ pub(crate) fn judge(
     if let Some(fault) = inadmissible(op, state) {
         return Some(fault);
     }
-    if entries + owed + state.needed(op) > limit as usize {
+    if entries + owed + state.stage().needed(op) > limit as usize {
         Some(AccountFault::HistoryFull)
     } else {
         None

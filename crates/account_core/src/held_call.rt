@@ -3,14 +3,12 @@
 ghost use Rattle.std.specs.Prelude.{◌≡◌, Bool, Some, false};
 ghost use Rattle.account_core.specs.Answers.{accepted_times};
 ghost use Rattle.account_core.specs.Kept.{facts_of_held};
-ghost use Rattle.account_core.specs.KeptPlans.{rates_kept};
 ghost use Rattle.account_core.specs.Known.{paid_of, price_under};
 ghost use Rattle.account_core.specs.Replies.{settle_reply};
-ghost use Rattle.price_core.specs.RatesOf.{rates_of};
 
 use crate::Reply;
 use crate::kept_plan::KeptPlan;
-use price_core::{Plan, TimeInfo, Times, lawful, price, read_times};
+use price_core::{TimeInfo, Times, lawful, price, read_times};
 
 /// What an account keeps of a call that was granted something, while it is open and afterwards.
 #[derive(Clone, Copy)]
@@ -29,13 +27,6 @@ pub(crate) struct HeldCall {
 }
 
 impl HeldCall {
-    /// The plan of the call's first grant, as it was asked for.
-    pub fn rates(&self) -> Plan
-        ensures { rates_of result ≡ rates_kept self.now.plan }
-    {
-        self.plan.plan()
-    }
-
     /// What the call has paid so far.
     pub fn paid(&self) -> u64
         ensures { result ≡ paid_of (facts_of_held self.now false false) }
@@ -57,7 +48,7 @@ impl HeldCall {
             return None;
         }
         let times = read_times(self.times, info)?;
-        if lawful(&self.rates(), self.times, times, self.granted) {
+        if lawful(&self.plan.plan(), self.times, times, self.granted) {
             Some(times)
         } else {
             None
@@ -86,6 +77,6 @@ impl HeldCall {
     fn price_of(&self, times: Times) -> u64
         ensures { result ≡ price_under (facts_of_held self.now false false).plan times }
     {
-        price(&self.rates(), times.before(), times.after())
+        price(&self.plan.plan(), times.before(), times.after())
     }
 }

@@ -109,7 +109,7 @@ impl Teller {
         ensures { result
             ≡ self.now.owed + needed_by (known_of admitted.now.call) (asked_of admitted.now.op) }
     {
-        self.owed + admitted.call.needed(&admitted.op)
+        self.owed + admitted.call.stage().needed(&admitted.op)
     }
 
     /// Answers an operation that is admitted, and gives its entry for a seat. The only error is
@@ -203,7 +203,7 @@ impl Teller {
         let after = before.after(entry.op, entry.reply);
         self.tally.calls.renew(call, after)?;
         self.tally.available = entry.reply.available();
-        self.owed = self.owed + after.owed() - before.owed();
+        self.owed = self.owed + after.stage().owed() - before.stage().owed();
         self.entries += 1;
         Ok(())
     }

@@ -1,4 +1,4 @@
-use Rattle.std.proofs.Common.{arith, refl, reverse}
+use Rattle.std.proofs.Common.{arith, refl, reverse, sym}
 use Rattle.account_core.specs.Entries.{entry_data}
 use Rattle.account_core.specs.Kept.{known_of}
 use Rattle.account_core.proofs.Entering.{call_entered, owed_enough, placed_known, room_known, teller_entered}
@@ -24,7 +24,7 @@ overflow_sub-self c =
     let (ledger, is, known_is) = c.requires.of in
     omega (
       arith,
-      c.owed-2.ensures.value,
+      c.owed-2.ensures.value (known_of c.args.before) (sym c.stage-2.ensures),
       owed_enough ledger.opening ledger.until ledger.limit (reverse ledger.history) c.args.call (entry_data c.args.entry) c.requires.of_call
           (known_of c.args.before) known_is is.allowed is.answered c.args.self.now.owed is.teller_is.owed_are,
     )
@@ -35,4 +35,4 @@ returns-clause-ok c = λ ledger is known_is.
     (call_entered ledger.opening ledger.until ledger.limit (reverse ledger.history) c.args.call (entry_data c.args.entry) c.requires.of_call
     (known_of c.args.before) known_is is.allowed is.answered
     c.args.self.now _ c.after-after.result c.owed-2.result c.owed.result is.teller_is.tallied.tells c.in_ok-renew.ensures.renewed c.after-after.ensures is.teller_is.owed_are
-    c.owed-2.ensures.value c.owed.ensures.value refl refl c.available-self.ensures refl refl refl)
+    (c.owed-2.ensures.value (known_of c.args.before) (sym c.stage-2.ensures)) (c.owed.ensures.value (known_of c.after-after.result) (sym c.stage.ensures)) refl refl c.available-self.ensures refl refl refl)
