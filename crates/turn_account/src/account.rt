@@ -18,10 +18,8 @@ ghost use Rattle.account_core.specs.declared.close_fault.CloseFault.TheVariants 
 
 use crate::closing::close_board;
 use crate::seat::make_seats;
-use crate::{
-    Board, Chair, Start, TurnSeat, append, ask_in_turn, compare_views, hand_on, hear, lay_board,
-    take_turn,
-};
+use crate::turn::{append, ask_in_turn, compare_views, hear};
+use crate::{Board, Chair, Start, TurnSeat, hand_on, lay_board, take_turn};
 use account_core::{AccountFault, Book, CloseFault, Entry, Gate, Op, Reply, Shared};
 use price_core::MAX_MONEY;
 use std::alloc::Global;

@@ -198,7 +198,7 @@ pub fn lay_board(alloc: Global, start: Start) -> Result<(Board, Chair), AllocErr
 }
 
 /// The account that a board has in its slot once all seats but the last have ended.
-pub fn clear_board(board: Board, chair: Chair) -> Account
+pub(crate) fn clear_board(board: Board, chair: Chair) -> Account
     requires at { IsAt board.shared.table_id chair.table_id }
     requires slots { board.shared.table_id.slots ≡ 1 }
     requires idle { chair.me.0.stage ≡ Idles }

@@ -11,7 +11,9 @@ ghost use Rattle.turn_account.specs.TurnViews.{own_of};
 ghost use Rattle.turn_account.specs.declared.board.Stage.TheVariants.{Idles};
 ghost use Rattle.account_core.specs.declared.close_fault.CloseFault.TheVariants as close;
 
-use crate::{Board, Chair, TurnSeat, clear_board, take_in};
+use crate::board::clear_board;
+use crate::turn::take_in;
+use crate::{Board, Chair, TurnSeat};
 use account_core::{Book, CloseFault};
 
 /// The book of an account whose seats were all handed in, in order. One takes in the others.

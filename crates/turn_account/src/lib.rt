@@ -13,7 +13,7 @@ mod seat;
 mod turn;
 
 pub use account::TurnAccount;
-pub use board::{Board, Chair, Stage, Start, Turns, View, clear_board, lay_board};
+pub use board::{Board, Chair, Stage, Start, Turns, View, lay_board};
 pub use laws::calls_of_one_seat_are_alone;
 pub use seat::TurnSeat;
-pub use turn::{append, ask_in_turn, compare_views, hand_on, hear, next_chair, take_in, take_turn};
+pub use turn::{hand_on, next_chair, take_turn};

@@ -41,7 +41,7 @@ pub fn take_turn<R: Wait>(rt: &R, board: &Board, chair: &mut Chair)
 }
 
 /// Asks the account of a chair that has the turn, where it lies.
-pub fn ask_in_turn(
+pub(crate) fn ask_in_turn(
     board: &Board,
     chair: &mut Chair,
     seat: u32,
@@ -111,7 +111,7 @@ fn look(board: &Board, chair: &mut Chair) -> u64
 }
 
 /// Counts an entry.
-pub fn append(board: &Board, chair: &mut Chair, entry: &Entry)
+pub(crate) fn append(board: &Board, chair: &mut Chair, entry: &Entry)
     requires at { IsAt board.now.shared.table_id chair.old.table_id }
     requires serving { IsServing chair.old.me.0.stage }
     requires seat { entry.now.seat ≡ chair.old.me.0.number }
@@ -159,7 +159,7 @@ pub fn hand_on(board: &Board, chair: &mut Chair)
 }
 
 /// Makes a note of what the first chair has seen, and the second chair hears it.
-pub fn hear(board: &Board, first: &mut Chair, second: &mut Chair)
+pub(crate) fn hear(board: &Board, first: &mut Chair, second: &mut Chair)
     requires first { first.old.table_id ≡ board.now.shared.table_id }
     requires second { second.old.table_id ≡ board.now.shared.table_id }
     requires words { 0 < board.now.shared.table_id.words }
@@ -174,7 +174,7 @@ pub fn hear(board: &Board, first: &mut Chair, second: &mut Chair)
 
 /// Compares what a chair has heard with what it has seen: the longer of the two is what it has
 /// seen.
-pub fn compare_views(board: &Board, chair: &mut Chair)
+pub(crate) fn compare_views(board: &Board, chair: &mut Chair)
     requires at { IsAt board.now.shared.table_id chair.old.table_id }
     requires idle { chair.old.me.0.stage ≡ Idles }
     ensures table { chair.new.table_id ≡ chair.old.table_id }
@@ -186,7 +186,7 @@ pub fn compare_views(board: &Board, chair: &mut Chair)
 }
 
 /// Takes in the next seat, which has ended.
-pub fn take_in(board: &Board, chair: &mut Chair, next: Chair)
+pub(crate) fn take_in(board: &Board, chair: &mut Chair, next: Chair)
     requires table { chair.old.table_id ≡ board.now.shared.table_id }
     requires next { next.table_id ≡ board.now.shared.table_id }
     requires words { 0 < board.now.shared.table_id.words }
