@@ -18,13 +18,16 @@ use csv::ByteRecord;
 use price_core::MAX_MONEY;
 use table_core::{RowKind, has_word, is_blank, number, when_blank};
 
-/// Where the columns are, and where those of the operation begin.
+/// Where the account's number is in a row.
 const ACCOUNT: usize = 0;
 
+/// Where the seat is.
 const SEAT: usize = 1;
 
+/// Where the columns of the operation begin.
 const OP: usize = 2;
 
+/// Where the credit of an opening is, in `x1`.
 const OPENING: usize = 4;
 
 /// What a row says.
@@ -61,6 +64,7 @@ pub(crate) fn read_row(row: &ByteRecord, version: Version) -> Result<BookRow, Ro
     }
 }
 
+/// The opening in a row of a table of this version.
 #[tactic(auto, unfolding(crate::specs::BookRows::opening_in))]
 fn read_opening(row: &ByteRecord, version: Version) -> Result<BookRow, RowKind>
     ensures says { result_map_both row_said_of (λ kind. kind) result
@@ -81,6 +85,7 @@ fn read_opening(row: &ByteRecord, version: Version) -> Result<BookRow, RowKind>
     when_blank(blank, row_said)
 }
 
+/// The entry in a row of a table of this version.
 #[tactic(auto, unfolding(crate::specs::BookRows::entry_in))]
 fn read_entry(row: &ByteRecord, version: Version) -> Result<BookRow, RowKind>
     ensures says { result_map_both row_said_of (λ kind. kind) result
@@ -99,6 +104,7 @@ fn read_entry(row: &ByteRecord, version: Version) -> Result<BookRow, RowKind>
     when_blank(blank, BookRow::Entry { account, entry })
 }
 
+/// The number of the account of a row; else `Number`.
 fn read_account(row: &ByteRecord) -> Result<u32, RowKind>
     ensures { result ≡ book_account_in (field_in (fields_of row.now) 0) }
 {

@@ -35,6 +35,7 @@ pub fn read_op(row: &ByteRecord, at: usize, version: Version, word: OpWord) -> R
     }
 }
 
+/// The credit whose columns begin at `at`; else `Number`.
 fn read_credit(row: &ByteRecord, at: usize, version: Version) -> Result<Op, RowKind>
     requires { at ≤ 16 }
     ensures { result_map_both asked_of (λ kind. kind) result
@@ -57,6 +58,7 @@ pub fn read_until(row: &ByteRecord, at: usize, version: Version) -> Result<Optio
     }
 }
 
+/// The reserve whose columns begin at `at`; else `Number`.
 #[tactic(auto, unfolding(crate::specs::Operations::reserve_in))]
 #[inline(always)]
 fn read_reserve(row: &ByteRecord, at: usize, version: Version) -> Result<Op, RowKind>
@@ -78,6 +80,7 @@ fn read_reserve(row: &ByteRecord, at: usize, version: Version) -> Result<Op, Row
     })
 }
 
+/// The plan of the reserve whose columns begin at `at`; else `Number`.
 #[tactic(auto, unfolding(crate::specs::Operations::plan_in))]
 #[inline(always)]
 fn read_plan(row: &ByteRecord, at: usize, version: Version) -> Result<Plan, RowKind>
@@ -153,6 +156,7 @@ fn read_step(row: &ByteRecord, at: usize, version: Version) -> Result<u32, RowKi
     }
 }
 
+/// The settle whose columns begin at `at`, by what its report says; else `Number`.
 #[inline(always)]
 fn read_settle(row: &ByteRecord, at: usize, info: TimeInfo) -> Result<Op, RowKind>
     requires { at ≤ 16 }
@@ -164,6 +168,7 @@ fn read_settle(row: &ByteRecord, at: usize, info: TimeInfo) -> Result<Op, RowKin
     Ok(Op::Settle { call, number, info })
 }
 
+/// What a report without a tariff switch says, in the columns that begin at `at`; else `Number`.
 fn read_no_switch(row: &ByteRecord, at: usize) -> Result<TimeInfo, RowKind>
     requires { at ≤ 16 }
     ensures { result ≡ settle_without_switch (first_operation_at (fields_of row.now) at) }
@@ -172,6 +177,7 @@ fn read_no_switch(row: &ByteRecord, at: usize) -> Result<TimeInfo, RowKind>
     Ok(TimeInfo::NoSwitch { t })
 }
 
+/// What a report after a tariff switch says, in the columns that begin at `at`; else `Number`.
 fn read_switch(row: &ByteRecord, at: usize) -> Result<TimeInfo, RowKind>
     requires { at ≤ 16 }
     ensures { result ≡ settle_with_switch (first_operation_at (fields_of row.now) at) }
@@ -185,6 +191,7 @@ fn read_switch(row: &ByteRecord, at: usize) -> Result<TimeInfo, RowKind>
     Ok(TimeInfo::Switch { since, interval })
 }
 
+/// The return whose columns begin at `at`; else `Number`.
 fn read_return(row: &ByteRecord, at: usize) -> Result<Op, RowKind>
     requires { at ≤ 16 }
     ensures { result_map_both asked_of (λ kind. kind) result

@@ -43,6 +43,7 @@ pub fn read_reply(row: &ByteRecord, at: usize, word: ReplyWord) -> Result<Reply,
     }
 }
 
+/// The grant whose columns begin at `at`, the last of its call or not; else `Number`.
 fn read_granted(row: &ByteRecord, at: usize, last: bool, available: u64) -> Result<Reply, RowKind>
     requires { at ≤ 16 }
     ensures { result ≡ granted_in (answer_at (fields_of row.now) at) last available }

@@ -66,6 +66,7 @@ pub fn read_op_word(row: &ByteRecord, at: usize) -> Result<OpWord, RowKind>
     }
 }
 
+/// The word of a settle, by the word of its report in the field at `place`; else `What`.
 fn read_report_word(row: &ByteRecord, place: usize) -> Result<OpWord, RowKind>
     ensures { result ≡ report_word_in (field_in (fields_of row.now) place) }
 {
@@ -104,6 +105,7 @@ pub fn read_reply_word(row: &ByteRecord, at: usize) -> Result<ReplyWord, RowKind
     }
 }
 
+/// The word of a grant, by its second word in the field at `place`; else `What`.
 fn read_granted_word(row: &ByteRecord, place: usize) -> Result<ReplyWord, RowKind>
     ensures { result ≡ granted_word_in (field_in (fields_of row.now) place) }
 {
