@@ -174,10 +174,10 @@ fn check_books<I: Read + Drop>(
         ],
     ];
     let mut table = Table::open(alloc, reader, headers, size.most_rows())?;
+    let version = Version::of_header(table.header());
     let mut checks = AccountChecks::new(alloc);
     let mut wrongs = RisingMap::new(alloc);
     while table.next_row()? {
-        let version = Version::of_header(table.header());
         let number = table.number();
         if let Some(kind) = take_row(
             alloc,
