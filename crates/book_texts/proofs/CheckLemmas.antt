@@ -1,14 +1,15 @@
 -- The checks follow the books, row after row.
 use Rattle.std.proofs.Common.{◌≡◌, ℕ, ◌+◌, length, arith, Bool, true, false, cond, List, [], ◌∷◌, ◌++◌, Option, Some, None, Result, Ok, Err, reverse, refl, sym, ap, subst, ◌∙◌, append-nil}
 use Rattle.csv.specs.Records.{fields_of}
-use Rattle.std.specs.BTreeMap.{insert_entry}
+use Rattle.std.specs.BTreeMap.{insert_entry, is_at}
 use Rattle.std.specs.Map.{lookup, set_value}
-use Rattle.std.specs.Ordering.{match_ordering}
+use Rattle.std.specs.Ordering.{match_ordering, nat_cmp}
 use Rattle.std.specs.Prelude.{⊤, IfSome, IsErrAnd, is_some}
 use Rattle.std.specs.declared.cmp.Ordering.{Ordering}
 use Rattle.std.specs.declared.cmp.Ordering.TheVariants as order
+use Rattle.std.proofs.lemmas.List.{reverse-append}
 use Rattle.std.proofs.lemmas.Option.{IfSome_then}
-use Rattle.account_core.specs.Answers.{IsAnswered, IsLegal}
+use Rattle.account_core.specs.Answers.{IsAnswered, IsLegal, IsLegalPast}
 use Rattle.account_core.specs.Checked.{IsCheckOf}
 use Rattle.account_core.specs.Entries.{EntryData}
 use Rattle.account_core.specs.Wrong.{IsWrong}
@@ -28,7 +29,7 @@ use Rattle.book_texts.specs.Versions.{version_at}
 use Rattle.book_texts.specs.Audits.{AreVerdicts, GivesAuditOf, IsSaidOfBooks}
 use Rattle.book_texts.specs.BookRows.{Enters, Opens, RowSaid, columns_in, row_said_in}
 use Rattle.book_texts.specs.Books.{Books, Booked, books_form, books_headers, books_of, entered_in_books, judged_books, opened, book_row_at, account_so_far, books_with_entry, with_opening}
-use Rattle.book_texts.specs.Checks.{AreChecks, AreNoted, HaveVerdicts, Comes, GivesChecks, HaveChecks, HearsBy, HasItsVerdict, NotesEntry, audited_by, verdicts_of, wrong_of}
+use Rattle.book_texts.specs.Checks.{AreChecks, AreNoted, HaveVerdicts, Comes, GivesChecks, HaveChecks, HearsBy, IsHeard, HasItsVerdict, NotesEntry, audited_by, verdicts_of, wrong_of}
 use Rattle.book_texts.specs.declared.account_checks.AccountChecks.{AccountChecks}
 use Rattle.book_texts.specs.declared.audit.Audit.{Audit}
 use Rattle.book_texts.specs.declared.audit.Checked.{Checked}
@@ -137,12 +138,35 @@ fault_booked most known (Ok checked) why P meaning met holds so = absurd met
 fault_booked most known (Err other) why P meaning met holds so = IfSome_then known holds (λ text at. rw met (so text at))
 
 -- an entry was heard, by what the check says of it
-pub heard_by : (booked : Booked) (entry : EntryData) (wrong : Option (Result Reply AccountFault))
+heard_by : (booked : Booked) (entry : EntryData) (wrong : Option (Result Reply AccountFault))
     → (wrong ≡ None → IsLegal booked.opening booked.until booked.history → IsAnswered booked.opening booked.until (reverse booked.history) entry)
     → IfSome wrong (λ right. IsLegal booked.opening booked.until booked.history × IsWrong booked.opening booked.until (reverse booked.history) entry right)
     → HearsBy booked entry wrong
 heard_by booked entry None answers says = answers refl
 heard_by booked entry (Some right) answers says = says
+
+-- a check of an account that was found heard an entry: what becomes of the checks, and what was heard
+module _ (account : ℕ) (entry : EntryData) (books : Books) (checks : List (ℕ × HistoryCheck)) (are : AreChecks books checks) (check : HistoryCheck) where
+  pub check_after : (after : HistoryCheck) → lookup (is_at (nat_cmp account)) checks ≡ Some check
+      → ((opening : ℕ) (until : Option ℕ) (h : List EntryData) → IsCheckOf opening until h check → IsCheckOf opening until (entry ∷ h) after)
+      → (booked : Booked) × (account_so_far account books ≡ Some booked)
+      × AreChecks (books_with_entry account booked entry books) (set_value (is_at (nat_cmp account)) checks after)
+  check_after after is hears =
+      let (booked, there, heard) = is_found _ _ check (found (is_at (nat_cmp account)) books checks are) is in (
+        booked,
+        there,
+        checks_set (is_at (nat_cmp account)) (record booked { history = booked.history ++ entry ∷ [] }) after
+            (rw (reverse-append booked.history (entry ∷ [])) (hears booked.opening booked.until (reverse booked.history) heard)) books checks are,
+      )
+
+  pub heard_of : lookup (is_at (nat_cmp account)) checks ≡ Some check → (wrong : Option (Result Reply AccountFault))
+      → (wrong ≡ None → (opening : ℕ) (until : Option ℕ) (h : List EntryData) → IsCheckOf opening until h check → IsLegalPast opening until h → IsAnswered opening until h entry)
+      → IfSome wrong (λ right. (opening : ℕ) (until : Option ℕ) (h : List EntryData) → IsCheckOf opening until h check → IsLegalPast opening until h × IsWrong opening until h entry right)
+      → IsHeard (account_so_far account books) entry (Ok wrong)
+  heard_of is wrong right says =
+      let (booked, there, heard) = is_found _ _ check (found (is_at (nat_cmp account)) books checks are) is in
+      rw there (heard_by booked entry wrong (λ none. right none booked.opening booked.until (reverse booked.history) heard)
+      (IfSome_then wrong says (λ right so. so booked.opening booked.until (reverse booked.history) heard)))
 
 -- ---- the wrong rows so far
 

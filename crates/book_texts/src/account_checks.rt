@@ -1,6 +1,6 @@
 //! The checks of the accounts of a table of books, by the accounts' numbers.
 
-ghost use Rattle.std.specs.Prelude.{◌≡◌, ◌≤◌, ℕ, Option, [], IfOk, OnOk};
+ghost use Rattle.std.specs.Prelude.{◌≡◌, ◌≤◌, ℕ, Option, [], IfOk};
 ghost use Rattle.std.specs.Result.{result_err};
 ghost use Rattle.account_core.specs.Checked.{IsCheckOf};
 ghost use Rattle.account_core.specs.Entries.{entry_data};
@@ -82,8 +82,18 @@ impl AccountChecks {
     {
         let account = u64::from(account);
         match self {
-            AccountChecks::Rising(list) => hear_list(list, account, entry),
-            AccountChecks::Mixed(map) => hear_map(map, account, entry),
+            AccountChecks::Rising(list) => {
+                let Some(place) = place_of(list.as_slice(), account) else {
+                    return Ok(Err(RowKind::Unknown));
+                };
+                Ok(Ok(list[place].1.hear(entry)?))
+            }
+            AccountChecks::Mixed(map) => {
+                let Some(check) = map.get_mut(&account) else {
+                    return Ok(Err(RowKind::Unknown));
+                };
+                Ok(Ok(check.hear(entry)?))
+            }
         }
     }
 
@@ -93,50 +103,9 @@ impl AccountChecks {
     {
         match self {
             AccountChecks::Rising(list) => Ok(list),
-            AccountChecks::Mixed(map) => listed(alloc, map),
+            AccountChecks::Mixed(map) => map.into_iter().collect(alloc),
         }
     }
-}
-
-/// Gives an entry to the check of its account in a list.
-#[inline(always)]
-fn hear_list(
-    list: &mut Vec<(u64, HistoryCheck)>,
-    account: u64,
-    entry: Entry,
-) -> Result<Heard, AllocError>
-    requires rising { AreRising list.old.items }
-    requires are { (books : Books) × AreChecks books list.old.items }
-    ensures comes { IfOk result (λ heard. (books : Books) → AreChecks books list.old.items
-        → ListComes books (result_err heard) (entered_in_books account (entry_data entry) books
-        (account_so_far account books)) list.new.items) }
-    ensures heard { IfOk result (λ heard. (books : Books) → AreChecks books list.old.items
-        → IsHeard (account_so_far account books) (entry_data entry) heard) }
-    ensures rising { OnOk result (AreRising list.new.items) }
-{
-    let Some(place) = place_of(list.as_slice(), account) else {
-        return Ok(Err(RowKind::Unknown));
-    };
-    Ok(Ok(list[place].1.hear(entry)?))
-}
-
-/// Gives an entry to the check of its account in a map.
-fn hear_map(
-    map: &mut BTreeMap<u64, HistoryCheck>,
-    account: u64,
-    entry: Entry,
-) -> Result<Heard, AllocError>
-    requires { (books : Books) × AreChecks books map.old.entries }
-    ensures comes { IfOk result (λ heard. (books : Books) → AreChecks books map.old.entries
-        → ListComes books (result_err heard) (entered_in_books account (entry_data entry) books
-        (account_so_far account books)) map.new.entries) }
-    ensures heard { IfOk result (λ heard. (books : Books) → AreChecks books map.old.entries
-        → IsHeard (account_so_far account books) (entry_data entry) heard) }
-{
-    let Some(check) = map.get_mut(&account) else {
-        return Ok(Err(RowKind::Unknown));
-    };
-    Ok(Ok(check.hear(entry)?))
 }
 
 /// Adds the check of an account that opens to a map, where it has none.
@@ -173,18 +142,4 @@ fn mapped(
         map.insert(account, check)?;
     }
     Ok(map)
-}
-
-/// A list of what a map has.
-fn listed(
-    alloc: Global,
-    map: BTreeMap<u64, HistoryCheck>,
-) -> Result<Vec<(u64, HistoryCheck)>, AllocError>
-    ensures { IfOk result (λ list. list.items ≡ map.entries) }
-{
-    let mut list = Vec::new(alloc);
-    for (account, check) in map {
-        list.push((account, check))?;
-    }
-    Ok(list)
 }
