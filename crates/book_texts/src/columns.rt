@@ -4,7 +4,7 @@ ghost use Rattle.std.specs.Prelude.{◌≡◌, ◌++◌, [], OnOk, string_bytes}
 ghost use Rattle.std.specs.Fmt.{decimal};
 ghost use Rattle.account_core.specs.Asked.{Reserves};
 ghost use Rattle.account_core.specs.Entries.{asked_of};
-ghost use Rattle.book_texts.specs.Columns.{reply_fields, answer_text, no_operation, opening_columns, operation_of, operation_text, settle_of, steps_columns};
+ghost use Rattle.book_texts.specs.Columns.{reply_fields, answer_text, no_operation, operation_of, operation_text, settle_of, steps_columns};
 ghost use Rattle.price_core.specs.RatesOf.{rates_of};
 ghost use Rattle.table_core.specs.Fields.{number_or_empty};
 
@@ -13,19 +13,6 @@ use account_core::{Op, Reply};
 use price_core::{Plan, TimeInfo};
 use std::alloc::AllocError;
 use table_core::Field;
-
-/// Adds the columns of an opening, from op to x7, in version 4 to x9, each with a comma behind it.
-pub fn write_opening(
-    text: &mut String,
-    version: Version,
-    opening: u64,
-    until: Option<u64>,
-) -> Result<(), AllocError>
-    ensures { OnOk result (string_bytes text.new ≡ string_bytes text.old
-        ++ operation_text (opening_columns version opening until)) }
-{
-    write_money(text, version, "opening", opening, until)
-}
 
 /// Adds the columns of an operation, from op to x7, in version 4 to x9, each with a comma behind
 /// it.
@@ -50,8 +37,8 @@ pub fn write_operation(text: &mut String, version: Version, op: Op) -> Result<()
     }
 }
 
-/// Adds the columns of an opening or a credit, which have this word.
-fn write_money(
+/// Adds the columns of an opening or a credit, which have this word, as those of an operation.
+pub fn write_money(
     text: &mut String,
     version: Version,
     word: &str,

@@ -6,7 +6,7 @@ ghost use Rattle.account_core.specs.Entries.{asked_of, entry_data};
 ghost use Rattle.book_texts.specs.BookTexts.{asks_steps, book_rows, book_text, entry_row, book_header, history_has_steps, version_of};
 ghost use Rattle.book_texts.specs.Typed.{IsTyped, IsTypedAsked};
 
-use crate::columns::{write_answer, write_opening, write_operation};
+use crate::columns::{write_answer, write_money, write_operation};
 use crate::ranges::op_is_typed;
 use crate::version::Version;
 use account_core::{Book, Entry, Op};
@@ -101,7 +101,7 @@ fn write_book(text: &mut String, version: Version, book: &Book) -> Result<(), Al
 {
     let account = book.account();
     write!(text, "{account},,")?;
-    write_opening(text, version, book.opening(), book.until())?;
+    write_money(text, version, "opening", book.opening(), book.until())?;
     writeln!(text, ",,,")?;
     for entry in book.history() {
         write_entry(text, version, account, entry)?;

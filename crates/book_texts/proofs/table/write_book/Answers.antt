@@ -11,7 +11,7 @@ use Rattle.book_texts.proofs.table.write_book.Goals as goal
 
 pub loop-entry-init : goal.loop-entry-init
 loop-entry-init c = (
-  rw (c.in_ok-writeln.ensures.bytes, c.in_ok-write_opening.ensures, c.in_ok-write.ensures.bytes, c.account-account.ensures, c.opening.ensures, c.until.ensures)
+  rw (c.in_ok-writeln.ensures.bytes, c.in_ok-write_money.ensures, c.in_ok-write.ensures.bytes, c.account-account.ensures, c.opening.ensures, c.until.ensures)
       (simp (append_assoc, append-nil)),
   All-nil (λ entry. IsTypedEntry (entry_data entry)),
 )
