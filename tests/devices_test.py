@@ -259,7 +259,8 @@ def shows_how_far(trial):
     words, step = [sys.executable, f"{ROOT}/examples/generate.py", "--calls", "4000"], 30
     text = subprocess.run(words, capture_output=True, check=True).stdout.decode()
     calls, now, shown = trial.new(b""), 0, {}
-    _, output, status = on_terminal(trial.program, "run --workers 1", text, environment=trial.failing(clock_step=step, told_to=calls))
+    failing = trial.failing(clock_step=step, told_to=calls)
+    _, output, status = on_terminal(trial.program, "run --workers 1", text, environment=failing)
     same("a run on a terminal", (output != "", status), (True, 0))
     for device, what, *_ in map(str.split, read(calls).decode().splitlines()):
         now = int(what) if device == "CLOCK" else now

@@ -103,7 +103,8 @@ def try_calls(repository, folder):
     hold((found[:4], sorted(found)) == (called[:4], sorted(called)), f"the gate calls {found}, and not {called}")
     for it in called[:4]:
         write(told, "")
-        hold(repository.run("make", "test", FAILING=it.replace(" ", ""), TOLD=told).returncode, f"the gate passes where {it} fails")
+        ran = repository.run("make", "test", FAILING=it.replace(" ", ""), TOLD=told)
+        hold(ran.returncode, f"the gate passes where {it} fails")
         hold(read(told).decode().replace(" \n", "\n").splitlines()[-1] == it, f"the gate goes on where {it} fails")
     failing = [it.replace(" crates/prepaid/out/prepaid", "").replace(" ", "") for it in called[4:]]
     ran = repository.run("make", "--keep-going", "test", FAILING=" ".join(failing))
@@ -141,9 +142,9 @@ def try_bench():
     something else than the others."""
     for path in glob.glob(f"{ROOT}/bench/*.sh"):
         hold(subprocess.run(["bash", "-n", path]).returncode == 0, path)
-    for words, is_right in (("echo a -- echo a", True), ("echo a -- echo b", False), ("false -- true", False), ("true -- false", False)):
+    for words in ("echo a -- echo a", "echo a -- echo b", "false -- true", "true -- false"):
         ran = subprocess.run([f"{ROOT}/bench/beside.py", "2", "/dev/null", *words.split()], capture_output=True)
-        hold((ran.returncode == 0) == is_right, f"bench/beside.py {words}: {ran}")
+        hold((ran.returncode == 0) == (words == "echo a -- echo a"), f"bench/beside.py {words}: {ran}")
 
 
 def try_bytes(repository):

@@ -35,21 +35,22 @@ WRONG = {
     "What": (["accounts,9,5"], []),
 }
 # Two accounts whose subscribers' numbers are the same but for a zero, in tables with marks, quotes and each end of a line.
-FORMS = ("prefix,from,fee,rate\r49,00:00,50,1000\n%%\r\n\ufeffkind,key,value\raccount,7,1500\r\n\"subscriber\",491,7\r\raccount,8,1500\n"
-         "subscriber,0491,8\n%%\n\ufeff\"moment\",call,what,x,y\r0,1,start,491,4930\r0,2,start,0491,4930\n100,1,answer,,\r\n"
-         "100,2,\"answer\",,\n\n400,1,disconnect,1,\r500,2,disconnect,1,\r").encode()
+FORMS = ('prefix,from,fee,rate\r49,00:00,50,1000\n%%\r\n\ufeffkind,key,value\raccount,7,1500\r\n"subscriber",491,7\r\r'
+         'account,8,1500\nsubscriber,0491,8\n%%\n\ufeff"moment",call,what,x,y\r0,1,start,491,4930\r0,2,start,0491,4930\n'
+         '100,1,answer,,\r\n100,2,"answer",,\n\n400,1,disconnect,1,\r500,2,disconnect,1,\r').encode()
 # How many threads play the parts inside the program.
 THREADS = ["1", "2", "4", "64"]
 # Files with lines of parts, and what is merged of them, or the beginning of what refuses them behind `merge: FILE: `.
 ACCOUNT = "account {} opening 5 available 5 entries 0\n"
 CALL = "call {} account {} paid 1 returned\n"
+OF_CALL = "call 9 account 7 paid 1 {}\n"
 MERGED = [
     (["", ACCOUNT.format(7)], ACCOUNT.format(7)),
     (
         [ACCOUNT.format(10) + CALL.format(11, 10) + CALL.format(9, 10), ACCOUNT.format(9) + CALL.format(11, 9) + CALL.format(100, 9)],
         ACCOUNT.format(9) + ACCOUNT.format(10) + CALL.format(9, 10) + CALL.format(11, 9) + CALL.format(11, 10) + CALL.format(100, 9),
     ),
-    ([CALL.format(9, 7).replace("returned", it) for it in ("holding", "forfeit")], "".join(CALL.format(9, 7).replace("returned", it) for it in ("forfeit", "holding"))),
+    ([OF_CALL.format("holding"), OF_CALL.format("forfeit")], OF_CALL.format("forfeit") + OF_CALL.format("holding")),
     ([ACCOUNT.format(7), ACCOUNT.format(8) + ACCOUNT.format(7)], "account 7 is in two parts"),
     ([ACCOUNT.format(7)[:-1]], "no whole line of a run"),
     ([CALL.format(1, 7)[:-1]], "no whole line of a run"),
@@ -208,7 +209,8 @@ def limits_said():
     with open(f"{TOP}/docs/FORMATS.md", encoding="utf-8") as file:
         text = file.read()
     size, = re.search(r"An input has at most (\d+) bytes", text).groups()
-    setup, accounts, script = re.search(r"A setup has at most (\d+) rows and (\d+) accounts, a script at most (\d+) rows", text).groups()
+    rows = r"A setup has at most (\d+) rows and (\d+) accounts, a script at most (\d+) rows"
+    setup, accounts, script = re.search(rows, text).groups()
     return Limits(*map(int, (size, accounts, setup, script)))
 
 

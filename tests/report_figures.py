@@ -131,7 +131,8 @@ class Looked:
 
     def legends(self):
         """What each colour stands for, which is the colour of what is drawn."""
-        found = [[(it.one("i")["class"], it.text) for it in legend.all("span")] for legend in self.page.root.all("p") if legend["class"] == "legend"]
+        drawn = [it for it in self.page.root.all("p") if it["class"] == "legend"]
+        found = [[(it.one("i")["class"], it.text) for it in legend.all("span")] for legend in drawn]
         runs = [(f"run{at}", name) for at, name in enumerate(self.names)]
         same("legends", found, [runs, [*LEGEND.items()]] if len(runs) > 1 else [[*LEGEND.items()]])
         styles = self.text.partition("<style>")[2].partition("</style>")[0]

@@ -121,7 +121,8 @@ def other_days(trial):
     same("with other options", b",900,45,0,0,granted," in kept_in(folder, "book.csv")[0], True)
     folder = new_day(trial)
     same("a long day", day(trial, shims, folder, OVER * (MAX_INPUT // len(OVER_ENTRY) + 1), 0)[0], 0)
-    same("a long day", (len(kept_in(folder, "book.csv")[0]) > MAX_INPUT, kept_in(folder, "audit.txt")), (True, [b"account 7 yes\n"]))
+    same("a long day", len(kept_in(folder, "book.csv")[0]) > MAX_INPUT, True)
+    same("a long day", kept_in(folder, "audit.txt"), [b"account 7 yes\n"])
     other_head = HEAD.replace(b"1000", b"1001")
     for what, head, count, script, status in [
         ("another head", other_head, 3, PLAIN, OTHER[0]),

@@ -61,8 +61,9 @@ def completion_faults(program, options, commands):
     than the help."""
     wrong = []
     for (name, option), (value, _) in options.items():
-        if value not in ("FILE", "FOLDER", "WORD") and completed("prepaid", name, option, "") != (set() if value else commands[name]):
-            wrong.append(f"{BASH}: prepaid {name} {option}: {completed('prepaid', name, option, '')}")
+        found, wanted = completed("prepaid", name, option, ""), set() if value else commands[name]
+        if value not in ("FILE", "FOLDER", "WORD") and found != wanted:
+            wrong.append(f"{BASH}: prepaid {name} {option}: {found} in place of {wanted}")
     for words, wanted in COMPLETED:
         if (found := completed("prepaid", *words)) != wanted:
             wrong.append(f"{BASH}: prepaid {' '.join(words)}: {found} in place of {wanted}")
@@ -73,7 +74,8 @@ def completion_faults(program, options, commands):
         if name != "help" and f"\n    '{name}:{said}'\n" not in text:
             wrong.append(f"{ZSH}: doesn't say of {name}: {said}")
     arms = re.findall(r"^    ([a-z]+)\)\n(.*?);;", text, re.M | re.S)
-    found = {(name, option): (bool(more), said) for name, arm in arms for option, said, more in re.findall(r"'(--[a-z]+)\[([^]]*)\](:?)", arm)}
+    found = {(name, option): (bool(more), said) for name, arm in arms
+             for option, said, more in re.findall(r"'(--[a-z]+)\[([^]]*)\](:?)", arm)}
     for it, (value, said) in options.items():
         said = said.replace(" it", " a switch") if it in OF_SWITCH else said
         if found.get(it) != (bool(value), said):

@@ -3,8 +3,9 @@
 
 tests/words_test.py [--program FILE] compares commands, options, ranges, what is left out, and the lines and kinds of
 faults, how each command is called, what is said of figures and of options, and what the shells complete (words_shells.py),
-and runs the examples of the man page and of the help. It tries each number at the ends of its range, one past them and far above them, with the status and the line of its fault, and each option that
-may be left out beside what it is then. The version that is printed is the day of the changelog's newest section.
+and runs the examples of the man page and of the help. It tries each number at the ends of its range, one past them and far
+above them, with the status and the line of its fault, and each option that may be left out beside what it is then. The
+version that is printed is the day of the changelog's newest section.
 """
 import argparse
 import os
@@ -215,7 +216,8 @@ def sentences_of(formats):
 
     (difference,), (over,) = found(r"\| difference \| (.*?),"), found(r"Over is (.*?), over the rows")
     (times,), (monday, sunday) = found(r"Without one they are (.*)\. So the table"), found(r"(\d) is Monday and (\d) is Sunday")
-    (again,), (files,) = found(r"with --again N so that their rows (.*?) behind the header"), found(r"(once all four are) on the disk they get their names")
+    (again,) = found(r"with --again N so that their rows (.*?) behind the header")
+    (files,) = found(r"(once all four are) on the disk they get their names")
     torn, cut = found(r"(What is behind the last LF of) a log was (cut off)")
     days = f"digits from {monday} (Monday) to {sunday}"
     return [
@@ -238,7 +240,8 @@ def sentence_faults(program, formats, manual, options):
     pages |= {name: " ".join(told_of(name, program).split()) for name in (*NEEDS, "audit", "rate")}
     wrong = [f"{it}: doesn't say: {said}" for names, said in sentences_of(formats) for it in names if said not in pages[it]]
     for name in ("run", "serve"):
-        of_man = {term.split()[0]: said for section, below, term, said in entries if section == "COMMANDS" and below == name and term}
+        of_man = {term.split()[0]: said for section, below, term, said in entries
+                  if section == "COMMANDS" and below == name and term}
         for option, _, _, said in tables_of(formats)[f"Option of `{name}`"]:
             option, said = option.strip("`").split()[0], said.replace("gsmSSF", "switch").partition(";")[0]
             if re.match("how |the (time|least) ", said) and not of_man[option].lower().startswith(said):
