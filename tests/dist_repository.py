@@ -63,7 +63,7 @@ class Repository:
             write(f"{self.top}/tests/{os.path.basename(path)}", TEST, 0o755)
         write(f"{folder}/stand-ins/rt", TOOLCHAIN, 0o755)
         write(f"{self.top}/crates.txt", "table_commands:\nprepaid: table_commands\n")
-        for path in ("table_commands/src/lib.rt", "prepaid/src/main.rt"):
+        for path in ("table_commands/src/lib.rt", "prepaid/src/main.rt", "prepaid/specs/Files.antt"):
             write(f"{self.top}/crates/{path}", "")
         self.run("git", "init", "--quiet")
         self.run("git", "add", "--all")

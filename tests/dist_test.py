@@ -58,8 +58,13 @@ def try_refusals(repository, program):
     os.remove(f"{repository.top}/out/proved/prepaid")
     repository.refuses("nothing says which toolchain proved bin/prepaid")
     repository.build(program)
-    os.utime(f"{repository.top}/bin/prepaid", (0, 0))
-    repository.refuses("bin/prepaid isn't there, or is older than its sources")
+    names = ("crates.txt", "crates/prepaid/src/main.rt", "crates/prepaid/specs/Files.antt")
+    for name in ("bin/prepaid", "crates/table_commands/src/lib.rt", *names):
+        os.utime(f"{repository.top}/{name}", (COMMITTED, COMMITTED))
+    for name in names:
+        os.utime(f"{repository.top}/{name}", (COMMITTED + 1, COMMITTED + 1))
+        repository.refuses("bin/prepaid isn't there, or is older than its sources")
+        os.utime(f"{repository.top}/{name}", (COMMITTED, COMMITTED))
     repository.build(program)
 
 
