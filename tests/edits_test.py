@@ -70,7 +70,7 @@ PAGE = """| Edit | Changes | Refused by |
 | `is_gone` | `after` | clause `value` |
 """
 # What the gate is said to try.
-SAID = "- eleven wrong bodies, which cost most: `adds_three` and `adds_five`.\n"
+SAID = "- the edits of clauses (`adds_four`): `after`.\n- eleven wrong bodies, which cost most: `adds_three` and `adds_five`.\n"
 # What is said of these edits before any is tried.
 STALE = [
     "sample/changes_nothing: an old text is its new one",
@@ -129,11 +129,13 @@ def stale(root):
 
 
 def untried(root):
-    """Returns the wrong bodies that the gate is said to try, a line each where edits/gate/ hasn't one."""
+    """Returns the edits that the gate is said to try, a line each where edits/gate/ hasn't one."""
     with open(f"{root}/CONTRIBUTING.md", encoding="utf-8") as it:
-        listed = re.search("^- eleven wrong bodies, .*", it.read(), re.M)[0]
+        text = it.read()
+    listed = (re.search(f"^- {it}(.*)", text, re.M)[1] for it in (r"the edits of clauses [^(]*(?=\()", "eleven wrong bodies, [^:]*"))
+    names = [name for it in listed for name in re.findall(r"`(\w+)`", it.partition(")")[0])]
     there = {os.path.basename(it) for it in glob.glob(f"{root}/crates/*/edits/gate/*.edit")}
-    return [f"CONTRIBUTING.md: edits/gate/ has no {it}" for it in re.findall(r"`(\w+)`", listed) if f"{it}.edit" not in there]
+    return [f"CONTRIBUTING.md: edits/gate/ has no {it}" for it in names if f"{it}.edit" not in there]
 
 
 def twins(root, crate):
