@@ -203,7 +203,7 @@ def main():
     name = sys.argv[1] if sys.argv[1:] else "prepaid"
     crate = rtlib.Crate(f"{ROOT}/crates/{name}", ROOT, {})
     # What a toolchain leaves that was ended is removed too.
-    with tempfile.TemporaryDirectory(prefix="prove-", dir=roomy()) as folder:
+    with tempfile.TemporaryDirectory(prefix="prove-", dir=roomy(), ignore_cleanup_errors=True) as folder:
         os.environ["TMPDIR"] = folder
         jobs = prove_all(crate.below())
         if not jobs:
