@@ -126,7 +126,7 @@ def jobs_of_each(count):
 def jobs_at_once(most):
     """How many jobs run at once: one for each processor, but three for four of these where each library gets one.
 
-    Four libraries at once take some 5 % more time of four processors than three at once, as they share caches and
+    Four libraries at once take up to 6 % more time of four processors than three at once, as they share caches and
     memory, and they end hardly sooner, since most of the time fewer are ready.
     """
     return processors() - processors() // 4 if most == 1 else processors()
