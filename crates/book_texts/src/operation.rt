@@ -184,11 +184,10 @@ fn read_switch(row: &ByteRecord, at: usize) -> Result<TimeInfo, RowKind>
 {
     let since = read_units(row, at + X3)?;
     let interval = match optional(row, at + X4, u64::from(DAY))? {
-        Some(0) => return Err(RowKind::Number),
         Some(interval) => Some(interval as u32),
         None => None,
     };
-    Ok(TimeInfo::Switch { since, interval })
+    TimeInfo::switch(since, interval).map_err(|_| RowKind::Number)
 }
 
 /// The return whose columns begin at `at`; else `Number`.
