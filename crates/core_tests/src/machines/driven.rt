@@ -44,8 +44,8 @@ impl Port for Till {
     }
 }
 
-/// What is left of an account: its entries, the number of its last Settle, what call 1 paid, and the
-/// credit.
+/// What is left of an account: its entries, the number of its last Settle, what call 1 paid, and
+/// the credit.
 type Left = (usize, Option<u64>, Option<u64>, u64);
 
 /// How a call ends Idle: its reports, the last of them, the forfeits, and what the gsmSSF refused.

@@ -42,7 +42,8 @@ fn push_missing(said: &mut Said, names: &Names<'_>, column: Column) {
             let option = USUAL.of(column);
             write!(
                 said,
-                "column {name}: the header doesn't have it; if it has another name, give --{option} NAME"
+                "column {name}: the header doesn't have it; if it has another name, \
+                 give --{option} NAME"
             );
         }
     }
