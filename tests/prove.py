@@ -193,7 +193,7 @@ def roomy():
     """Where the toolchain writes what it removes at its end: in memory, where there is room, and no other place is asked for.
 
     It writes thousands of files for each library, and ext4 looks at each number of a file that was removed lately before
-    it gives one to a new file. That takes 2 to 4 % of the processors' time.
+    it gives one to a new file. Without that a library takes some 2 to 4 % less of the processors.
     """
     has_room = os.access(IN_MEMORY, os.W_OK) and shutil.disk_usage(IN_MEMORY).free >= ROOM
     return IN_MEMORY if has_room and not os.environ.get("TMPDIR") else tempfile.gettempdir()
